@@ -1,0 +1,10 @@
+pub mod ByteLaws
+pub mod Join
+pub mod Line
+pub mod LineLaws
+pub mod Mapped
+pub mod MappedLaws
+pub mod Reading
+pub mod ReadingLaws
+pub mod SequenceLaws
+pub mod Spelling

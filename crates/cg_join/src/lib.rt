@@ -1,0 +1,12 @@
+//! Tokens that are made of tokens.
+#![tactic(auto)]
+
+pub mod line;
+pub mod mapped;
+pub mod reading;
+pub mod sequence;
+
+pub use line::{Line, one_line};
+pub use mapped::{Mapped, Turn};
+pub use reading::{Found, read};
+pub use sequence::Sequence;

@@ -1,0 +1,21 @@
+//! One line.
+ghost use Rattle.std.specs.Prelude.{◌≡◌, ℕ, List};
+ghost use Rattle.cg_text.specs.Token.{Spells};
+ghost use Rattle.cg_join.specs.Line.{LacksByte, IsLine};
+ghost use Rattle.cg_join.specs.Spelling.{IsTurned};
+
+use crate::mapped::{Mapped, Turn};
+use crate::sequence::Sequence;
+use cg_text::{ByteText, Token};
+
+/// A text and a newline, with a value that is turned by `F`.
+pub type Line<T, F> = Mapped<Sequence<T, ByteText>, F>;
+
+/// The token's text and a newline.
+pub fn one_line<T: Token, F: Turn<Sequence<T, ByteText>>>(token: T) -> Line<T, F>
+    requires { LacksByte (T.means token) 10 }
+    ensures spells { Spells ⟦<Mapped<Sequence<T, ByteText>, F> as Token>⟧.means result (IsTurned (IsLine (T.means token)) F.turned) }
+    ensures size { ⟦<Mapped<Sequence<T, ByteText>, F> as Token>⟧.size result ≡ T.size token }
+{
+    Mapped::new(Sequence::new(token, ByteText::new(b'\n')))
+}

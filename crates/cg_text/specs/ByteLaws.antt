@@ -1,0 +1,16 @@
+-- What is left of a text of one byte.
+use Rattle.std.proofs.Common.{◌≡◌, ℕ, ◌<◌, ◌↔◌, Bool, true, false, List, [], ◌∷◌, refl, IsTrue}
+use Rattle.cg_text.specs.Token.{AreBytes}
+
+abbrev pub left : Bool → ℕ → List ℕ
+left true b = []
+left false b = b ∷ []
+
+pub byte_ends : (taken : Bool) (b : ℕ) → IsTrue taken ↔ (Unit {0} × ([] ≡ left taken b))
+byte_ends true b = (λ _. (tt, refl), λ _. refl)
+byte_ends false b = (λ e. absurd (cc), λ h. absurd (let e = h.1 in cc))
+
+-- What is left holds bytes.
+pub byte_bytes : (taken : Bool) (b : ℕ) (rest : List ℕ) → b < 256 → rest ≡ left taken b → AreBytes rest
+byte_bytes true b rest small e = rw e tt
+byte_bytes false b rest small e = rw e (small, tt)

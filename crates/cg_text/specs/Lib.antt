@@ -1,0 +1,10 @@
+pub mod ByteLaws
+pub mod Bytes
+pub mod BytesLaws
+pub mod Decimal
+pub mod DecimalLaws
+pub mod DecimalState
+pub mod FixedLaws
+pub mod Texts
+pub mod Token
+pub mod TokenLaws

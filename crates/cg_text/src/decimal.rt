@@ -1,0 +1,155 @@
+//! Decimal numbers of a range.
+ghost use Rattle.std.specs.Prelude.{◌≡◌, ℕ, ◌+◌, ◌*◌, ◌≤◌, ◌<◌, ◌↔◌, false, List, ◌∷◌, IsTrue, MatchOption, ⊤, refl, ◌^◌};
+ghost use Rattle.cg_text.specs.Decimal.{IsDecimal};
+ghost use Rattle.cg_text.specs.DecimalState.{Reaches, IsDecimalRest, is_open, decimal_ends};
+ghost use Rattle.cg_text.specs.Token.{Follows, NoneBegins, Spells};
+
+use crate::memory::OutOfMemory;
+use crate::token::Token;
+
+/// What was taken of a number.
+#[derive(Clone, Copy, Drop)]
+enum Progress {
+    Start,
+    Zero,
+    /// A number above 0.
+    Number(u64),
+}
+
+/// A decimal number from `lo` to `hi`, without leading zeros.
+#[derive(Clone, Copy, Drop)]
+pub struct DecimalText {
+    lo: u64,
+    hi: u64,
+    progress: Progress,
+    ghost range: { lo ≤ hi },
+    ghost live: { IsTrue (is_open lo hi progress) },
+}
+
+/// Whether further digits after those of `n` give a number from `lo` to `hi`.
+fn reaches(lo: u64, hi: u64, n: u128) -> bool
+    requires above { 0 < n }
+    requires small { n < 2 ^ 100 }
+    ensures reaches { IsTrue result ↔ Reaches lo hi n }
+    ensures fits { IsTrue result → n ≤ hi }
+{
+    let mut low = n;
+    let mut high = n + 1;
+    while high <= lo as u128 {
+        low *= 10;
+        high *= 10;
+    }
+    low <= hi as u128
+}
+
+/// The state after one more byte, where some rest begins with it.
+fn after(lo: u64, hi: u64, progress: Progress, byte: u8) -> Option<Progress>
+    requires range { lo ≤ hi }
+    requires live { IsTrue (is_open lo hi progress) }
+    ensures follows { MatchOption result (NoneBegins (IsDecimalRest lo hi) progress byte) (Follows (IsDecimalRest lo hi) progress byte) }
+    ensures live { MatchOption result ⊤ (λ new. IsTrue (is_open lo hi new)) }
+{
+    if !byte.is_ascii_digit() {
+        return None;
+    }
+    let digit = byte - b'0';
+    let number = match progress {
+        Progress::Start => {
+            if digit == 0 {
+                return if lo == 0 { Some(Progress::Zero) } else { None };
+            }
+            digit as u128
+        }
+        Progress::Zero => return None,
+        Progress::Number(n) => n as u128 * 10 + digit as u128,
+    };
+    if reaches(lo, hi, number) {
+        Some(Progress::Number(number as u64))
+    } else {
+        None
+    }
+}
+
+impl DecimalText {
+    /// A token of the numbers from `lo` to `hi`, unless there are none.
+    pub fn new(lo: u64, hi: u64) -> Option<DecimalText>
+        ensures { MatchOption result (hi < lo) (λ token. (lo ≤ hi) × Spells ⟦<DecimalText as Token>⟧.means token (λ rest n. IsDecimal lo hi n rest)) }
+    {
+        if lo <= hi {
+            Some(DecimalText {
+                lo,
+                hi,
+                progress: Progress::Start,
+            })
+        } else {
+            None
+        }
+    }
+}
+
+impl Token for DecimalText {
+    ghost use Rattle.cg_text.specs.DecimalLaws.{digits_bytes, number_digits};
+    ghost use Rattle.cg_text.specs.DecimalLaws.{IsDecimalRest_completes, IsDecimalRest_one, decimal_ends_is};
+
+    type Out = u64;
+
+    ghost means = { λ s rest n. IsDecimalRest s.lo s.hi s.progress rest n };
+
+    ghost size = { λ _. 0 };
+
+    ghost weight = { λ _. 0 };
+
+    ghost ends = { λ s. decimal_ends s.lo s.hi s.progress };
+
+    ghost grows = { false };
+
+    fn step(&mut self, byte: u8) -> Result<bool, OutOfMemory> {
+        match after(self.lo, self.hi, self.progress, byte) {
+            Some(progress) => {
+                self.progress = progress;
+                Ok(true)
+            }
+            None => Ok(false),
+        }
+    }
+
+    fn allows(&self, byte: u8) -> bool {
+        match after(self.lo, self.hi, self.progress, byte) {
+            Some(_) => true,
+            None => false,
+        }
+    }
+
+    fn can_end(&self) -> bool {
+        match self.progress {
+            Progress::Start => false,
+            Progress::Zero => true,
+            Progress::Number(n) => self.lo <= n && n <= self.hi,
+        }
+    }
+
+    fn held(&self) -> u64 {
+        0
+    }
+
+    fn take(self) -> u64 {
+        match self.progress {
+            Progress::Number(n) => n,
+            _ => 0,
+        }
+    }
+
+    fn weight_of(_value: &u64) -> u64 {
+        0
+    }
+
+    ghost completes = { λ s. IsDecimalRest_completes s.lo s.hi s.progress s.range s.live };
+
+    ghost no_size = { λ _ _. refl };
+
+    ghost ends_is = { λ s. decimal_ends_is s.lo s.hi s.progress };
+
+    ghost one_value = { λ s. IsDecimalRest_one s.lo s.hi s.progress };
+
+    ghost holds_bytes = { λ s rest n h. digits_bytes rest (number_digits s.lo s.hi s.progress rest n h) };
+}

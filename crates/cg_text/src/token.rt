@@ -1,0 +1,71 @@
+//! What every token keeps.
+ghost use Rattle.std.specs.Prelude.{◌≡◌, ℕ, ◌+◌, ◌≤◌, ◌↔◌, Bool, List, [], ◌∷◌, IsTrue, IsFalse, OnErr};
+ghost use Rattle.cg_text.specs.Token.{Follows, Begins, NoneBegins, Ends, Same, Completes, HasOneValue, HoldsBytes, IfTaken, IfRefused, UnlessTaken, told};
+
+use crate::memory::OutOfMemory;
+
+/// A machine that takes the text of one value, a byte at a time.
+pub trait Token: Drop {
+    type Out: Drop;
+
+    /// The rests that complete a state, each with its value.
+    ghost means: { Self → List ℕ → Self.Out → Type 0 };
+
+    /// The sum of the lengths of the vectors in a state.
+    ghost size: { Self → ℕ };
+
+    /// The sum of the lengths of the vectors in a value.
+    ghost weight: { Self.Out → ℕ };
+
+    /// Whether nothing need follow a state.
+    ghost ends: { Self → Bool };
+
+    /// False of a type whose states have no vector.
+    ghost grows: { Bool };
+
+    /// Takes the byte, or refuses it. A token that refuses, or is refused memory, is unchanged.
+    fn step(&mut self, byte: u8) -> Result<bool, OutOfMemory>
+        ensures taken { IfTaken result (Follows means self.old byte self.new) }
+        ensures refused { IfRefused result (NoneBegins means self.old byte) }
+        ensures same { UnlessTaken result (Same means self.old self.new) }
+        ensures same_size { UnlessTaken result (size self.new ≡ size self.old) }
+        ensures size { size self.new ≤ size self.old + 1 }
+        ensures memory { OnErr result (IsTrue grows) };
+
+    /// Whether some rest begins with the byte.
+    fn allows(&self, byte: u8) -> bool
+        ensures { IsTrue result ↔ Begins means self.now byte };
+
+    /// Whether nothing need follow.
+    fn can_end(&self) -> bool
+        ensures { result ≡ ends self.now };
+
+    /// The sum of the lengths of its vectors.
+    fn held(&self) -> u64
+        ensures { result ≡ told (size self.now) };
+
+    /// The value of what was taken.
+    fn take(self) -> Self::Out
+        requires { IsTrue (ends self) }
+        ensures value { means self [] result }
+        ensures weight { weight result ≤ size self };
+
+    /// The sum of the lengths of the vectors in a value.
+    fn weight_of(value: &Self::Out) -> u64
+        ensures { result ≡ told (weight value.now) };
+
+    /// Every state can be completed.
+    ghost completes: { (s : Self) → Completes means s };
+
+    /// A type whose states have no vector has none to count.
+    ghost no_size: { IsFalse grows → (s : Self) → size s ≡ 0 };
+
+    /// Nothing need follow exactly where the empty rest has a value.
+    ghost ends_is: { (s : Self) → IsTrue (ends s) ↔ Ends means s };
+
+    /// A rest has one value.
+    ghost one_value: { (s : Self) → HasOneValue means s };
+
+    /// A rest holds bytes.
+    ghost holds_bytes: { (s : Self) → HoldsBytes means s };
+}
