@@ -1,0 +1,92 @@
+//! Keys: the words of a line.
+ghost use Rattle.std.specs.Prelude.{◌≡◌, IsTrue, ◌↔◌};
+ghost use Rattle.cg_text.specs.Word.{IsWord, IsWordByte};
+ghost use Rattle.cg_text.specs.Key.{IsKeyMade};
+
+use std::alloc::Global;
+use std::marker::Model;
+use thiserror::Error;
+
+/// One or more bytes 33 to 126 without `=`.
+#[derive(Drop, Debug)]
+pub struct Key {
+    bytes: Vec<u8>,
+}
+
+impl Model for Key {
+    ghost use Rattle.std.specs.Prelude.{List, ℕ};
+    ghost use Rattle.cg_text.specs.Word.{IsWord};
+
+    ghost Value = { List ℕ };
+
+    ghost view = { λ k. k.bytes.items };
+
+    ghost invariant = { λ k. IsWord k.bytes.items };
+}
+
+/// Why bytes make no key.
+#[derive(Clone, Copy, Debug, PartialEq, Eq, Error)]
+pub enum KeyFault {
+    /// They are no word.
+    #[error("not a word")]
+    BadKey,
+    #[error("out of memory")]
+    OutOfMemory,
+}
+
+/// Whether words have this byte.
+pub(crate) fn is_word_byte(byte: u8) -> bool
+    ensures { IsTrue result ↔ IsWordByte byte }
+{
+    33 <= byte && byte <= 126 && byte != b'='
+}
+
+/// Whether the bytes are a word.
+fn is_word(bytes: &[u8]) -> bool
+    ensures { IsTrue result ↔ IsWord bytes.now }
+{
+    for byte in bytes {
+        if !is_word_byte(*byte) {
+            return false;
+        }
+    }
+    !bytes.is_empty()
+}
+
+impl Key {
+    /// The key of these bytes, where they are a word.
+    pub fn new(alloc: Global, bytes: &[u8]) -> Result<Key, KeyFault>
+        ensures { IsKeyMade bytes.now result }
+    {
+        if !is_word(bytes) {
+            return Err(KeyFault::BadKey);
+        }
+        match Vec::from_slice(alloc, bytes) {
+            Ok(bytes) => Ok(Key { bytes }),
+            Err(_) => Err(KeyFault::OutOfMemory),
+        }
+    }
+
+    /// The bytes of the key, which are a word.
+    pub fn bytes(&self) -> &[u8]
+        ensures bytes { result.now ≡ self.now }
+        ensures word { IsWord self.now }
+    {
+        self.bytes.as_slice()
+    }
+}
+
+impl PartialEq for Key {
+    ghost use Rattle.std.specs.Prelude.{nat_eq};
+    ghost use Rattle.std.specs.Cmp.Lexicographic.{pointwise};
+    ghost use Rattle.std.proofs.Common.{◌∙◌};
+    ghost use Rattle.std.proofs.lemmas.Cmp.{nat_list_eq_equiv};
+
+    ghost eq = { pointwise nat_eq };
+
+    ghost laws = { record { symm = nat_list_eq_equiv.symm; trans = λ x y z e f. nat_list_eq_equiv.congr x y z e ∙ f } };
+
+    fn eq(&self, other: &Key) -> bool {
+        self.bytes == other.bytes
+    }
+}
