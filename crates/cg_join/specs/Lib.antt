@@ -1,4 +1,6 @@
 pub mod ByteLaws
+pub mod Choice
+pub mod ChoiceLaws
 pub mod Join
 pub mod Line
 pub mod LineLaws

@@ -1,11 +1,13 @@
 //! Tokens that are made of tokens.
 #![tactic(auto)]
 
+pub mod choice;
 pub mod line;
 pub mod mapped;
 pub mod reading;
 pub mod sequence;
 
+pub use choice::{Choice, Either};
 pub use line::{Line, one_line};
 pub use mapped::{Mapped, Turn};
 pub use reading::{Found, read};
