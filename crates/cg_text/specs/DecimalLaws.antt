@@ -128,7 +128,8 @@ first_digit (suc fuel) n few above =
     (again.0, suc again.1, again.2, again.3, rw pow-succ' (omega (arith, again.4)), rw pow-succ' (omega (arith, again.5)))) in
     elim (dec_lt n 10) [ yes h ↦ small h | no h ↦ large (omega arith) ]
 
-numeral : (n : ℕ) → (text : List ℕ) × IsNumeral n text
+-- Every number has a text.
+pub numeral : (n : ℕ) → (text : List ℕ) × IsNumeral n text
 numeral zero = (48 ∷ [], inl (refl, refl, refl))
 numeral (suc n) =
     let d = first_digit (suc n) (suc n) (omega arith) (omega arith) in

@@ -15,6 +15,7 @@ pub mod LimitPairs
 pub mod List
 pub mod Numbers
 pub mod NumbersLaws
+pub mod NumeralLaws
 pub mod Raw
 pub mod Signed
 pub mod Size

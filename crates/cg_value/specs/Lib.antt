@@ -1,0 +1,10 @@
+pub mod Files
+pub mod FilesLaws
+pub mod Kind
+pub mod Path
+pub mod PathLaws
+pub mod Print
+pub mod Table
+pub mod TableLaws
+pub mod TableRows
+pub mod Weight
