@@ -1,0 +1,6 @@
+//! Streams of snapshots.
+#![tactic(auto)]
+
+pub mod limits;
+
+pub use limits::Limits;

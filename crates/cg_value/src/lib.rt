@@ -1,0 +1,6 @@
+//! Kinds of files.
+#![tactic(auto)]
+
+pub mod profile;
+
+pub use profile::Profile;
