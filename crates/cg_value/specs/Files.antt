@@ -28,6 +28,11 @@ abbrev pub ReadLines : ReadForm → Value → List (List ℕ) → Type 0
 ReadLines (NumberForm lo hi) v lines = IsOneLine (λ n line. IsDecimal lo hi n line) Number v lines
 ReadLines LimitForm v lines = IsOneLine (λ l line. IsLimit 0 18446744073709551615 l line) Limit v lines
 
+-- A file of this kind can hold the value.
+pub record Fits (kind : ReadForm) (v : Value) : Type 0 where
+  pub lines : List (List ℕ)
+  pub spelled : ReadLines kind v lines
+
 -- The text is a file of this kind with the value.
 pub record KindText (kind : ReadForm) (v : Value) (text : List ℕ) : Type 0 where
   pub lines : List (List ℕ)

@@ -5,7 +5,7 @@ use Rattle.cg_text.specs.DecimalLaws.{numeral}
 use Rattle.cg_text.specs.Limit.{IsLimit}
 use Rattle.cg_text.specs.declared.values.Limit.{Limit}
 use Rattle.cg_text.specs.declared.values.Limit.TheVariants.{Max, At}
-use Rattle.cg_value.specs.Files.{IsOneLine, ReadLines}
+use Rattle.cg_value.specs.Files.{IsOneLine, ReadLines, Fits}
 use Rattle.cg_value.specs.declared.kind.ReadForm.{ReadForm}
 use Rattle.cg_value.specs.declared.kind.ReadForm.TheVariants.{Number as NumberForm, Limit as LimitForm}
 use Rattle.cg_value.specs.declared.value.Value.{Value}
@@ -15,10 +15,10 @@ number_of : (lo hi n m : ℕ) → Number n ≡ Number m → (lo ≤ m) × (m ≤
 number_of lo hi n m e h = let same : n ≡ m = cc in (omega (arith, h.0, same), omega (arith, h.1, same))
 
 -- A number of the range fits, and no other.
-pub number_fits : (lo hi n : ℕ) → ((lo ≤ n) × (n ≤ hi)) ↔ ((lines : List (List ℕ)) × ReadLines (NumberForm lo hi) (Number n) lines)
+pub number_fits : (lo hi n : ℕ) → ((lo ≤ n) × (n ≤ hi)) ↔ Fits (NumberForm lo hi) (Number n)
 number_fits lo hi n = (
-  λ h. (let text = numeral n in (text.0 ∷ [], record { x = n; line = text.0; value = refl; lines_are = refl; spelled = (h.0, h.1, text.1) })),
-  λ h. number_of lo hi n h.1.x h.1.value (h.1.spelled.0, h.1.spelled.1),
+  λ h. (let text = numeral n in record { lines = text.0 ∷ []; spelled = record { x = n; line = text.0; value = refl; lines_are = refl; spelled = (h.0, h.1, text.1) } }),
+  λ h. number_of lo hi n h.spelled.x h.spelled.value (h.spelled.spelled.0, h.spelled.spelled.1),
 )
 
 -- A number of the range is a limit, and no other.
@@ -32,8 +32,8 @@ limit_along : (l m : Limit) (line : List ℕ) → LimitOf l ≡ LimitOf m → Is
 limit_along l m line e h = let same : l ≡ m = cc in rw same h
 
 -- A limit that has a line fits, and no other.
-pub limit_fits : (l : Limit) → ((line : List ℕ) × IsLimit 0 18446744073709551615 l line) ↔ ((lines : List (List ℕ)) × ReadLines LimitForm (LimitOf l) lines)
+pub limit_fits : (l : Limit) → ((line : List ℕ) × IsLimit 0 18446744073709551615 l line) ↔ Fits LimitForm (LimitOf l)
 limit_fits l = (
-  λ h. (h.0 ∷ [], record { x = l; line = h.0; value = refl; lines_are = refl; spelled = h.1 }),
-  λ h. (h.1.line, limit_along l h.1.x h.1.line h.1.value h.1.spelled),
+  λ h. record { lines = h.0 ∷ []; spelled = record { x = l; line = h.0; value = refl; lines_are = refl; spelled = h.1 } },
+  λ h. (h.spelled.line, limit_along l h.spelled.x h.spelled.line h.spelled.value h.spelled.spelled),
 )

@@ -4,6 +4,7 @@ pub mod Kind
 pub mod Path
 pub mod PathLaws
 pub mod Print
+pub mod PrintLaws
 pub mod Table
 pub mod TableLaws
 pub mod TableRows

@@ -10,7 +10,7 @@ use Rattle.cg_value.specs.declared.kind.ReadForm.{ReadForm}
 use Rattle.cg_value.specs.declared.kind.ReadForm.TheVariants.{Number, Limit}
 
 abbrev is_bounded : ReadForm → Bool
-is_bounded (Number lo hi) = leb lo hi
+is_bounded (Number lo hi) = leb lo hi && leb hi 18446744073709551615
 is_bounded Limit = true
 
 abbrev row_is_bounded : Option ReadForm → Bool
@@ -18,7 +18,7 @@ row_is_bounded None = true
 row_is_bounded (Some form) = is_bounded form
 
 bounded_form : (form : ReadForm) → is_bounded form ≡ true → IsReadForm form
-bounded_form (Number lo hi) e = leb-true lo hi e
+bounded_form (Number lo hi) e = let both = and_parts _ _ e in (leb-true lo hi both.0, leb-true hi 18446744073709551615 both.1)
 bounded_form Limit e = tt
 
 bounded_row : (o : Option ReadForm) (form : ReadForm) → row_is_bounded o ≡ true → o ≡ Some form → IsReadForm form
@@ -38,7 +38,7 @@ bounded_in (r ∷ rs) name form b e =
 all_bounded : list_all (λ r. row_is_bounded r.reads) rows ≡ true
 all_bounded = refl
 
--- The bounds of a kind of the table leave some value.
+-- The bounds of a kind of the table leave some value, and are numbers of 64 bits.
 pub form_is_bounded : (profile : Profile) (name : List ℕ) (form : ReadForm) → read_form_of profile name ≡ Some form → IsReadForm form
 unfolding read_form_of
 form_is_bounded profile name form e = bounded_in rows name form all_bounded e

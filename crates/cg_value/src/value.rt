@@ -1,7 +1,7 @@
 //! The values of files.
 ghost use Rattle.std.specs.Prelude.{◌≡◌, ◌≤◌, ◌↔◌, IsTrue, List, ℕ, length};
 ghost use Rattle.cg_text.specs.Limit.{IsLimit};
-ghost use Rattle.cg_value.specs.Files.{ReadLines};
+ghost use Rattle.cg_value.specs.Files.{Fits};
 ghost use Rattle.cg_value.specs.Print.{print_lines};
 
 use crate::kind::{ReadForm, ReadKind};
@@ -36,7 +36,7 @@ fn limit_is_within(limit: Limit, lo: u64, hi: u64) -> bool
 impl Value {
     /// Whether a file of this kind can hold the value. It takes no memory.
     pub fn fits(&self, kind: ReadKind) -> bool
-        ensures { IsTrue result ↔ ((lines : List (List ℕ)) × ReadLines kind self.now lines) }
+        ensures { IsTrue result ↔ Fits kind self.now }
     {
         match (self, kind.form()) {
             (Value::Number(number), ReadForm::Number { lo, hi }) => is_within(*number, lo, hi),

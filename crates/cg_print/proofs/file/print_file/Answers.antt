@@ -1,0 +1,10 @@
+use Rattle.std.proofs.Common.{◌≡◌, ◌++◌, ◌∙◌, ap}
+use Rattle.cg_value.specs.Print.{print_of}
+use Rattle.cg_value.specs.PrintLaws.{print_fits}
+use Rattle.cg_print.proofs.file.print_file.Goals as goal
+
+pub returns-clause-in_grammar : goal.returns-clause-in_grammar
+returns-clause-in_grammar c kind bounds fits =
+    let v = c.args.value.now in
+    let text : c.append_value.new.text.items ≡ print_of v = c.in_ok-append_value.ensures ∙ ap (λ l. l ++ print_of v) c.new-text.ensures.items in
+    rw text (print_fits kind v bounds fits)
