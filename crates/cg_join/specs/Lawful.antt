@@ -8,7 +8,10 @@ use Rattle.cg_text.specs.DecimalLaws.{IsDecimalRest_completes, IsDecimalRest_one
 use Rattle.cg_text.specs.ByteLaws.{left, byte_ends, byte_bytes}
 use Rattle.cg_text.specs.declared.byte.ByteText.{ByteText}
 use Rattle.cg_text.specs.declared.decimal.DecimalText.{DecimalText}
+use Rattle.cg_text.specs.Keyword.{text_of}
+use Rattle.cg_text.specs.KeywordLaws.{keyword_bytes}
 use Rattle.cg_text.specs.declared.fixed.FixedText.{FixedText}
+use Rattle.cg_text.specs.declared.keyword.KeywordText.{KeywordText}
 use Rattle.cg_join.specs.ByteLaws.{sequence_bytes, choice_bytes}
 use Rattle.cg_join.specs.Choice.{IsChoice, ShareNone}
 use Rattle.cg_join.specs.ChoiceLaws.{choice_completes, choice_one, choice_has}
@@ -28,6 +31,9 @@ pub record IsLawful {S V : Type 0} (means : S → List ℕ → V → Type 0) (s 
 abbrev pub FixedRest : FixedText → List ℕ → Unit {0} → Type 0
 FixedRest s rest _ = rest ≡ drop s.at s.text.now
 
+abbrev pub KeywordRest : KeywordText → List ℕ → Unit {0} → Type 0
+KeywordRest s rest _ = rest ≡ drop s.at (text_of s.keyword)
+
 abbrev pub ByteRest : ByteText → List ℕ → Unit {0} → Type 0
 ByteRest s rest _ = rest ≡ left s.taken s.byte
 
@@ -43,6 +49,14 @@ fixed_lawful s = record {
   ends_is = drop_at_end s.at s.text.now s.within;
   one_value = λ rest v w h k. refl;
   holds_bytes = λ rest v h. fixed_bytes s.at s.text.now rest s.bytes h;
+}
+
+pub keyword_lawful : (s : KeywordText) → IsLawful KeywordRest s (nat_eq s.at (length (text_of s.keyword)))
+keyword_lawful s = record {
+  completes = (drop s.at (text_of s.keyword), tt, refl);
+  ends_is = drop_at_end s.at (text_of s.keyword) s.within;
+  one_value = λ rest v w h k. refl;
+  holds_bytes = λ rest v h. fixed_bytes s.at (text_of s.keyword) rest (keyword_bytes s.keyword) h;
 }
 
 pub byte_lawful : (s : ByteText) → IsLawful ByteRest s s.taken

@@ -9,10 +9,11 @@ use Rattle.cg_join.specs.declared.choice.Either.TheVariants.{Left, Right}
 use Rattle.cg_join.specs.Spelling.{IsEither, IsTurned}
 use Rattle.cg_join.specs.LimitState.{limit_of}
 use Rattle.cg_text.specs.declared.decimal.DecimalText.{DecimalText}
-use Rattle.cg_text.specs.declared.fixed.FixedText.{FixedText}
+use Rattle.cg_text.specs.Keyword.{text_of}
+use Rattle.cg_text.specs.declared.keyword.KeywordText.{KeywordText}
 use Rattle.cg_join.specs.Choice.{IsChoice, ShareNone}
 use Rattle.cg_join.specs.Mapped.{IsMapped}
-use Rattle.cg_join.specs.Lawful.{IsLawful, FixedRest, NumberRest, number_ends, fixed_lawful, number_lawful, choice_lawful, mapped_lawful}
+use Rattle.cg_join.specs.Lawful.{IsLawful, KeywordRest, NumberRest, number_ends, keyword_lawful, number_lawful, choice_lawful, mapped_lawful}
 
 -- No decimal begins with a letter.
 letter_not_decimal : (lo hi n c : ℕ) (cs : List ℕ) → 58 ≤ c → IsDecimal lo hi n (c ∷ cs) → ⊥
@@ -35,6 +36,6 @@ pub limit_is : (lo hi : ℕ) (text : List ℕ) (v : Limit) → IsTurned (IsEithe
 limit_is lo hi text v = (λ h. (let k = limit_from lo hi text h.0 h.1 in rw h.2 at k), λ h. limit_to lo hi text v h)
 
 -- The laws of a state.
-pub limit_lawful : (word : FixedText) (number : DecimalText) (l r : Bool) → IsTrue (l || r) → (IsTrue l → IsTrue r → ShareNone FixedRest NumberRest word number) →
-    IsLawful (IsMapped (λ (u : Unit {0}) rest v. IsChoice FixedRest NumberRest l r word number rest v) limit_of) tt ((l && nat_eq word.at (length word.text.now)) || (r && number_ends number))
-limit_lawful word number l r some apart = mapped_lawful limit_of (choice_lawful l r some apart (fixed_lawful word) (number_lawful number))
+pub limit_lawful : (word : KeywordText) (number : DecimalText) (l r : Bool) → IsTrue (l || r) → (IsTrue l → IsTrue r → ShareNone KeywordRest NumberRest word number) →
+    IsLawful (IsMapped (λ (u : Unit {0}) rest v. IsChoice KeywordRest NumberRest l r word number rest v) limit_of) tt ((l && nat_eq word.at (length (text_of word.keyword))) || (r && number_ends number))
+limit_lawful word number l r some apart = mapped_lawful limit_of (choice_lawful l r some apart (keyword_lawful word) (number_lawful number))

@@ -5,13 +5,13 @@ ghost use Rattle.cg_text.specs.Limit.{IsLimit};
 
 use crate::choice::{Choice, Either};
 use crate::mapped::{Mapped, Turn};
-use cg_text::{DecimalText, FixedText, Limit, OutOfMemory, Token};
+use cg_text::{DecimalText, Keyword, KeywordText, Limit, OutOfMemory, Token};
 
 /// The limit of a choice.
 #[derive(Clone, Copy)]
 pub struct ToLimit;
 
-impl Turn<Choice<FixedText, DecimalText>> for ToLimit {
+impl Turn<Choice<KeywordText, DecimalText>> for ToLimit {
     type To = Limit;
 
     ghost use Rattle.cg_join.specs.LimitState.{limit_of};
@@ -36,7 +36,7 @@ impl Turn<Choice<FixedText, DecimalText>> for ToLimit {
     ghost no_more = { λ v. Prim.omega arith };
 }
 
-type Parts = Mapped<Choice<FixedText, DecimalText>, ToLimit>;
+type Parts = Mapped<Choice<KeywordText, DecimalText>, ToLimit>;
 
 /// The word `max`, or a decimal number of a range.
 #[derive(Drop)]
@@ -52,7 +52,7 @@ impl LimitText {
     {
         match DecimalText::new(lo, hi) {
             Some(number) => Some(LimitText {
-                parts: Mapped::new(Choice::new(FixedText::new(b"max"), number)),
+                parts: Mapped::new(Choice::new(KeywordText::new(Keyword::Max), number)),
             }),
             None => None,
         }

@@ -10,6 +10,8 @@ pub mod Device
 pub mod FixedLaws
 pub mod Hundredths
 pub mod Key
+pub mod Keyword
+pub mod KeywordLaws
 pub mod Limit
 pub mod LimitPairs
 pub mod List
@@ -20,6 +22,7 @@ pub mod Raw
 pub mod Signed
 pub mod Size
 pub mod Texts
+pub mod TextsLaws
 pub mod Token
 pub mod TokenLaws
 pub mod Trigger

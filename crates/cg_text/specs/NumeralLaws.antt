@@ -4,6 +4,9 @@ use Rattle.std.specs.Fmt.{decimal}
 use Rattle.std.proofs.lemmas.Str.Parse.{IsNumeralModel, IsDigitsTest, FoldsDigits, numerals_by_fold}
 use Rattle.std.proofs.lemmas.Fmt.{decimal-digits_value, digits_decimal, digits_value-decimal, decimal_nonempty, first_decimal}
 use Rattle.cg_text.specs.Decimal.{AreDigits, read_on, IsNumeral}
+use Rattle.cg_text.specs.Texts.{Lacks}
+use Rattle.cg_text.specs.Token.{AreBytes}
+use Rattle.cg_text.specs.DecimalLaws.{digits_bytes}
 
 digits_test : IsDigitsTest AreDigits
 digits_test = record {
@@ -52,3 +55,19 @@ decimal_is_numeral n small =
 -- A number has one text.
 pub one_numeral : (n : ℕ) (t u : List ℕ) → n < 2 ^ 64 → IsNumeral n t → IsNumeral n u → t ≡ u
 one_numeral n t u small h k = numeral_is_decimal n t small h ∙ sym (numeral_is_decimal n u small k)
+
+digits_lack : (b : ℕ) (cs : List ℕ) → b < 48 → AreDigits cs → Lacks b cs
+digits_lack b [] small h = tt
+digits_lack b (c ∷ cs) small h = ((λ e. omega (arith, h.0, e)), digits_lack b cs small h.2)
+
+-- A text of a number has no byte below the digits.
+pub numeral_lacks : (b n : ℕ) (text : List ℕ) → b < 48 → IsNumeral n text → Lacks b text
+numeral_lacks b n [] small h = absurd h
+numeral_lacks b n (c ∷ cs) small (inl h) = ((λ e. omega (arith, h.0, e)), rw h.1 tt)
+numeral_lacks b n (c ∷ cs) small (inr h) = ((λ e. omega (arith, h.0, e)), digits_lack b cs small h.2)
+
+-- A text of a number holds bytes.
+pub numeral_bytes : (n : ℕ) (text : List ℕ) → IsNumeral n text → AreBytes text
+numeral_bytes n [] h = absurd h
+numeral_bytes n (c ∷ cs) (inl h) = (omega (arith, h.0), rw h.1 tt)
+numeral_bytes n (c ∷ cs) (inr h) = (omega (arith, h.1), digits_bytes cs h.2)

@@ -1,6 +1,7 @@
 pub mod Files
 pub mod FilesLaws
 pub mod Kind
+pub mod LineLaws
 pub mod Path
 pub mod PathLaws
 pub mod Print

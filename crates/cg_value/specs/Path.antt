@@ -1,10 +1,6 @@
 -- Paths and the names that they end with.
-use Rattle.std.specs.Prelude.{◌≡◌, ◌≢◌, ℕ, ◌⊎◌, List, [], ◌∷◌, ◌++◌}
-
--- No member is the byte.
-abbrev pub Lacks : ℕ → List ℕ → Type 0
-Lacks b [] = Unit {0}
-Lacks b (x ∷ xs) = (x ≢ b) × Lacks b xs
+use Rattle.std.specs.Prelude.{◌≡◌, ℕ, ◌⊎◌, List, [], ◌∷◌, ◌++◌}
+use Rattle.cg_text.specs.Texts.{Lacks}
 
 -- The name is what follows the last '/', or the whole path where there is none.
 pub record IsNameOf (path name : List ℕ) : Type 0 where

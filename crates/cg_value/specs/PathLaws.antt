@@ -2,7 +2,9 @@
 use Rattle.std.proofs.Common.{◌≡◌, ◌≢◌, ℕ, zero, suc, ◌+◌, ◌≤◌, ◌<◌, ◌⊎◌, inl, inr, List, [], ◌∷◌, ◌++◌, take, drop, length, get_or, refl, sym, ◌∙◌, ap, arith}
 use Rattle.std.proofs.lemmas.List.{take_more, take_all}
 use Rattle.std.proofs.Common.{length-take, length-drop, take-append-drop}
-use Rattle.cg_value.specs.Path.{Lacks, IsNameOf}
+use Rattle.cg_text.specs.Texts.{Lacks}
+use Rattle.cg_text.specs.TextsLaws.{lacks_push, lacks_none}
+use Rattle.cg_value.specs.Path.{IsNameOf}
 
 -- A place after the last '/' of the first i bytes of a path, or its beginning.
 pub record IsStart (path : List ℕ) (i start : ℕ) : Type 0 where
@@ -10,18 +12,10 @@ pub record IsStart (path : List ℕ) (i start : ℕ) : Type 0 where
   pub ends : (take start path ≡ []) ⊎ ((front : List ℕ) × (take start path ≡ front ++ 47 ∷ []))
   pub plain : Lacks 47 (drop start (take i path))
 
-lacks_push : (b : ℕ) (xs : List ℕ) (x : ℕ) → Lacks b xs → x ≢ b → Lacks b (xs ++ x ∷ [])
-lacks_push b [] x h n = (n, tt)
-lacks_push b (y ∷ xs) x h n = (h.0, lacks_push b xs x h.1 n)
-
 drop_push : (n : ℕ) (xs : List ℕ) (x : ℕ) → n ≤ length xs → drop n (xs ++ x ∷ []) ≡ drop n xs ++ x ∷ []
 drop_push zero xs x h = refl
 drop_push (suc n) [] x h = absurd (omega arith)
 drop_push (suc n) (y ∷ xs) x h = drop_push n xs x (omega arith)
-
-lacks_none : (b : ℕ) (xs : List ℕ) → length xs ≤ 0 → Lacks b xs
-lacks_none b [] h = tt
-lacks_none b (x ∷ xs) h = absurd (omega arith)
 
 -- At the beginning.
 pub start_first : (path : List ℕ) → IsStart path 0 0

@@ -1,0 +1,11 @@
+pub mod AllowedLaws
+pub mod Decode
+pub mod DecodeLaws
+pub mod FileLaws
+pub mod Machine
+pub mod MachineLaws
+pub mod Place
+pub mod PlaceLaws
+pub mod Reads
+pub mod ReadsLaws
+pub mod Turned

@@ -1,0 +1,44 @@
+-- What a reader took.
+use Rattle.std.specs.Prelude.{◌≡◌, ℕ, List, ◌∷◌, ◌++◌, [], Result, Ok, Err}
+use Rattle.cg_text.specs.Texts.{Viable, Next}
+use Rattle.cg_value.specs.Files.{KindText, KindFile}
+use Rattle.cg_value.specs.declared.value.Value.{Value}
+use Rattle.cg_value.specs.declared.kind.ReadForm.{ReadForm}
+use Rattle.cg_line.specs.Machine.{IsRead}
+use Rattle.cg_line.specs.Place.{IsPlace}
+use Rattle.cg_line.specs.declared.machine.PushFault.{PushFault}
+use Rattle.cg_line.specs.declared.machine.PushFault.TheVariants.{Refused, OutOfMemory}
+use Rattle.cg_line.specs.declared.reader.ValueReader.{ValueReader}
+use Rattle.cg_line.specs.contracts.machine.MachineFileMachine.TheImpl.{ghosts}
+
+-- The machine has the rests of a file of this kind after these bytes, and the place is that of the bytes.
+pub record HasTaken (r : ValueReader) (kind : ReadForm) (taken : List ℕ) : Type 0 where
+  pub rests : IsRead (ghosts.means r.machine) kind taken
+  pub of_kind : ghosts.is_of r.machine kind
+  pub place : IsPlace r.place taken
+
+-- The reader is of this kind and took these bytes, with which some file of the kind begins.
+unfoldable pub Reads : ValueReader → ReadForm → List ℕ → Type 0
+Reads r kind taken = HasTaken r kind taken
+
+-- The sum of the lengths of its vectors.
+unfoldable pub held_by : ValueReader → ℕ
+held_by r = ghosts.size r.machine
+
+-- What a pushed byte leaves: it was taken; or no file of the kind goes on with it; or memory was refused.
+abbrev pub IsPushed : ValueReader → ReadForm → List ℕ → ℕ → Result Unit PushFault → Type 0
+IsPushed r kind taken byte (Ok u) = Reads r kind (taken ++ byte ∷ [])
+IsPushed r kind taken byte (Err Refused) = Reads r kind taken × (Next (KindFile kind) taken byte → ⊥)
+IsPushed r kind taken byte (Err OutOfMemory) = Reads r kind taken
+
+pub reads_viable : (r : ValueReader) (kind : ReadForm) (taken : List ℕ) → Reads r kind taken → Viable (KindFile kind) taken
+unfolding Reads
+reads_viable r kind taken h = h.rests.viable
+
+pub reads_is : (r : ValueReader) (kind : ReadForm) (taken : List ℕ) → HasTaken r kind taken → Reads r kind taken
+unfolding Reads
+reads_is r kind taken h = h
+
+pub is_reads : (r : ValueReader) (kind : ReadForm) (taken : List ℕ) → Reads r kind taken → HasTaken r kind taken
+unfolding Reads
+is_reads r kind taken h = h

@@ -1,0 +1,12 @@
+//! Readers of one file, which take its text a byte at a time.
+#![tactic(auto)]
+
+pub mod decode;
+pub mod files;
+pub mod machine;
+pub mod place;
+pub mod reader;
+
+pub use decode::{FileFault, decode_file};
+pub use machine::PushFault;
+pub use reader::{ReaderCut, ValueReader};

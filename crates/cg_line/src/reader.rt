@@ -1,0 +1,131 @@
+//! Readers of one file.
+ghost use Rattle.std.specs.Prelude.{◌≡◌, ◌≤◌, ◌+◌, ◌↔◌, ℕ, List, [], ◌∷◌, ◌++◌, length, MatchResult, IsTrue, OnErr};
+ghost use Rattle.cg_text.specs.Bytes.{HasByte};
+ghost use Rattle.cg_text.specs.Texts.{Next, Lacks};
+ghost use Rattle.cg_text.specs.Token.{told, Completes};
+ghost use Rattle.cg_value.specs.Files.{unlines, ReadLines, KindText, KindFile};
+ghost use Rattle.cg_value.specs.Weight.{weight_of_lines};
+ghost use Rattle.cg_value.specs.declared.value.Value.{Value};
+ghost use Rattle.cg_value.specs.declared.kind.ReadForm.{ReadForm};
+ghost use Rattle.cg_line.specs.Machine.{IsRead};
+ghost use Rattle.cg_line.specs.Place.{TakesLine};
+
+use crate::files::{limit_file, number_file};
+use crate::machine::{FileMachine, Machine, PushFault};
+use crate::place::Place;
+use cg_text::{ByteSet, Token};
+use cg_value::{ReadForm, ReadKind, Value};
+use std::alloc::Global;
+
+/// A reader of the text of one file, which takes line bytes and newlines.
+#[derive(Drop)]
+pub struct ValueReader {
+    machine: Machine,
+    place: Place,
+}
+
+/// A reader whose bytes are no whole file, handed back.
+#[derive(Drop)]
+pub struct ReaderCut {
+    pub reader: ValueReader,
+}
+
+/// A token, of which some rest completes each state.
+fn completed<T: Token>(token: T) -> T
+    ensures same { result ≡ token }
+    ensures goes { Completes T.means token }
+{
+    token
+}
+
+/// The machine of a kind of files.
+fn machine_of(kind: ReadKind) -> Machine
+    ensures rests { IsRead (⟦<Machine as FileMachine>⟧.means result) kind [] }
+    ensures kind { ⟦<Machine as FileMachine>⟧.is_of result kind }
+    ensures size { ⟦<Machine as FileMachine>⟧.size result ≡ 0 }
+{
+    match kind.form() {
+        ReadForm::Number { lo, hi } => Machine::OfNumber(completed(number_file(lo, hi))),
+        ReadForm::Limit => Machine::OfLimit(completed(limit_file())),
+    }
+}
+
+impl ValueReader {
+    ghost use Rattle.cg_line.specs.Reads.{Reads, IsPushed, held_by};
+
+    /// A reader of a file of this kind, of which nothing was taken. It takes no memory.
+    pub fn new(alloc: Global, kind: ReadKind) -> ValueReader
+        ensures reads { Reads result kind [] }
+        ensures held { held_by result ≡ 0 }
+    {
+        let _ = alloc;
+        ValueReader {
+            machine: machine_of(kind),
+            place: Place::Start,
+        }
+    }
+
+    /// Takes a byte where some file of the kind goes on with it, and refuses every other.
+    /// After a refusal the reader is unchanged.
+    pub fn push(&mut self, byte: u8) -> Result<(), PushFault>
+        ensures pushed { (kind : ReadForm) (taken : List ℕ) → Reads self.old kind taken → IsPushed self.new kind taken byte result }
+        ensures held { held_by self.new ≤ held_by self.old + 1 }
+        ensures same_held { OnErr result (held_by self.new ≡ held_by self.old) }
+    {
+        match self.machine.take_byte(byte) {
+            Ok(()) => {
+                self.place = Place::after(byte);
+                Ok(())
+            }
+            Err(fault) => Err(fault),
+        }
+    }
+
+    /// Whether no line is begun and another may begin. It takes no memory.
+    pub fn takes_line(&self) -> bool
+        ensures { (kind : ReadForm) (taken : List ℕ) → Reads self.now kind taken → (IsTrue result ↔ TakesLine kind taken) }
+    {
+        self.place.is_start()
+    }
+
+    /// Whether the bytes so far are a whole file. It takes no memory.
+    pub fn can_finish(&self) -> bool
+        ensures { (kind : ReadForm) (taken : List ℕ) → Reads self.now kind taken → (IsTrue result ↔ KindFile kind taken) }
+    {
+        self.machine.is_whole()
+    }
+
+    /// The bytes with which some file of the kind goes on. It takes no memory.
+    pub fn allowed(&self) -> ByteSet
+        ensures { (kind : ReadForm) (taken : List ℕ) → Reads self.now kind taken → (byte : ℕ) → HasByte result byte ↔ Next (KindFile kind) taken byte }
+    {
+        let mut set = ByteSet::new();
+        for number in 0..256u16 {
+            let byte = number as u8;
+            if self.machine.allows_byte(byte) {
+                set.insert(byte);
+            }
+        }
+        set
+    }
+
+    /// The sum of the lengths of its vectors, or `u64::MAX` where that is more. It takes no memory.
+    pub fn held(&self) -> u64
+        ensures exact { result ≡ told (held_by self.now) }
+        ensures begun { (kind : ReadForm) (taken : List ℕ) → Reads self.now kind taken → Lacks 10 taken → held_by self.now ≤ length taken }
+        ensures whole { (kind : ReadForm) (lines : List (List ℕ)) (line : List ℕ) (v : Value) → Reads self.now kind (unlines lines ++ line) → Lacks 10 line → ReadLines kind v lines → held_by self.now ≤ weight_of_lines v + length line }
+    {
+        self.machine.all_held()
+    }
+
+    /// The value of a whole file, or else the reader. It takes no memory.
+    pub fn finish(self) -> Result<Value, ReaderCut>
+        ensures { (kind : ReadForm) (taken : List ℕ) → Reads self kind taken → MatchResult result (λ v. KindText kind v taken) (λ cut. (cut.reader ≡ self) × (KindFile kind taken → ⊥)) }
+    {
+        if self.machine.is_whole() {
+            Ok(self.machine.into_value())
+        } else {
+            Err(ReaderCut { reader: self })
+        }
+    }
+}
