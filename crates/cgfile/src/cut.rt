@@ -71,3 +71,68 @@ impl<'a> Source for CutSource<'a> {
         Ok(count)
     }
 }
+
+#[cfg(test)]
+mod tests {
+    use super::*;
+    use crate::PlainReader;
+    use std::alloc::{AllocError, Global};
+    use std::test::Fail;
+
+    /// What the source gives through this buffer, in at most 16 pulls, and whether it ended.
+    fn drained<R: Source>(
+        alloc: Global,
+        source: &mut R,
+        buffer: &mut [u8],
+    ) -> Result<(Vec<u8>, bool), AllocError> {
+        let mut taken = Vec::new(alloc);
+        for _ in 0..16 {
+            match source.pull(buffer) {
+                Ok(0) => return Ok((taken, true)),
+                Ok(count) => taken.extend_from_slice(&buffer[..count])?,
+                Err(Failed) => return Ok((taken, false)),
+            }
+        }
+        Ok((taken, false))
+    }
+
+    #[test]
+    fn cut_sources(rt: HostRuntime) -> Result<(), Fail> {
+        for (budget, step, length, ends, asks) in [
+            (9, 1, 5, true, 6),
+            (9, 9, 5, true, 3),
+            (5, 2, 5, true, 4),
+            (5, 0, 5, true, 6),
+            (3, 2, 3, false, 3),
+            (0, 1, 0, false, 1),
+        ] {
+            let mut source = CutSource::new(b"abcde", budget, step);
+            let mut buffer = [0u8; 3];
+            let (taken, ended) = drained(rt.alloc(), &mut source, &mut buffer)?;
+            assert!(rt; b"abcde".starts_with(taken.as_slice()), "{budget} {step}");
+            assert_eq!(rt; taken.len(), length, "{budget} {step}");
+            assert_eq!(rt; ended, ends, "{budget} {step}");
+            assert_eq!(rt; source.asks(), asks, "{budget} {step}");
+        }
+        Ok(())
+    }
+
+    #[test]
+    fn empty_buffers(rt: HostRuntime) {
+        let mut source = CutSource::new(b"abc", 0, 1);
+        assert_eq!(rt; source.pull(&mut []), Ok(0));
+        assert_eq!(rt; source.pull(&mut [0u8; 2]), Err(Failed));
+        assert_eq!(rt; source.asks(), 2);
+    }
+
+    #[test]
+    fn plain_readers(rt: HostRuntime) -> Result<(), Fail> {
+        let text: &[u8] = b"abcde";
+        let mut source = PlainReader::new(text);
+        let mut buffer = [0u8; 2];
+        let (taken, ended) = drained(rt.alloc(), &mut source, &mut buffer)?;
+        assert!(rt; taken.as_slice() == b"abcde".as_slice());
+        assert!(rt; ended);
+        Ok(())
+    }
+}
