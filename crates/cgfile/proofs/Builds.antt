@@ -1,3 +1,5 @@
+-- How a `clap` command that is built up by arguments and subcommands becomes its data, and what an
+-- option's text gives as a number.
 use Rattle.std.proofs.Common.{◌≡◌, ℕ, List, [], ◌∷◌, Option, Some, None, true, false, Bool, ◌||◌, refl, sym, ap, ap₂, ◌∙◌, ltb-true, lt-ltb, length, ◌<◌, ◌&&◌, nat_lt, true≢false}
 use Rattle.std.specs.List.{list_all}
 use Rattle.std.specs.Str.Parse.{digits_value, without_leading_plus, AllDigits}

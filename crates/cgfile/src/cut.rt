@@ -5,7 +5,8 @@ use crate::source::Source;
 use cg_print::Failed;
 
 /// A source that gives the bytes of an array. It fails after a stated number of bytes, gives at
-/// most a stated number in one call, and answers 0 where its array ends before its failure.
+/// most a stated number in one call, and answers 0 where its array ends before its failure, so a
+/// source that is to end has a number above the array's length.
 #[derive(Drop)]
 pub struct CutSource<'a> {
     rest: &'a [u8],
@@ -52,18 +53,18 @@ impl<'a> Source for CutSource<'a> {
 
     fn pull(&mut self, buffer: &mut [u8]) -> Result<usize, Failed> {
         self.asks = self.asks.saturating_add(1);
-        if buffer.is_empty() || self.rest.is_empty() {
+        if buffer.is_empty() {
             return Ok(0);
         }
-        let count = buffer
-            .len()
-            .min(self.step)
-            .min(self.budget)
-            .min(self.rest.len());
-        if count == 0 {
+        if self.budget == 0 {
             self.failed = true;
             return Err(Failed);
         }
+        if self.rest.is_empty() {
+            return Ok(0);
+        }
+        let room = buffer.len().min(self.step).min(self.budget);
+        let count = room.min(self.rest.len());
         let (front, rest) = self.rest.split_at(count);
         buffer[..count].copy_from_slice(front);
         self.rest = rest;
@@ -99,10 +100,11 @@ mod tests {
     #[test]
     fn cut_sources(rt: HostRuntime) -> Result<(), Fail> {
         for (budget, step, length, ends, asks) in [
-            (9, 1, 5, true, 6),
-            (9, 9, 5, true, 3),
-            (5, 2, 5, true, 4),
-            (5, 0, 5, true, 6),
+            (usize::MAX, 1, 5, true, 6),
+            (6, 9, 5, true, 3),
+            (6, 2, 5, true, 4),
+            (6, 0, 5, true, 6),
+            (5, 2, 5, false, 4),
             (3, 2, 3, false, 3),
             (0, 1, 0, false, 1),
         ] {
