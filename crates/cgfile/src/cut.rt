@@ -76,7 +76,7 @@ impl<'a> Source for CutSource<'a> {
 #[cfg(test)]
 mod tests {
     use super::*;
-    use crate::PlainReader;
+    use crate::plain::PlainReader;
     use std::alloc::{AllocError, Global};
     use std::test::Fail;
 
