@@ -2,3 +2,6 @@ pub mod Builds
 pub mod Known
 pub mod Made
 pub mod Profiles
+pub mod Stops
+pub mod Took
+pub mod RunLemmas

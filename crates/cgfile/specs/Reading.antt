@@ -33,3 +33,11 @@ pub record HasRead (kind : ReadForm) (max : ℕ) (reader : ValueReader) (coming 
   pub read : List ℕ
   pub consumed : Consumes coming left read
   pub ends : EndsBy kind max read reader left failed e
+
+-- What a loop of reads has done so far.
+pub record ReadSoFar (kind : ReadForm) (max : ℕ) (reader : ValueReader) (coming left : Option (List ℕ)) (failed : Bool) (at : ℕ) : Type 0 where
+  pub read : List ℕ
+  pub consumed : Consumes coming left read
+  pub goes_on : GoesOn kind max reader read
+  pub place : at ≡ length read
+  pub works : failed ≡ false

@@ -57,7 +57,8 @@ impl Line {
 fn numbered(before: &[u8], number: u64, after: &[u8]) -> Line
     requires before { length before.now ≤ 32 }
     requires after { length after.now ≤ 8 }
-    ensures { result ≡ before.now ++ decimal number ++ after.now }
+    ensures line { result ≡ before.now ++ decimal number ++ after.now }
+    ensures short { length result ≤ length before.now + 40 + length after.now }
 {
     let mut digits = Buffer::new();
     let mut line = Line::new();

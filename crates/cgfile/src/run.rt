@@ -122,9 +122,11 @@ pub fn run<R: Source, W: Sink>(
         Command::File { name } => {
             run_file(alloc, profile, name.as_slice(), reader, writer, limits.max_stream)
         }
-        Command::Setting { .. } | Command::Plan => told_line(writer, Outcome::NotWritable),
-        Command::Show | Command::Json | Command::Check | Command::Kinds => {
-            told_line(writer, Outcome::NotReadable)
-        }
+        Command::Setting { .. } => told_line(writer, Outcome::NotWritable),
+        Command::Plan => told_line(writer, Outcome::NotWritable),
+        Command::Show => told_line(writer, Outcome::NotReadable),
+        Command::Json => told_line(writer, Outcome::NotReadable),
+        Command::Check => told_line(writer, Outcome::NotReadable),
+        Command::Kinds => told_line(writer, Outcome::NotReadable),
     }
 }

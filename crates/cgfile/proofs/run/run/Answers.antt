@@ -1,0 +1,30 @@
+use Rattle.std.proofs.Common.{refl}
+use Rattle.cgfile.specs.Run.{IsRight}
+use Rattle.cgfile.specs.declared.outcome.Outcome.TheVariants as out
+use Rattle.cgfile.proofs.RunLemmas.{idle_ran}
+use Rattle.cgfile.proofs.run.run.Goals as goal
+
+pub returns-in-Plan-clause-ran : goal.returns-in-Plan-clause-ran
+returns-in-Plan-clause-ran g c fresh =
+    idle_ran (IsRight c.args.profile c.args.command.now c.args.limits) _ _ _ _ _ out.NotWritable c.told_line-in-Plan.result
+    (rw c.in-Plan.is (record { outcome = refl; unread = refl; none = refl })) c.told_line-in-Plan.ensures
+
+pub returns-in-Show-clause-ran : goal.returns-in-Show-clause-ran
+returns-in-Show-clause-ran g c fresh =
+    idle_ran (IsRight c.args.profile c.args.command.now c.args.limits) _ _ _ _ _ out.NotReadable c.told_line-in-Show.result
+    (rw c.in-Show.is (record { outcome = refl; unread = refl; none = refl })) c.told_line-in-Show.ensures
+
+pub returns-in-Json-clause-ran : goal.returns-in-Json-clause-ran
+returns-in-Json-clause-ran g c fresh =
+    idle_ran (IsRight c.args.profile c.args.command.now c.args.limits) _ _ _ _ _ out.NotReadable c.told_line-in-Json.result
+    (rw c.in-Json.is (record { outcome = refl; unread = refl; none = refl })) c.told_line-in-Json.ensures
+
+pub returns-in-Check-clause-ran : goal.returns-in-Check-clause-ran
+returns-in-Check-clause-ran g c fresh =
+    idle_ran (IsRight c.args.profile c.args.command.now c.args.limits) _ _ _ _ _ out.NotReadable c.told_line-in-Check.result
+    (rw c.in-Check.is (record { outcome = refl; unread = refl; none = refl })) c.told_line-in-Check.ensures
+
+pub returns-in-Kinds-clause-ran : goal.returns-in-Kinds-clause-ran
+returns-in-Kinds-clause-ran g c fresh =
+    idle_ran (IsRight c.args.profile c.args.command.now c.args.limits) _ _ _ _ _ out.NotReadable c.told_line-in-Kinds.result
+    (rw c.in-Kinds.is (record { outcome = refl; unread = refl; none = refl })) c.told_line-in-Kinds.ensures

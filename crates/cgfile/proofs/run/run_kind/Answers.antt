@@ -1,0 +1,36 @@
+use Rattle.std.proofs.Common.{[], refl}
+use Rattle.cgfile.specs.declared.outcome.Outcome.TheVariants as out
+use Rattle.cgfile.proofs.Took.{goes_unstopped}
+use Rattle.cgfile.proofs.RunLemmas.{file_stop, end_right}
+use Rattle.cgfile.proofs.run.run_kind.Goals as goal
+
+pub returns-in-End-clause-ran : goal.returns-in-End-clause-ran
+returns-in-End-clause-ran g c fresh =
+    let h = c.in-End.ensures.read c.args.kind c.new-text.ensures.reads fresh in
+    let told = c.told_end.ensures c.args.kind h.read h.ends.0.0 h.ends.3 in
+    let unstopped = goes_unstopped c.args.kind c.args.max c.read_all.new.reader h.read h.ends.0 in
+    record {
+      read = h.read;
+      consumed = h.consumed;
+      wanted = told.wanted;
+      parts = told.parts;
+      right = end_right c.args.kind c.args.max (record { bytes = h.read; left = g.R.Source.coming c.read_all.new.source; failed = g.R.Source.has_failed c.read_all.new.source }) h.ends.1 h.ends.2 unstopped told.wanted told.parts told.right;
+      wrote = told.wrote;
+    }
+
+pub returns-in-Stopped-clause-ran : goal.returns-in-Stopped-clause-ran
+returns-in-Stopped-clause-ran g c fresh =
+    let h = c.in-Stopped.ensures.read c.args.kind c.new-text.ensures.reads fresh in
+    record {
+      read = h.read;
+      consumed = h.consumed;
+      wanted = out.Stopped c.in-Stopped.stop;
+      parts = [];
+      right = (file_stop c.args.kind c.args.max _ c.in-Stopped.stop h.ends, refl);
+      wrote = c.told_line.ensures;
+    }
+
+pub returns-in-OutOfMemory-clause-ran : goal.returns-in-OutOfMemory-clause-ran
+returns-in-OutOfMemory-clause-ran g c fresh =
+    let h = c.in-OutOfMemory.ensures.read c.args.kind c.new-text.ensures.reads fresh in
+    record { read = h.read; consumed = h.consumed; wanted = out.OutOfMemory; parts = []; right = tt; wrote = c.told_line-in-OutOfMemory.ensures }
