@@ -24,3 +24,4 @@ pub mod TokenLaws
 pub mod Trigger
 pub mod Word
 pub mod WordLaws
+pub mod WordState

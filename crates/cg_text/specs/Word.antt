@@ -1,5 +1,5 @@
 -- Words: one or more printable bytes without '=' (cgroup-v2.rst, "Format": the keys and sub-keys of keyed files).
-use Rattle.std.specs.Prelude.{◌≡◌, ℕ, ◌≤◌, ◌<◌, ◌≢◌, List, [], ◌∷◌, length}
+use Rattle.std.specs.Prelude.{◌≡◌, ℕ, ◌≤◌, ◌<◌, ◌≢◌, Bool, true, false, List, [], ◌∷◌, length}
 
 -- A byte 33 to 126 that is not '='.
 abbrev pub IsWordByte : ℕ → Type 0
@@ -21,3 +21,8 @@ IsNoSign c = (c ≢ 43) × (c ≢ 45)
 abbrev pub IsControllerWord : List ℕ → Type 0
 IsControllerWord [] = ⊥
 IsControllerWord (c ∷ cs) = IsNoSign c × IsWord (c ∷ cs)
+
+-- The text is a word, or one of a controller.
+abbrev pub IsWordText : Bool → List ℕ → Type 0
+IsWordText false text = IsWord text
+IsWordText true text = IsControllerWord text

@@ -14,6 +14,7 @@ pub mod pairs;
 pub mod token;
 pub mod trigger;
 pub mod values;
+pub mod word;
 
 pub use byte::ByteText;
 pub use bytes::ByteSet;
@@ -28,3 +29,4 @@ pub use pairs::{LimitKey, LimitPairs};
 pub use token::Token;
 pub use trigger::Times;
 pub use values::{Amount, Clamp, Device, Hundredths, Limit};
+pub use word::WordText;
