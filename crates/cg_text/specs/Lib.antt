@@ -22,6 +22,8 @@ pub mod Signed
 pub mod SignedLaws
 pub mod SignedState
 pub mod Size
+pub mod SizeLaws
+pub mod SizeState
 pub mod Texts
 pub mod Token
 pub mod TokenLaws

@@ -7,6 +7,7 @@ ghost use Rattle.cg_text.specs.NumberRest.{number_rest};
 ghost use Rattle.cg_text.specs.Token.{Follows, NoneBegins, Spells};
 
 use crate::decimal::DecimalText;
+use crate::digit::after_digit;
 use crate::memory::OutOfMemory;
 use crate::token::Token;
 
@@ -47,18 +48,6 @@ fn magnitude(lo: i64, hi: i64) -> Option<DecimalText>
     }
     let least = if hi < 0 { hi.unsigned_abs() } else { 1 };
     DecimalText::new(least, lo.unsigned_abs())
-}
-
-/// The number after one more byte, where some rest begins with it.
-fn after_digit(number: DecimalText, byte: u8) -> Option<DecimalText>
-    ensures { MatchOption result (NoneBegins number_rest number byte) (Follows number_rest number byte) }
-{
-    let mut number = number;
-    match number.step(byte) {
-        Ok(true) => Some(number),
-        Ok(false) => None,
-        Err(_) => unreachable!(),
-    }
 }
 
 /// The state after one more byte, where some rest begins with it.
