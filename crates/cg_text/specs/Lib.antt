@@ -13,11 +13,14 @@ pub mod Key
 pub mod Limit
 pub mod LimitPairs
 pub mod List
+pub mod ListFacts
 pub mod NumberRest
 pub mod NumberRestLaws
 pub mod Numbers
 pub mod NumbersLaws
 pub mod Raw
+pub mod RawLaws
+pub mod RawState
 pub mod Signed
 pub mod SignedLaws
 pub mod SignedState

@@ -5,18 +5,13 @@ use Rattle.cg_text.specs.Decimal.{IsNumeral}
 use Rattle.cg_text.specs.Signed.{IsSigned}
 use Rattle.cg_text.specs.DecimalLaws.{IsDecimalRest_one, decimal_ends_is, number_digits, digits_bytes}
 use Rattle.cg_text.specs.Token.{AreBytes, Follows, NoneBegins}
+use Rattle.cg_text.specs.ListFacts.{heads, tails}
 use Rattle.cg_text.specs.NumberRest.{number_rest, number_ends, maybe_rest, maybe_ends}
 use Rattle.cg_text.specs.NumberRestLaws.{number_completes, maybe_digits, digit_begins, maybe_one, maybe_ends_is}
 use Rattle.cg_text.specs.SignedState.{IsMagnitude, LacksPlain, LacksNegative, SignedRest, AreWithin, IsBounded, is_live, signed_ends}
 use Rattle.cg_text.specs.declared.decimal.DecimalText.{DecimalText}
 use Rattle.cg_text.specs.declared.signed.Taken.{Taken}
 use Rattle.cg_text.specs.declared.signed.Taken.TheVariants.{Plain, Negative}
-
-heads : (a b : ℕ) (x y : List ℕ) → a ∷ x ≡ b ∷ y → a ≡ b
-heads a b x y e = cc
-
-tails : (a b : ℕ) (x y : List ℕ) → a ∷ x ≡ b ∷ y → x ≡ y
-tails a b x y e = cc
 
 pub IsBounded_prop : (t : Taken) → IsProp (IsBounded t)
 IsBounded_prop (Plain digits magnitude) = hlevel props

@@ -8,6 +8,7 @@ use Rattle.cg_text.specs.Size.{HasFactor, HasSize, IsSize}
 use Rattle.cg_text.specs.DecimalLaws.{IsDecimalRest_one, decimal_ends_is, number_digits, digits_bytes}
 use Rattle.cg_text.specs.Token.{AreBytes, Follows, NoneBegins}
 use Rattle.cg_text.specs.TokenLaws.{bytes_append}
+use Rattle.cg_text.specs.ListFacts.{heads, tails, not_nil, push_one}
 use Rattle.cg_text.specs.NumberRest.{number_rest, number_ends}
 use Rattle.cg_text.specs.NumberRestLaws.{number_completes, digit_begins}
 use Rattle.cg_text.specs.SizeState.{HasSizeRest, IsSizeRest, SizeRest, EndsSize, IsSmall, size_ends}
@@ -52,27 +53,6 @@ suffix_bounds s f (inr (inr (inr (inr (inl (inl e, k)))))) = (omega arith, omega
 suffix_bounds s f (inr (inr (inr (inr (inl (inr e, k)))))) = (omega arith, omega arith, omega arith)
 suffix_bounds s f (inr (inr (inr (inr (inr (inl e, k)))))) = (omega arith, omega arith, omega arith)
 suffix_bounds s f (inr (inr (inr (inr (inr (inr e, k)))))) = (omega arith, omega arith, omega arith)
-
-heads : (a b : ℕ) (x y : List ℕ) → a ∷ x ≡ b ∷ y → a ≡ b
-heads a b x y e = cc
-
-tails : (a b : ℕ) (x y : List ℕ) → a ∷ x ≡ b ∷ y → x ≡ y
-tails a b x y e = cc
-
-not_nil : (xs : List ℕ) (x : ℕ) (ys : List ℕ) → [] ≡ xs ++ x ∷ ys → ⊥
-not_nil [] x ys e = cc
-not_nil (y ∷ xs) x ys e = cc
-
--- Two texts that end with one byte more.
-push_one : (xs ys : List ℕ) (a b : ℕ) → xs ++ a ∷ [] ≡ ys ++ b ∷ [] → (xs ≡ ys) × (a ≡ b)
-push_one [] [] a b e = (refl, heads a b [] [] e)
-push_one [] (y ∷ ys) a b e = absurd (not_nil ys b [] (tails a y [] (ys ++ b ∷ []) e))
-push_one (x ∷ xs) [] a b e = absurd (not_nil xs a [] (sym (tails x b (xs ++ a ∷ []) [] e)))
-push_one (x ∷ xs) (y ∷ ys) a b e =
-    let more = push_one xs ys a b (tails x y (xs ++ a ∷ []) (ys ++ b ∷ []) e) in
-    let head : x ≡ y = heads x y (xs ++ a ∷ []) (ys ++ b ∷ []) e in
-    let tail : xs ≡ ys = more.0 in
-    (cc, more.1)
 
 last_digit : (xs : List ℕ) (a : ℕ) → AreDigits (xs ++ a ∷ []) → a ≤ 57
 last_digit [] a h = h.1
@@ -183,35 +163,3 @@ module _ (d : DecimalText) (byte : ℕ) (none : NoneBegins number_rest d byte) w
 
 pub nothing_follows : (size byte : ℕ) → NoneBegins SizeRest (Whole size) byte
 nothing_follows size byte rest n h = let e = h.0 in absurd (cc)
-
--- No size is ended: the number goes on; it is too great.
-pub not_ended : (d : DecimalText) (byte : ℕ) → number_ends d ≡ false → (size : ℕ) → EndsSize (number_rest d) byte size → ⊥
-not_ended d byte e size s = let t : number_ends d ≡ true = (decimal_ends_is d.lo d.hi d.progress).1 (s.count, s.counted) in cc
-
-pub too_great : (d : DecimalText) (byte m f : ℕ) → number_rest d [] m → HasFactor byte f → 18446744073709551615 < m * f → (size : ℕ) → EndsSize (number_rest d) byte size → ⊥
-too_great d byte m f h k above size s =
-    let same : s.count ≡ m = IsDecimalRest_one d.lo d.hi d.progress [] s.count m s.counted h in
-    let one : s.factor ≡ f = factor_one byte s.factor f s.suffix_is k in
-    let product : size ≡ m * f = s.product ∙ rw (same, one) refl in
-    omega (arith, s.fits, product, above)
-
--- The definition, where the number is any that fits 64 bits.
-module _ (d : DecimalText) (f : (rest : List ℕ) (n : ℕ) → number_rest d rest n ↔ IsDecimal 0 18446744073709551615 n rest) where
-  to_size : (rest : List ℕ) (m k : ℕ) → HasSizeRest (number_rest d) m k rest → HasSize m k rest
-  to_size rest m k (inl h) = inl (((f rest m).0 h.0).2, h.1)
-  to_size rest m k (inr h) = inr (h.0, h.1, h.2, ((f h.0 m).0 h.3).2, h.4)
-
-  count_small : (m k n : ℕ) → 1 ≤ k → n ≡ m * k → n ≤ 18446744073709551615 → m ≤ 18446744073709551615
-  count_small m k n some e le = omega (arith, mul-le-mul_left m some, e, le)
-
-  from_size : (rest : List ℕ) (m k n : ℕ) → n ≡ m * k → n ≤ 18446744073709551615 → HasSize m k rest → HasSizeRest (number_rest d) m k rest
-  from_size rest m k n e le (inl h) = inl ((f rest m).1 (omega arith, count_small m k n (omega (arith, h.1)) e le, h.0), h.1)
-  from_size rest m k n e le (inr h) = inr (h.0, h.1, h.2, (f h.0 m).1 (omega arith, count_small m k n (suffix_bounds h.1 k h.4).2 e le, h.3), h.4)
-
-  pub size_is : (rest : List ℕ) (n : ℕ) → SizeRest (Count d) rest n ↔ IsSize n rest
-  size_is rest n = (
-    λ h. record { count = h.count; factor = h.factor; product = h.product; fits = h.fits; spelled = to_size rest h.count h.factor h.spelled },
-    λ h. record { count = h.count; factor = h.factor; product = h.product; fits = h.fits; spelled = from_size rest h.count h.factor n h.product h.fits h.spelled })
-
-  pub size_small : IsSmall (Count d)
-  size_small rest n h = ((f rest n).0 h).1
