@@ -38,17 +38,6 @@ raw_completes taken = ([], taken ++ [], record { whole = refl; raw = tt })
 pub raw_one : (taken rest v w : List ℕ) → IsRawRest taken rest v → IsRawRest taken rest w → v ≡ w
 raw_one taken rest v w h k = h.whole ∙ sym k.whole
 
-pub raw_follows : (taken new : List ℕ) (c : ℕ) → IsRawByte c → new ≡ taken ++ c ∷ [] → (rest line : List ℕ) → IsRawRest new rest line ↔ IsRawRest taken (c ∷ rest) line
-raw_follows taken new c b e rest line =
-    let same : new ++ rest ≡ taken ++ c ∷ rest = rw e (append_assoc taken (c ∷ []) rest) in
-    (λ h. record { whole = h.whole ∙ same; raw = (b.0, b.1, b.2, h.raw) }, λ h. record { whole = h.whole ∙ sym same; raw = h.raw.3 })
-
-pub raw_begins : (taken : List ℕ) (c : ℕ) → IsRawByte c → (rest : List ℕ) × (line : List ℕ) × IsRawRest taken (c ∷ rest) line
-raw_begins taken c b = ([], taken ++ c ∷ [], record { whole = refl; raw = (b.0, b.1, b.2, tt) })
-
-pub raw_byte_of : (taken rest line : List ℕ) (c : ℕ) → IsRawRest taken (c ∷ rest) line → IsRawByte c
-raw_byte_of taken rest line c h = (h.raw.0, h.raw.1, h.raw.2)
-
 -- Nothing need follow.
 pub raw_ends_is : (taken : List ℕ) → IsTrue true ↔ ((line : List ℕ) × IsRawRest taken [] line)
 raw_ends_is taken = (λ _. (taken ++ [], record { whole = refl; raw = tt }), λ _. refl)
@@ -69,12 +58,6 @@ reason_one text v w h k = (push_one v w 41 41 (sym h.0 ∙ k.0)).0
 
 pub reason_bytes : (taken rest reason : List ℕ) → IsReason reason (taken ++ rest) → AreBytes rest
 reason_bytes taken rest reason h = raw_bytes rest (raw_after taken rest (reason_raw reason (taken ++ rest) h))
-
--- What follows a byte that was taken.
-pub reason_follows : (taken new : List ℕ) (c : ℕ) → new ≡ taken ++ c ∷ [] → (rest reason : List ℕ) → IsReason reason (new ++ rest) ↔ IsReason reason (taken ++ c ∷ rest)
-reason_follows taken new c e rest reason =
-    let same : new ++ rest ≡ taken ++ c ∷ rest = rw e (append_assoc taken (c ∷ []) rest) in
-    (λ h. (sym same ∙ h.0, h.1), λ h. (same ∙ h.0, h.1))
 
 pub reason_begins : (taken : List ℕ) (c : ℕ) → IsRawLine taken → IsRawByte c → (rest : List ℕ) × (reason : List ℕ) × IsReason reason (taken ++ c ∷ rest)
 reason_begins taken c h b = (41 ∷ [], taken ++ c ∷ [], (sym (append_assoc taken (c ∷ []) (41 ∷ [])), raw_append taken (c ∷ []) h (b.0, b.1, b.2, tt)))

@@ -81,38 +81,6 @@ signed_bytes (Plain p q) rest (negsuc n) h = rw h.1 (omega arith, digits_bytes h
 signed_bytes (Negative d) rest (pos n) h = absurd h
 signed_bytes (Negative d) rest (negsuc n) h = digits_bytes rest (number_digits d.lo d.hi d.progress rest (suc n) h)
 
--- A minus sign.
-pub minus_follows : (p : Option DecimalText) (d : DecimalText) → Follows SignedRest (Plain p (Some d)) 45 (Negative d)
-minus_follows p d rest (pos n) = (λ h. absurd h, λ h. absurd (no_minus p (45 ∷ rest) rest n refl h))
-minus_follows p d rest (negsuc n) = (λ h. (rest, refl, h), λ h. rw (tails 45 45 rest h.0 h.1) h.2)
-
-pub no_minus_begins : (p : Option DecimalText) → NoneBegins SignedRest (Plain p None) 45
-no_minus_begins p rest (pos n) h = no_minus p (45 ∷ rest) rest n refl h
-no_minus_begins p rest (negsuc n) h = h.2
-
--- A byte that is no minus sign.
-module _ (byte : ℕ) (other : byte ≡ 45 → ⊥) (q : Option DecimalText) where
-  pub digit_follows : (d new : DecimalText) → Follows number_rest d byte new → Follows SignedRest (Plain (Some d) q) byte (Plain (Some new) None)
-  digit_follows d new f rest (pos n) = f rest n
-  digit_follows d new f rest (negsuc n) = (λ h. absurd h.2, λ h. absurd (other (heads byte 45 rest h.0 h.1)))
-
-  pub no_digit_begins : (d : DecimalText) → NoneBegins number_rest d byte → NoneBegins SignedRest (Plain (Some d) q) byte
-  no_digit_begins d f rest (pos n) h = f rest n h
-  no_digit_begins d f rest (negsuc n) h = other (heads byte 45 rest h.0 h.1)
-
-  pub nothing_begins : NoneBegins SignedRest (Plain None q) byte
-  nothing_begins rest (pos n) h = h
-  nothing_begins rest (negsuc n) h = other (heads byte 45 rest h.0 h.1)
-
--- A digit after a minus sign.
-pub negative_follows : (d new : DecimalText) (byte : ℕ) → Follows number_rest d byte new → Follows SignedRest (Negative d) byte (Negative new)
-negative_follows d new byte f rest (pos n) = (λ h. h, λ h. h)
-negative_follows d new byte f rest (negsuc n) = f rest (suc n)
-
-pub no_negative_begins : (d : DecimalText) (byte : ℕ) → NoneBegins number_rest d byte → NoneBegins SignedRest (Negative d) byte
-no_negative_begins d byte f rest (pos n) h = h
-no_negative_begins d byte f rest (negsuc n) h = f rest (suc n) h
-
 -- The bounds after a digit.
 pub within_follows : (low high : ℕ) (d new : DecimalText) (byte : ℕ) → Follows number_rest d byte new → AreWithin low high (number_rest d) → AreWithin low high (number_rest new)
 within_follows low high d new byte f b rest n h = b (byte ∷ rest) n ((f rest n).0 h)

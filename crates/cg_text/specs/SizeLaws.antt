@@ -1,5 +1,6 @@
 -- What holds of what is left of a size.
-use Rattle.std.proofs.Common.{◌≡◌, ℕ, suc, zero, ◌*◌, ◌≤◌, ◌<◌, ◌↔◌, ◌⊎◌, inl, inr, Bool, true, false, cond, ◌||◌, eqb, Some, List, [], ◌∷◌, ◌++◌, IsTrue, arith, refl, sym, ◌∙◌, ap}
+use Rattle.std.proofs.Common.{◌≡◌, ℕ, suc, zero, ◌*◌, ◌^◌, ◌≤◌, ◌<◌, ◌↔◌, ◌⊎◌, inl, inr, Bool, true, false, cond, ◌||◌, eqb, Option, Some, None, List, [], ◌∷◌, ◌++◌, IsTrue, arith, refl, sym, ◌∙◌, ap}
+use Rattle.std.specs.Prelude.{SomeIff, MatchOption}
 use Rattle.std.proofs.Props.{props}
 use Rattle.std.specs.Coded.{Unit-prop}
 use Rattle.std.proofs.Math.Nat.{mul-le-mul_left}
@@ -133,9 +134,6 @@ size_digit d new byte f =
     let c = number_completes new in
     digit_follows_at d new byte (digit_begins (Some d) byte c.0 c.1 ((f c.0 c.1).0 c.2)).1 f
 
-pub small_digit : (d new : DecimalText) (byte : ℕ) → Follows number_rest d byte new → IsSmall (Count d) → IsSmall (Count new)
-small_digit d new byte f b rest n h = b (byte ∷ rest) n ((f rest n).0 h)
-
 -- A suffix.
 module _ (d : DecimalText) (byte : ℕ) (none : NoneBegins number_rest d byte) where
   suffix_at : (rest digits : List ℕ) (suffix m k : ℕ) → byte ∷ rest ≡ digits ++ suffix ∷ [] → number_rest d digits m → HasFactor suffix k → (rest ≡ []) × number_rest d [] m × HasFactor byte k
@@ -161,5 +159,12 @@ module _ (d : DecimalText) (byte : ℕ) (none : NoneBegins number_rest d byte) w
       let e = suffix_of rest h.count h.factor h.spelled in
       f n (record { count = h.count; factor = h.factor; counted = e.1; suffix_is = e.2; product = h.product; fits = h.fits })
 
-pub nothing_follows : (size byte : ℕ) → NoneBegins SizeRest (Whole size) byte
-nothing_follows size byte rest n h = let e = h.0 in absurd (cc)
+-- What a product that may not fit says of the size that the suffix ends.
+pub product_ends : (d : DecimalText) (byte m f : ℕ) (r : Option ℕ) → number_rest d [] m → HasFactor byte f → SomeIff r (m * f < 2 ^ 64) (m * f) →
+    MatchOption r ((size : ℕ) → EndsSize (number_rest d) byte size → ⊥) (λ size. EndsSize (number_rest d) byte size)
+product_ends d byte m f None h k e = λ size s. (
+    let same : s.count ≡ m = IsDecimalRest_one d.lo d.hi d.progress [] s.count m s.counted h in
+    let one : s.factor ≡ f = factor_one byte s.factor f s.suffix_is k in
+    let product : size ≡ m * f = s.product ∙ rw (same, one) refl in
+    e (omega (arith, s.fits, product)))
+product_ends d byte m f (Some size) h k e = record { count = m; factor = f; counted = h; suffix_is = k; product = e.1; fits = omega (arith, e.0, e.1) }

@@ -21,11 +21,6 @@ pub AreWordBytes_push : (xs : List ℕ) (c : ℕ) → AreWordBytes xs → IsWord
 AreWordBytes_push [] c h k = (k, tt)
 AreWordBytes_push (x ∷ xs) c h k = (h.0, AreWordBytes_push xs c h.1 k)
 
--- What a push that may fail leaves.
-pub AreWordBytes_pushed : (b : Bool) (xs ys : List ℕ) (c : ℕ) → ys ≡ cond b (xs ++ c ∷ []) xs → AreWordBytes xs → IsWordByte c → AreWordBytes ys
-AreWordBytes_pushed true xs ys c e h k = rw e (AreWordBytes_push xs c h k)
-AreWordBytes_pushed false xs ys c e h k = rw e h
-
 pub true_not_false : true ≡ false → ⊥
 true_not_false e = cc
 
@@ -72,10 +67,6 @@ IsWordFront_prop controller [] = Unit-prop
 IsWordFront_prop false (c ∷ cs) = IsWord_prop (c ∷ cs)
 IsWordFront_prop true (c ∷ cs) = ×_prop (IsNoSign_prop c) (IsWord_prop (c ∷ cs))
 
-front_bytes : (controller : Bool) (xs : List ℕ) → IsWordFront controller xs → AreWordBytes xs
-front_bytes controller [] h = tt
-front_bytes controller (c ∷ cs) h = (text_word controller (c ∷ cs) h).1
-
 pub front_text : (controller : Bool) (xs : List ℕ) → 0 < length xs → IsWordFront controller xs → IsWordText controller xs
 front_text controller [] some h = absurd (omega arith)
 front_text controller (c ∷ cs) some h = h
@@ -99,12 +90,6 @@ text_push controller (x ∷ xs) c f l = text_append controller (x ∷ xs) (c ∷
 pub front_pushed : (controller b : Bool) (xs ys : List ℕ) (c : ℕ) → ys ≡ cond b (xs ++ c ∷ []) xs → IsWordFront controller xs → Lengthens controller xs c → IsWordFront controller ys
 front_pushed controller true xs ys c e h l = rw e (text_front controller (xs ++ c ∷ []) (text_push controller xs c h l))
 front_pushed controller false xs ys c e h l = rw e h
-
--- What follows a byte that was taken.
-pub word_follows : (controller : Bool) (taken new : List ℕ) (c : ℕ) → new ≡ taken ++ c ∷ [] → (rest word : List ℕ) → IsWordRest controller new rest word ↔ IsWordRest controller taken (c ∷ rest) word
-word_follows controller taken new c e rest word =
-    let same : new ++ rest ≡ taken ++ c ∷ rest = rw e (append_assoc taken (c ∷ []) rest) in
-    (λ h. record { whole = h.whole ∙ same; is_word = h.is_word }, λ h. record { whole = h.whole ∙ sym same; is_word = h.is_word })
 
 lengthens_at : (controller : Bool) (taken : List ℕ) (c : ℕ) (rest : List ℕ) → IsWordText controller (taken ++ c ∷ rest) → Lengthens controller taken c
 lengthens_at controller [] c rest h = ((text_word controller (c ∷ rest) h).1.0, λ e _. no_sign c rest controller e h)

@@ -18,6 +18,8 @@ pub mod signed;
 pub mod size;
 pub mod token;
 pub mod trigger;
+#[cfg(test)]
+mod trial;
 pub mod values;
 pub mod word;
 

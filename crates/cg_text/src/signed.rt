@@ -165,3 +165,48 @@ impl Token for SignedText {
 
     ghost holds_bytes = { λ s. signed_bytes s.taken };
 }
+
+#[cfg(test)]
+mod tests {
+    use super::*;
+    use crate::trial::read;
+
+    #[test]
+    fn reads_niceness(rt: HostRuntime) {
+        let rows: [(&[u8], usize, Option<i64>); 9] = [
+            (b"-20", 3, Some(-20)),
+            (b"-1", 2, Some(-1)),
+            (b"0", 1, Some(0)),
+            (b"19", 2, Some(19)),
+            (b"-21", 2, None),
+            (b"-0", 1, None),
+            (b"20", 1, None),
+            (b"01", 1, None),
+            (b"-", 1, None),
+        ];
+        for (text, taken, value) in rows {
+            match SignedText::new(-20, 19) {
+                Some(token) => assert_eq!(rt; read(token, text), (taken, value)),
+                None => assert!(rt; false),
+            }
+        }
+    }
+
+    #[test]
+    fn reads_the_ends_of_the_range(rt: HostRuntime) {
+        let rows: [(i64, i64, &[u8], usize, Option<i64>); 5] = [
+            (i64::MIN, i64::MAX, b"-9223372036854775808", 20, Some(i64::MIN)),
+            (i64::MIN, i64::MAX, b"9223372036854775807", 19, Some(i64::MAX)),
+            (i64::MIN, i64::MAX, b"9223372036854775808", 18, None),
+            (3, 5, b"-3", 0, None),
+            (-5, -3, b"-4", 2, Some(-4)),
+        ];
+        for (lo, hi, text, taken, value) in rows {
+            match SignedText::new(lo, hi) {
+                Some(token) => assert_eq!(rt; read(token, text), (taken, value)),
+                None => assert!(rt; false),
+            }
+        }
+        assert!(rt; SignedText::new(1, 0).is_none());
+    }
+}

@@ -103,3 +103,44 @@ impl Token for WordText {
 
     ghost holds_bytes = { λ s rest v h. word_bytes s.controller s.bytes.items rest v h };
 }
+
+#[cfg(test)]
+mod tests {
+    use super::*;
+    use crate::key::KeyFault;
+    use crate::trial::read;
+
+    #[test]
+    fn reads_words(rt: HostRuntime) {
+        let rows: [(bool, &[u8], usize, bool); 8] = [
+            (false, b"cpu", 3, true),
+            (true, b"cpu", 3, true),
+            (true, b"c-+u", 4, true),
+            (true, b"+cpu", 0, false),
+            (true, b"-cpu", 0, false),
+            (false, b"+cpu", 4, true),
+            (false, b"a=b", 1, false),
+            (false, b"", 0, false),
+        ];
+        for (controller, text, taken, whole) in rows {
+            let (at, word) = read(WordText::new(rt.alloc(), controller), text);
+            assert_eq!(rt; at, taken);
+            match word {
+                Some(key) => assert!(rt; whole && key.bytes() == text),
+                None => assert!(rt; !whole),
+            }
+        }
+    }
+
+    #[test]
+    fn knows_its_word(rt: HostRuntime) -> Result<(), KeyFault> {
+        let key = Key::new(rt.alloc(), b"cp")?;
+        let mut token = WordText::new(rt.alloc(), true);
+        for (byte, is) in [(b'c', false), (b'p', true), (b'u', false)] {
+            assert!(rt; matches!(token.step(byte), Ok(true)));
+            assert_eq!(rt; token.is(&key), is);
+        }
+        assert_eq!(rt; token.held(), 3);
+        Ok(())
+    }
+}
