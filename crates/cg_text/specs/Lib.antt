@@ -18,6 +18,7 @@ pub mod NumberRest
 pub mod NumberRestLaws
 pub mod Numbers
 pub mod NumbersLaws
+pub mod NumeralLaws
 pub mod Raw
 pub mod RawLaws
 pub mod RawState
