@@ -156,6 +156,11 @@ word_longer controller taken front (rest, word, h) n =
     let whole : word ++ more ≡ taken ++ (front ++ (rest ++ more)) = rw h.whole (append_assoc taken (front ++ rest) more ∙ ap (λ x. taken ++ x) (append_assoc front rest more)) in
     (rest ++ more, word ++ more, record { whole = whole; is_word = text_append controller word more h.is_word (letters (suc n)) }, omega (arith, length-append word more, length_letters (suc n)))
 
+-- The sum of the lengths of words: a word that is longer is none of them.
+abbrev pub total_length : List (List ℕ) → ℕ
+total_length [] = 0
+total_length (word ∷ words) = length word + total_length words
+
 -- A word that is longer than n.
 pub word_above : (controller : Bool) (n : ℕ) → (text : List ℕ) × IsWordText controller text × (n < length text)
 word_above controller n =
