@@ -1,13 +1,13 @@
 -- What holds of words.
 use Rattle.std.proofs.lemmas.List.{take_more, append-nil}
-use Rattle.std.proofs.Common.{zero, suc, take, get_or, ◌≡◌, ℕ, ◌+◌, ◌≤◌, ◌<◌, ◌↔◌, ◌&&◌, Bool, true, false, cond, List, [], ◌∷◌, ◌++◌, length, refl, sym, ◌∙◌, ap, arith, append_assoc, length-append, IsTrue, nat_lt, nat_eq, ltb-true, lt-ltb, eqb-true, eq-eqb}
+use Rattle.std.proofs.Common.{zero, suc, take, get_or, ◌≡◌, ℕ, ◌+◌, ◌<◌, ◌↔◌, Bool, true, false, cond, List, [], ◌∷◌, ◌++◌, length, refl, sym, ◌∙◌, ap, arith, append_assoc, length-append, IsTrue, nat_lt, nat_eq, ltb-true, lt-ltb, eqb-true, eq-eqb}
 use Rattle.std.specs.Coded.{×_prop, Unit-prop}
 use Rattle.std.proofs.Props.{props}
 use Rattle.cg_text.specs.Token.{AreBytes}
 use Rattle.std.proofs.lemmas.Bool.{and_from, and_parts}
 use Rattle.std.proofs.lemmas.Cmp.{nat_list_eq_equiv}
 use Rattle.std.specs.Cmp.Lexicographic.{pointwise}
-use Rattle.cg_text.specs.Word.{AreWordBytes, IsWordByte, IsNoSign, IsWord, IsControllerWord, IsWordText}
+use Rattle.cg_text.specs.Word.{AreWordBytes, IsWordByte, IsNoSign, IsWord, IsWordText}
 use Rattle.cg_text.specs.WordState.{IsWordFront, Lengthens, IsWordRest, is_taken}
 
 IsWordByte_prop : (c : ℕ) → IsProp (IsWordByte c)
