@@ -15,12 +15,21 @@ pub mod KeywordLaws
 pub mod Limit
 pub mod LimitPairs
 pub mod List
+pub mod ListFacts
+pub mod NumberRest
+pub mod NumberRestLaws
 pub mod Numbers
 pub mod NumbersLaws
 pub mod NumeralLaws
 pub mod Raw
+pub mod RawLaws
+pub mod RawState
 pub mod Signed
+pub mod SignedLaws
+pub mod SignedState
 pub mod Size
+pub mod SizeLaws
+pub mod SizeState
 pub mod Texts
 pub mod TextsLaws
 pub mod Token
@@ -28,3 +37,4 @@ pub mod TokenLaws
 pub mod Trigger
 pub mod Word
 pub mod WordLaws
+pub mod WordState

@@ -4,6 +4,7 @@
 pub mod byte;
 pub mod bytes;
 pub mod decimal;
+mod digit;
 pub mod fixed;
 pub mod hundredths;
 pub mod items;
@@ -12,9 +13,16 @@ pub mod keyword;
 pub mod memory;
 pub mod numbers;
 pub mod pairs;
+pub mod raw;
+pub mod reason;
+pub mod signed;
+pub mod size;
 pub mod token;
+#[cfg(test)]
+mod trial;
 pub mod trigger;
 pub mod values;
+pub mod word;
 
 pub use byte::ByteText;
 pub use bytes::ByteSet;
@@ -27,6 +35,11 @@ pub use keyword::{Keyword, KeywordText};
 pub use memory::OutOfMemory;
 pub use numbers::NumberSet;
 pub use pairs::{LimitKey, LimitPairs};
+pub use raw::RawText;
+pub use reason::ReasonText;
+pub use signed::SignedText;
+pub use size::SizeText;
 pub use token::Token;
 pub use trigger::Times;
 pub use values::{Amount, Clamp, Device, Hundredths, Limit};
+pub use word::WordText;
