@@ -13,6 +13,11 @@ pub mod Key
 pub mod Limit
 pub mod LimitPairs
 pub mod List
+pub mod ListLaws
+pub mod ListState
+pub mod LooseLaws
+pub mod LooseSound
+pub mod LooseState
 pub mod Numbers
 pub mod NumbersLaws
 pub mod Raw
@@ -22,5 +27,7 @@ pub mod Texts
 pub mod Token
 pub mod TokenLaws
 pub mod Trigger
+pub mod TriggerLaws
+pub mod TriggerState
 pub mod Word
 pub mod WordLaws
