@@ -12,6 +12,8 @@ pub mod Hundredths
 pub mod Key
 pub mod Limit
 pub mod LimitPairs
+pub mod LimitPairsLaws
+pub mod LimitPairsState
 pub mod List
 pub mod ListLaws
 pub mod ListState

@@ -28,7 +28,7 @@ pub use list::StrictListText;
 pub use loose::LooseListText;
 pub use memory::OutOfMemory;
 pub use numbers::NumberSet;
-pub use pairs::{LimitKey, LimitPairs};
+pub use pairs::{LimitKey, LimitPairs, LimitPairsText};
 pub use token::Token;
 pub use trigger::{Times, TriggerText};
 pub use values::{Amount, Clamp, Device, Hundredths, Limit};
