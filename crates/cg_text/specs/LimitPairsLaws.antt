@@ -138,16 +138,7 @@ start_text : (key : LimitKey) (x : List ℕ) → key_start key ++ x ≡ key_text
 start_text key x = append_assoc (key_text key) (61 ∷ []) x
 
 -- A key that goes on with a byte.
-pub goes_on_to : (xs ys : List ℕ) (at b : ℕ) → at < length xs → get_or xs at 0 ≡ b → take at xs ≡ take at ys → take (suc at) xs ≡ take at ys ++ b ∷ []
-goes_on_to [] ys at b lt e h = absurd (omega arith)
-goes_on_to (x ∷ xs) ys zero b lt e h = ap (λ z. z ∷ []) e
-goes_on_to (x ∷ xs) [] (suc at) b lt e h = absurd (cc)
-goes_on_to (x ∷ xs) (y ∷ ys) (suc at) b lt e h =
-    let e0 : x ≡ y = heads x y (take at xs) (take at ys) h in
-    let more : take (suc at) xs ≡ take at ys ++ b ∷ [] = goes_on_to xs ys at b (omega arith) e (tails x y (take at xs) (take at ys) h) in
-    cc
-
-pub goes_on_from : (xs ys : List ℕ) (at b : ℕ) → at ≤ length ys → take (suc at) xs ≡ take at ys ++ b ∷ [] → (at < length xs) × (get_or xs at 0 ≡ b) × (take at xs ≡ take at ys)
+goes_on_from : (xs ys : List ℕ) (at b : ℕ) → at ≤ length ys → take (suc at) xs ≡ take at ys ++ b ∷ [] → (at < length xs) × (get_or xs at 0 ≡ b) × (take at xs ≡ take at ys)
 goes_on_from [] ys zero b le e = absurd (cc)
 goes_on_from (x ∷ xs) ys zero b le e = (omega arith, heads x b [] [] e, refl)
 goes_on_from xs [] (suc at) b le e = absurd (omega arith)

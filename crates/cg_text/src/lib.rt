@@ -13,6 +13,8 @@ pub mod loose;
 pub mod memory;
 pub mod numbers;
 pub mod pairs;
+#[cfg(test)]
+mod spelled;
 pub mod token;
 pub mod trigger;
 pub mod values;

@@ -219,3 +219,38 @@ impl Token for StrictListText {
 
     ghost holds_bytes = { λ s. list_bytes s.ranges.items s.most s.low (number_rest s.number) (number_digits s.number.lo s.number.hi s.number.progress) };
 }
+
+#[cfg(test)]
+mod tests {
+    use super::*;
+    use crate::spelled::{allowed, reach, value};
+    use std::test::Fail;
+
+    #[test]
+    fn strict_lists(rt: HostRuntime) -> Result<(), Fail> {
+        let alloc = rt.alloc();
+        let rows = [
+            (b"".as_slice(), 0, true),
+            (b"0-4,6,8-10".as_slice(), 10, true),
+            (b"65534,".as_slice(), 5, true),
+            (b"65533,65535".as_slice(), 11, true),
+            (b"65535-".as_slice(), 5, true),
+            (b"65534-65535".as_slice(), 11, true),
+            (b"0-3,4,".as_slice(), 5, false),
+            (b"3-3,".as_slice(), 3, false),
+            (b"6,0".as_slice(), 2, false),
+        ];
+        for (text, end, whole) in rows {
+            assert_eq!(rt; reach(StrictListText::new(alloc, 65535), text), (end, whole));
+        }
+        match value(StrictListText::new(alloc, 65535), b"0-4,6,8-10".as_slice()) {
+            Some(set) => {
+                assert_eq!(rt; set.len(), 9);
+                assert_eq!(rt; set.ranges(), [(0, 4), (6, 6), (8, 10)].as_slice());
+            }
+            None => assert!(rt; false),
+        }
+        assert_eq!(rt; allowed(alloc, StrictListText::new(alloc, 65535), b"65533".as_slice())?.as_slice(), b",-".as_slice());
+        Ok(())
+    }
+}

@@ -351,3 +351,34 @@ impl Token for LimitPairsText {
 
     ghost holds_bytes = { λ s. limits_bytes s.given s.part };
 }
+
+#[cfg(test)]
+mod tests {
+    use super::*;
+    use crate::spelled::{allowed, reach, value};
+    use std::test::Fail;
+
+    #[test]
+    fn limit_pairs(rt: HostRuntime) -> Result<(), Fail> {
+        let rows = [
+            (b"rbps=1".as_slice(), 6, true),
+            (b"wiops=max riops=120 wbps=1 rbps=max".as_slice(), 35, true),
+            (b"rbps=1 rb".as_slice(), 8, false),
+            (b"rbps=1 rbps=2".as_slice(), 8, false),
+            (b"rbps=0".as_slice(), 5, false),
+            (b"rbps=1  ".as_slice(), 7, false),
+            (b"rbps=max0".as_slice(), 8, true),
+            (b"wiops=18446744073709551616".as_slice(), 25, true),
+            (b"wiops=max riops=120 wbps=1 rbps=max ".as_slice(), 35, true),
+        ];
+        for (text, end, whole) in rows {
+            assert_eq!(rt; reach(LimitPairsText::new(), text), (end, whole));
+        }
+        assert_eq!(rt; value(LimitPairsText::new(), b"wbps=7 rbps=max".as_slice()), Some(LimitPairs { rbps: Some(Limit::Max), wbps: Some(Limit::At(7)), riops: None, wiops: None }));
+        assert_eq!(rt; value(LimitPairsText::new(), b"".as_slice()), None);
+        assert_eq!(rt; allowed(rt.alloc(), LimitPairsText::new(), b"".as_slice())?.as_slice(), b"rw".as_slice());
+        assert_eq!(rt; allowed(rt.alloc(), LimitPairsText::new(), b"rbps=1 r".as_slice())?.as_slice(), b"i".as_slice());
+        assert_eq!(rt; allowed(rt.alloc(), LimitPairsText::new(), b"rbps=1 riops=max ".as_slice())?.as_slice(), b"w".as_slice());
+        Ok(())
+    }
+}
