@@ -42,18 +42,25 @@ enum LooseTurn {
 
 /// Adds a range in the place of the last, which is not yet known.
 fn add_last(ranges: &mut Vec<(u32, u32)>, begin: u32, end: u32)
-    requires { 0 < length ranges.old.items }
+    requires some { 0 < length ranges.old.items }
+    requires order { begin ≤ end }
+    requires set { IsSet (front ranges.old.items) }
     ensures items { ranges.new.items ≡ inserted begin end (front ranges.old.items) }
     ensures room { vec_len ranges.old < vec_capacity ranges.old → vec_len ranges.new < vec_capacity ranges.new }
     ensures len { vec_len ranges.new ≤ vec_len ranges.old }
 {
     ranges.pop();
-    insert_into(ranges, begin, end);
+    match insert_into(ranges, begin, end) {
+        Ok(()) => {}
+        Err(_) => unreachable!(),
+    }
 }
 
 /// Adds a range, and begins another.
 fn close(ranges: &mut Vec<(u32, u32)>, begin: u32, end: u32) -> Result<(), OutOfMemory>
-    requires { 0 < length ranges.old.items }
+    requires some { 0 < length ranges.old.items }
+    requires order { begin ≤ end }
+    requires set { IsSet (front ranges.old.items) }
     ensures closed { OnOk result (ranges.new.items ≡ inserted begin end (front ranges.old.items) ++ (0, 0) ∷ []) }
     ensures len { vec_len ranges.new ≤ vec_len ranges.old + 1 }
     ensures same { OnErr result (ranges.new.items ≡ ranges.old.items) }
