@@ -1,11 +1,9 @@
 -- What holds of the pairs of a write of io.max.
-use Rattle.std.proofs.Common.{◌≡◌, ℕ, zero, suc, ◌+◌, ◌*◌, ◌≤◌, ◌<◌, ◌⊎◌, ◌↔◌, inl, inr, Bool, true, false, cond, ◌&&◌, leb, ltb, Option, Some, None, MatchOption, List, [], ◌∷◌, ◌++◌, length, take, drop, get_or, codes, refl, sym, ◌∙◌, ap, subst, arith, append_assoc, ltb-true, lt-ltb, leb-true, le-leb, length-append, IsTrue}
+use Rattle.std.proofs.Common.{◌≡◌, ℕ, zero, suc, ◌+◌, ◌*◌, ◌≤◌, ◌<◌, ◌⊎◌, ◌↔◌, inl, inr, Bool, true, false, cond, ◌&&◌, ltb, Option, Some, None, MatchOption, List, [], ◌∷◌, ◌++◌, length, take, drop, get_or, codes, refl, sym, ◌∙◌, ap, subst, arith, append_assoc, ltb-true, lt-ltb, leb-true, le-leb, length-append, IsTrue}
 use Rattle.std.proofs.lemmas.Bool.{and_from, and_parts}
 use Rattle.cg_text.specs.Token.{AreBytes, Follows, NoneBegins}
-use Rattle.cg_text.specs.TokenLaws.{bytes_append}
 use Rattle.cg_text.specs.Decimal.{AreDigits, IsDecimal}
-use Rattle.cg_text.specs.DecimalState.{IsDecimalRest, decimal_ends}
-use Rattle.cg_text.specs.DecimalLaws.{number_digits, digits_bytes, IsDecimalRest_completes, IsDecimalRest_one, decimal_ends_is}
+use Rattle.cg_text.specs.DecimalLaws.{number_digits, IsDecimalRest_completes, IsDecimalRest_one, decimal_ends_is}
 use Rattle.cg_text.specs.Limit.{IsLimit}
 use Rattle.cg_text.specs.LimitPairs.{key_text, IsLimitPair, AreLimitPairs, is_key, limit_of, HasDistinctKeys, AreLimits}
 use Rattle.cg_text.specs.ListState.{Cut, number_rest}
@@ -304,21 +302,28 @@ module _ (given : LimitPairs) (P P' : List ℕ → LimitKey × Limit → Type 0)
   pairs_taken_from : (ps : List (LimitKey × Limit)) (text : List ℕ) → PairsRest given P ps (byte ∷ text) → PairsRest given P' ps text
   pairs_taken_from [] text h = h
   pairs_taken_from (p ∷ ps) text h = cut_taken_to (λ x. P x p) (λ x. P' x p) (AfterPair (with_limit (p.0) (p.1) given) ps) byte text (λ x. (f x p).1)
-    (λ x k. not_space (after_space (with_limit (p.0) (p.1) given) ps byte x k)) h
+      (λ x k. not_space (after_space (with_limit (p.0) (p.1) given) ps byte x k)) h
 
 taken : (given : LimitPairs) (part next : PairPart) (byte : ℕ) → (byte ≡ 32 → ⊥) → is_live given next ≡ true → ((x : List ℕ) (p : LimitKey × Limit) → PairRest given next x p ↔ PairRest given part (byte ∷ x) p) → IsNextPart given part byte given next
-taken given part next byte not_space live f = (live, λ rest v. (
-  λ h. (h.0, h.1, pairs_taken_to given (PairRest given part) (PairRest given next) byte not_space f h.0 rest h.2),
-  λ h. (h.0, h.1, pairs_taken_from given (PairRest given part) (PairRest given next) byte not_space f h.0 rest h.2)))
+taken given part next byte not_space live f = (
+  live,
+  λ rest v. (
+    λ h. (h.0, h.1, pairs_taken_to given (PairRest given part) (PairRest given next) byte not_space f h.0 rest h.2),
+    λ h. (h.0, h.1, pairs_taken_from given (PairRest given part) (PairRest given next) byte not_space f h.0 rest h.2),
+  ),
+)
 
 begun : (given : LimitPairs) (P : List ℕ → LimitKey × Limit → Type 0) (ps : List (LimitKey × Limit)) (byte : ℕ) (text : List ℕ) → PairsRest given P ps (byte ∷ text) →
     (p : LimitKey × Limit) × (((x : List ℕ) × P (byte ∷ x) p) ⊎ (P [] p × (byte ≡ 32) × (k : LimitKey) × IsTrue (is_free k (with_limit (p.0) (p.1) given))))
 begun given P [] byte text h = absurd h
 begun given P (p ∷ []) byte text h = (p, elim (cut_begun (λ x. P x p) (λ x. P x p) (AfterPair (with_limit (p.0) (p.1) given) []) byte text h) [ inl k ↦ inl k | inr k ↦ absurd (let e = k.1 in cc) ])
-begun given P (p ∷ q ∷ ps) byte text h = (p, elim (cut_begun (λ x. P x p) (λ x. P x p) (AfterPair (with_limit (p.0) (p.1) given) (q ∷ ps)) byte text h) [
-  | inl k ↦ inl k
-  | inr k ↦ inr (k.0, heads byte 32 text k.1.0 k.1.1, q.0, k.1.2.3.0)
-])
+begun given P (p ∷ q ∷ ps) byte text h = (
+  p,
+  elim (cut_begun (λ x. P x p) (λ x. P x p) (AfterPair (with_limit (p.0) (p.1) given) (q ∷ ps)) byte text h) [
+    | inl k ↦ inl k
+    | inr k ↦ inr (k.0, heads byte 32 text k.1.0 k.1.1, q.0, k.1.2.3.0)
+  ],
+)
 
 -- A key, one byte further.
 new_pair_at : (given : LimitPairs) (p : LimitKey × Limit) (x y : List ℕ) → x ≡ y → IsNewPair given p x → IsNewPair given p y
@@ -337,11 +342,12 @@ key_byte given like key at byte g s =
 
 pub key_next : (given : LimitPairs) (like key : LimitKey) (at next byte : ℕ) → next ≡ suc at → next < length (key_start key) → GoesOn given like at byte key → IsNextPart given (InKey like at) byte given (InKey key next)
 key_next given like key at next byte e lt g = rw e (
-  taken given (InKey like at) (InKey key (suc at)) byte (key_byte given like key at byte g)
+    taken given (InKey like at) (InKey key (suc at)) byte (key_byte given like key at byte g)
     (and_from _ _ g.0 (lt-ltb (suc at) (length (key_start key)) (rw e at lt)))
-    (λ x p. (let same : take (suc at) (key_start key) ++ x ≡ take at (key_start like) ++ byte ∷ x = one_more (take at (key_start like)) (take (suc at) (key_start key)) x byte g.1 in
-      (new_pair_at given p (take (suc at) (key_start key) ++ x) (take at (key_start like) ++ byte ∷ x) same,
-       new_pair_at given p (take at (key_start like) ++ byte ∷ x) (take (suc at) (key_start key) ++ x) (sym same)))))
+    (λ x p. (let same : take (suc at) (key_start key) ++ x ≡ take at (key_start like) ++ byte ∷ x = one_more (take at (key_start like)) (take (suc at) (key_start key)) x byte g.1 in (
+      new_pair_at given p (take (suc at) (key_start key) ++ x) (take at (key_start like) ++ byte ∷ x) same,
+      new_pair_at given p (take at (key_start like) ++ byte ∷ x) (take (suc at) (key_start key) ++ x) (sym same),
+    ))))
 
 free_at : (given : LimitPairs) (j k : LimitKey) → j ≡ k → is_free k given ≡ true → is_free j given ≡ true
 free_at given j k e h = rw e h
@@ -353,9 +359,10 @@ pub key_whole : (given : LimitPairs) (like key : LimitKey) (at byte : ℕ) → l
 key_whole given like key at byte e g =
     let whole : key_start key ≡ take at (key_start like) ++ byte ∷ [] = sym (take_all (suc at) (key_start key) (omega (arith, e))) ∙ g.1 in
     taken given (InKey like at) (InLimit key Start) byte (key_byte given like key at byte g) g.0
-      (λ x p. (let same : take at (key_start like) ++ byte ∷ x ≡ key_start key ++ x = sym (one_more (take at (key_start like)) (key_start key) x byte whole) in (
-        λ h. (free_at given (p.0) key h.0 g.0, (x, start_at (p.0) key x (take at (key_start like) ++ byte ∷ x) h.0 same, h.1)),
-        λ h. (let s = start_split (p.0) key h.1.0 x (sym h.1.1 ∙ same ∙ start_text key x) in (s.0, rw s.1 at h.1.2)))))
+    (λ x p. (let same : take at (key_start like) ++ byte ∷ x ≡ key_start key ++ x = sym (one_more (take at (key_start like)) (key_start key) x byte whole) in (
+      λ h. (free_at given (p.0) key h.0 g.0, (x, start_at (p.0) key x (take at (key_start like) ++ byte ∷ x) h.0 same, h.1)),
+      λ h. (let s = start_split (p.0) key h.1.0 x (sym h.1.1 ∙ same ∙ start_text key x) in (s.0, rw s.1 at h.1.2)),
+    )))
 
 pub key_refuses : (given : LimitPairs) (like : LimitKey) (at byte : ℕ) → is_live given (InKey like at) ≡ true → ((key : LimitKey) → GoesOn given like at byte key → ⊥) → (rest : List ℕ) (v : LimitPairs) → LimitsRest given (InKey like at) (byte ∷ rest) v → ⊥
 key_refuses given like at byte live none rest v h =
@@ -416,10 +423,13 @@ close_from given key next part limit value (p ∷ ps) rest v e h = elim (cut_beg
 ]
 
 pub close_next : (given all : LimitPairs) (key next : LimitKey) (part : LimitPart) (limit : Limit) → all ≡ with_limit key limit given → LimitRest part [] limit → is_free next all ≡ true → IsNextPart given (InLimit key part) 32 all (InKey next 0)
-close_next given all key next part limit e value free =
-    (and_from _ _ free (start_some next), λ rest v. rw e (
-      λ h. ((key, limit) ∷ h.0, h.1, ([], 32 ∷ rest, refl, (refl, value), (after_more (with_limit key limit given) next h.0 rest).1 h.2)),
-      λ h. close_from given key next part limit value h.0 rest v h.1 h.2))
+close_next given all key next part limit e value free = (
+  and_from _ _ free (start_some next),
+  λ rest v. rw e (
+    λ h. ((key, limit) ∷ h.0, h.1, ([], 32 ∷ rest, refl, (refl, value), (after_more (with_limit key limit given) next h.0 rest).1 h.2)),
+    λ h. close_from given key next part limit value h.0 rest v h.1 h.2,
+  ),
+)
 
 -- Every state can be completed.
 take_drop : (k : ℕ) (xs : List ℕ) → take k xs ++ drop k xs ≡ xs
@@ -670,26 +680,26 @@ each_same v w e f g h = limits_same v.rbps v.wbps v.riops v.wiops w.rbps w.wbps 
 pub limits_new : (text : List ℕ) (v : LimitPairs) → LimitsRest no_limits (InKey Rbps 0) text v ↔ AreLimits v text
 limits_new text v = (
   λ h. (
-    let t = texts_to no_limits h.0 text h.2 in
-    let field : (k : LimitKey) → limit_at k v ≡ or_else (limit_of k h.0) (limit_at k no_limits) = λ k. ap (limit_at k) h.1 ∙ given_at k h.0 no_limits t.1 in
-    record {
-      pairs = h.0;
-      spelled = t.0;
-      distinct = t.1;
-      rbps = field Rbps ∙ or_none (limit_of Rbps h.0);
-      wbps = field Wbps ∙ or_none (limit_of Wbps h.0);
-      riops = field Riops ∙ or_none (limit_of Riops h.0);
-      wiops = field Wiops ∙ or_none (limit_of Wiops h.0);
-    }),
+      let t = texts_to no_limits h.0 text h.2 in
+      let field : (k : LimitKey) → limit_at k v ≡ or_else (limit_of k h.0) (limit_at k no_limits) = λ k. ap (limit_at k) h.1 ∙ given_at k h.0 no_limits t.1 in
+      record {
+        pairs = h.0;
+        spelled = t.0;
+        distinct = t.1;
+        rbps = field Rbps ∙ or_none (limit_of Rbps h.0);
+        wbps = field Wbps ∙ or_none (limit_of Wbps h.0);
+        riops = field Riops ∙ or_none (limit_of Riops h.0);
+        wiops = field Wiops ∙ or_none (limit_of Wiops h.0);
+      }),
   λ h. (
-    let w : LimitPairs = with_pairs no_limits h.pairs in
-    let field : (k : LimitKey) → limit_at k w ≡ or_else (limit_of k h.pairs) (limit_at k no_limits) = λ k. given_at k h.pairs no_limits h.distinct in
-    let same : v ≡ w = each_same v w
+      let w : LimitPairs = with_pairs no_limits h.pairs in
+      let field : (k : LimitKey) → limit_at k w ≡ or_else (limit_of k h.pairs) (limit_at k no_limits) = λ k. given_at k h.pairs no_limits h.distinct in
+      let same : v ≡ w = each_same v w
       (h.rbps ∙ sym (field Rbps ∙ or_none (limit_of Rbps h.pairs)))
       (h.wbps ∙ sym (field Wbps ∙ or_none (limit_of Wbps h.pairs)))
       (h.riops ∙ sym (field Riops ∙ or_none (limit_of Riops h.pairs)))
       (h.wiops ∙ sym (field Wiops ∙ or_none (limit_of Wiops h.pairs))) in
-    (h.pairs, same, texts_from no_limits h.pairs text h.spelled h.distinct (all_free h.pairs))),
+      (h.pairs, same, texts_from no_limits h.pairs text h.spelled h.distinct (all_free h.pairs))),
 )
 
 pub goes_on_within : (given : LimitPairs) (like key : LimitKey) (at byte : ℕ) → is_live given (InKey like at) ≡ true → GoesOn given like at byte key → at < length (key_start key)

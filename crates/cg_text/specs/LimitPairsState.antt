@@ -1,10 +1,9 @@
 -- What is left of the pairs of a write of io.max.
-use Rattle.std.specs.Prelude.{◌≡◌, ℕ, suc, ◌↔◌, Bool, true, false, ◌&&◌, leb, ltb, List, [], ◌∷◌, ◌++◌, Option, Some, None, codes, length, take, drop, IsTrue, IsFalse}
+use Rattle.std.specs.Prelude.{◌≡◌, ℕ, suc, ◌↔◌, Bool, true, false, ◌&&◌, leb, ltb, List, [], ◌∷◌, ◌++◌, Option, Some, None, codes, length, take, drop, IsTrue}
 use Rattle.cg_text.specs.Limit.{IsLimit}
 use Rattle.cg_text.specs.LimitPairs.{key_text, IsLimitPair}
 use Rattle.cg_text.specs.ListState.{Cut, number_rest}
 use Rattle.cg_text.specs.DecimalState.{decimal_ends}
-use Rattle.cg_text.specs.declared.decimal.DecimalText.{DecimalText}
 use Rattle.cg_text.specs.declared.values.Limit.{Limit}
 use Rattle.cg_text.specs.declared.values.Limit.TheVariants.{Max, At}
 use Rattle.cg_text.specs.declared.pairs.LimitKey.{LimitKey}

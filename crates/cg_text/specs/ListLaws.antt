@@ -1,23 +1,19 @@
 -- What holds of lists of numbers and ranges.
 use Rattle.std.proofs.Common.{◌≡◌, ℕ, zero, suc, ◌+◌, ◌-◌, ◌≤◌, ◌<◌, ◌⊎◌, ◌↔◌, inl, inr, Bool, true, false, ◌||◌, nat_eq, Option, Some, None, List, [], ◌∷◌, ◌++◌, length, refl, sym, ◌∙◌, ap, arith, append_assoc, eqb-true, eq-eqb, IsTrue}
 use Rattle.std.proofs.Math.ListN.{set, take}
-use Rattle.std.specs.Coded.{×_prop, Unit-prop}
+use Rattle.std.specs.Coded.{Unit-prop}
 use Rattle.std.proofs.Props.{props}
-use native.Mathlib.Decide.{dec_le}
-use Prim.{yes, no}
 use Rattle.cg_text.specs.Token.{AreBytes}
 use Rattle.cg_text.specs.TokenLaws.{bytes_append}
-use Rattle.cg_text.specs.Decimal.{AreDigits, IsNumeral, IsDecimal}
-use Rattle.cg_text.specs.DecimalState.{IsDecimalRest, decimal_ends}
-use Rattle.cg_text.specs.DecimalLaws.{number_digits, digits_bytes, IsDecimalRest_completes, IsDecimalRest_one, decimal_ends_is}
+use Rattle.cg_text.specs.Decimal.{AreDigits, IsDecimal}
+use Rattle.cg_text.specs.DecimalLaws.{number_digits, digits_bytes, IsDecimalRest_completes, IsDecimalRest_one}
 use Rattle.cg_text.specs.Numbers.{IsSetFrom, IsSet}
 use Rattle.cg_text.specs.List.{IsRangeText, AreRangeTexts, IsStrictList}
 use Rattle.cg_text.specs.ListState.{front, Cut, LowRest, AfterRange, RangesRest, IsListRest, begin_of, IsSound, Begun, number_rest, IsTurn}
 use Rattle.cg_text.specs.declared.list.Turn.{Turn}
 use Rattle.cg_text.specs.declared.list.Turn.TheVariants.{Digit, Dash, Comma, Refused}
 use Rattle.cg_text.specs.declared.decimal.DecimalText.{DecimalText}
-use Rattle.cg_text.specs.declared.decimal.Progress.{Progress}
-use Rattle.cg_text.specs.declared.decimal.Progress.TheVariants.{Start, Zero, Number}
+use Rattle.cg_text.specs.declared.decimal.Progress.TheVariants.{Start}
 
 pub true_not_false : true ≡ false → ⊥
 true_not_false e = cc
@@ -170,15 +166,23 @@ module _ (most n : ℕ) (P : List ℕ → ℕ → Type 0) (ended : P [] n) (one 
   list_comma P' f items new low e fresh rest all =
       let done : front new ≡ front items ++ (begin_of low n, n) ∷ [] = ap front e ∙ front_push (front items ++ (begin_of low n, n) ∷ []) (0, 0) in
       rw done (
-        λ h. ((begin_of low n, n) ∷ h.0, h.1 ∙ append_assoc (front items) ((begin_of low n, n) ∷ []) h.0, elim h.2 [
-          | inl k ↦ inl (ranges_comma_from low h.0 rest (ranges_same most P' (λ x m. IsDecimal (n + 2) most m x) (λ x m. (f x m).0) None h.0 rest k))
-          | inr k ↦ absurd (length_pushed (front items ++ (begin_of low n, n) ∷ []) (0, 0) new e k.0)
-        ]),
+        λ h. (
+          (begin_of low n, n) ∷ h.0,
+          h.1 ∙ append_assoc (front items) ((begin_of low n, n) ∷ []) h.0,
+          elim h.2 [
+            | inl k ↦ inl (ranges_comma_from low h.0 rest (ranges_same most P' (λ x m. IsDecimal (n + 2) most m x) (λ x m. (f x m).0) None h.0 rest k))
+            | inr k ↦ absurd (length_pushed (front items ++ (begin_of low n, n) ∷ []) (0, 0) new e k.0)
+          ],
+        ),
         λ h. elim h.2 [
-          | inl k ↦ (let t = ranges_comma_to low h.0 rest k in (t.0, h.1 ∙ ap (λ x. front items ++ x) t.1 ∙ sym (append_assoc (front items) ((begin_of low n, n) ∷ []) t.0),
-              inl (ranges_same most (λ x m. IsDecimal (n + 2) most m x) P' (λ x m. (f x m).1) None t.0 rest t.2)))
+          | inl k ↦ (let t = ranges_comma_to low h.0 rest k in (
+            t.0,
+            h.1 ∙ ap (λ x. front items ++ x) t.1 ∙ sym (append_assoc (front items) ((begin_of low n, n) ∷ []) t.0),
+            inl (ranges_same most (λ x m. IsDecimal (n + 2) most m x) P' (λ x m. (f x m).1) None t.0 rest t.2),
+          ))
           | inr k ↦ absurd (let q = k.2 in cc)
-        ])
+        ],
+      )
 
   ranges_dash_to : (rs : List (ℕ × ℕ)) (text : List ℕ) → RangesRest most None P rs (45 ∷ text) → RangesRest most (Some n) (λ x m. IsDecimal (n + 1) most m x) rs text
   ranges_dash_to [] text h = absurd h
@@ -197,14 +201,22 @@ module _ (most n : ℕ) (P : List ℕ → ℕ → Type 0) (ended : P [] n) (one 
   pub list_dash : (P' : List ℕ → ℕ → Type 0) → ((x : List ℕ) (m : ℕ) → P' x m ↔ IsDecimal (n + 1) most m x) → (items : List (ℕ × ℕ)) → (length items ≡ 0 → (m : ℕ) → P [] m → ⊥) →
       (rest : List ℕ) (all : List (ℕ × ℕ)) → IsListRest items most (Some n) P' rest all ↔ IsListRest items most None P (45 ∷ rest) all
   list_dash P' f items fresh rest all = (
-    λ h. (h.0, h.1, elim h.2 [
-      | inl k ↦ inl (ranges_dash_from h.0 rest (ranges_same most P' (λ x m. IsDecimal (n + 1) most m x) (λ x m. (f x m).0) (Some n) h.0 rest k))
-      | inr k ↦ absurd (fresh k.0 n ended)
-    ]),
-    λ h. (h.0, h.1, elim h.2 [
-      | inl k ↦ inl (ranges_same most (λ x m. IsDecimal (n + 1) most m x) P' (λ x m. (f x m).1) (Some n) h.0 rest (ranges_dash_to h.0 rest k))
-      | inr k ↦ absurd (let q = k.2 in cc)
-    ]),
+    λ h. (
+      h.0,
+      h.1,
+      elim h.2 [
+        | inl k ↦ inl (ranges_dash_from h.0 rest (ranges_same most P' (λ x m. IsDecimal (n + 1) most m x) (λ x m. (f x m).0) (Some n) h.0 rest k))
+        | inr k ↦ absurd (fresh k.0 n ended)
+      ],
+    ),
+    λ h. (
+      h.0,
+      h.1,
+      elim h.2 [
+        | inl k ↦ inl (ranges_same most (λ x m. IsDecimal (n + 1) most m x) P' (λ x m. (f x m).1) (Some n) h.0 rest (ranges_dash_to h.0 rest k))
+        | inr k ↦ absurd (let q = k.2 in cc)
+      ],
+    ),
   )
 
 -- How a byte begins a rest.
@@ -402,15 +414,25 @@ RangeThen most N least r text = (least ≤ r.0) × (r.0 ≤ r.1) × (x : List �
 low_then : (most : ℕ) (N : List ℕ → Type 0) (least : ℕ) (r : ℕ × ℕ) (text : List ℕ) → LowRest most (λ x n. IsDecimal least most n x) N r text → RangeThen most N least r text
 low_then most N least r text (x, more, e, d, inl h) = (d.0, omega (arith, h.0), x, more, e, inl (h.0, decimal_any least most (r.0) x d), h.1)
 low_then most N least r text (x, more, e, d, inr h) =
-    let c = h.2 in
-    (d.0, omega (arith, c.3.0), x ++ 45 ∷ c.0, c.1, e ∙ ap (λ y. x ++ y) (h.1 ∙ ap (λ y. 45 ∷ y) c.2) ∙ sym (append_assoc x (45 ∷ c.0) c.1),
-      inr (omega (arith, c.3.0), x, c.0, refl, decimal_any least most (r.0) x d, decimal_any (r.0 + 1) most (r.1) c.0 c.3), c.4)
+    let c = h.2 in (
+      d.0,
+      omega (arith, c.3.0),
+      x ++ 45 ∷ c.0,
+      c.1,
+      e ∙ ap (λ y. x ++ y) (h.1 ∙ ap (λ y. 45 ∷ y) c.2) ∙ sym (append_assoc x (45 ∷ c.0) c.1),
+      inr (omega (arith, c.3.0), x, c.0, refl, decimal_any least most (r.0) x d, decimal_any (r.0 + 1) most (r.1) c.0 c.3),
+      c.4,
+    )
 
 then_low : (most : ℕ) (N : List ℕ → Type 0) (least : ℕ) (r : ℕ × ℕ) (text : List ℕ) → RangeThen most N least r text → LowRest most (λ x n. IsDecimal least most n x) N r text
 then_low most N least r text (a, b, x, more, e, inl h, n) = (x, more, e, decimal_from least most (r.0) x h.1 a, inl (h.0, n))
-then_low most N least r text (a, b, x, more, e, inr h, n) =
-    (h.1, 45 ∷ (h.2 ++ more), e ∙ ap (λ y. y ++ more) h.3 ∙ append_assoc h.1 (45 ∷ h.2) more, decimal_from least most (r.0) h.1 h.4 a,
-      inr (h.2 ++ more, refl, (h.2, more, refl, decimal_from (r.0 + 1) most (r.1) h.2 h.5 (omega (arith, h.0)), n)))
+then_low most N least r text (a, b, x, more, e, inr h, n) = (
+  h.1,
+  45 ∷ (h.2 ++ more),
+  e ∙ ap (λ y. y ++ more) h.3 ∙ append_assoc h.1 (45 ∷ h.2) more,
+  decimal_from least most (r.0) h.1 h.4 a,
+  inr (h.2 ++ more, refl, (h.2, more, refl, decimal_from (r.0 + 1) most (r.1) h.2 h.5 (omega (arith, h.0)), n)),
+)
 
 texts_to : (most least : ℕ) (rs : List (ℕ × ℕ)) (text : List ℕ) → RangesRest most None (λ x n. IsDecimal least most n x) rs text → IsSetFrom least rs × AreRangeTexts most rs text
 texts_to most least [] text h = absurd h

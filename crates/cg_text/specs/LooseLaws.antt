@@ -1,36 +1,38 @@
--- What holds of lists of numbers and ranges.
-use Rattle.std.proofs.Common.{◌≡◌, ℕ, zero, suc, ◌+◌, ◌-◌, ◌≤◌, ◌<◌, ◌⊎◌, ◌↔◌, inl, inr, Bool, true, false, ◌||◌, nat_eq, Option, Some, None, List, [], ◌∷◌, ◌++◌, length, refl, sym, ◌∙◌, ap, arith, append_assoc, eqb-true, eq-eqb, IsTrue}
+-- What holds of lists of ranges in any order.
+use Rattle.std.proofs.Common.{◌≡◌, ℕ, ◌≤◌, ◌<◌, ◌⊎◌, ◌↔◌, inl, inr, Bool, ◌||◌, nat_eq, Option, Some, None, List, [], ◌∷◌, ◌++◌, length, refl, sym, ◌∙◌, ap, arith, append_assoc, IsTrue}
 use Rattle.std.proofs.Math.ListN.{set}
-use Rattle.std.specs.Coded.{×_prop, Unit-prop}
-use Rattle.std.proofs.Props.{props}
-use native.Mathlib.Decide.{dec_le}
-use Prim.{yes, no}
 use Rattle.cg_text.specs.Token.{AreBytes}
-use Rattle.cg_text.specs.TokenLaws.{bytes_append}
-use Rattle.cg_text.specs.Decimal.{AreDigits, IsNumeral, IsDecimal}
-use Rattle.cg_text.specs.DecimalState.{IsDecimalRest, decimal_ends}
-use Rattle.cg_text.specs.DecimalLaws.{number_digits, digits_bytes, IsDecimalRest_completes, IsDecimalRest_one, decimal_ends_is}
-use Rattle.cg_text.specs.Numbers.{IsSetFrom, IsSet, Has}
+use Rattle.cg_text.specs.Decimal.{AreDigits, IsDecimal}
+use Rattle.cg_text.specs.DecimalLaws.{digits_bytes, IsDecimalRest_completes, IsDecimalRest_one}
+use Rattle.cg_text.specs.Numbers.{IsSet, Has}
 use Rattle.cg_text.specs.List.{IsLooseRangeText, AreLooseTexts, IsLooseList}
 use Rattle.cg_text.specs.ListState.{front, Cut, begin_of, number_rest}
 use Rattle.cg_text.specs.LooseState.{LowRest, AfterRange, RangesRest, IsLooseRest, Adds, IsSound, Begun, IsLooseTurn}
 use Rattle.cg_text.specs.NumbersLaws.{inserted, inserted_set, inserted_has, same_ranges}
-use Rattle.cg_text.specs.ListLaws.{true_not_false, front_push, cut_taken_from, cut_taken_to, cut_begun, cut_nil, heads, tails, not_zero, pair_of, append_nil, length_pushed, IsStopped, split_one, decimal_digits, some_decimal, cut_bytes, decimal_from, decimal_any}
+use Rattle.cg_text.specs.ListLaws.{front_push, cut_taken_from, cut_taken_to, cut_begun, cut_nil, heads, tails, not_zero, pair_of, append_nil, length_pushed, IsStopped, split_one, decimal_digits, some_decimal, cut_bytes, decimal_from, decimal_any}
 use Rattle.cg_text.specs.declared.loose.LooseTurn.{LooseTurn}
 use Rattle.cg_text.specs.declared.loose.LooseTurn.TheVariants.{Digit, Dash, Comma, Refused}
 use Rattle.cg_text.specs.declared.decimal.DecimalText.{DecimalText}
-use Rattle.cg_text.specs.declared.decimal.Progress.{Progress}
-use Rattle.cg_text.specs.declared.decimal.Progress.TheVariants.{Start, Zero, Number}
+use Rattle.cg_text.specs.declared.decimal.Progress.TheVariants.{Start}
 
 -- Ranges are added.
 added_one : (xs : List (ℕ × ℕ)) (a b : ℕ) (us all : List (ℕ × ℕ)) → IsSet xs → a ≤ b → Adds (inserted a b xs) us all ↔ Adds xs ((a, b) ∷ us) all
 added_one xs a b us all s le = (
-  λ h. (h.0, λ n. (let i = inserted_has 0 a b n xs s le in (
-    λ k. elim ((h.1 n).0 k) [ inl z ↦ elim (i.0 z) [ inl w ↦ inl w | inr w ↦ inr (inl w) ] | inr z ↦ inr (inr z) ],
-    λ k. elim k [ inl z ↦ (h.1 n).1 (inl (i.1 (inl z))) | inr z ↦ elim z [ inl w ↦ (h.1 n).1 (inl (i.1 (inr w))) | inr w ↦ (h.1 n).1 (inr w) ] ]))),
-  λ h. (h.0, λ n. (let i = inserted_has 0 a b n xs s le in (
-    λ k. elim ((h.1 n).0 k) [ inl z ↦ inl (i.1 (inl z)) | inr z ↦ elim z [ inl w ↦ inl (i.1 (inr w)) | inr w ↦ inr w ] ],
-    λ k. elim k [ inl z ↦ elim (i.0 z) [ inl w ↦ (h.1 n).1 (inl w) | inr w ↦ (h.1 n).1 (inr (inl w)) ] | inr z ↦ (h.1 n).1 (inr (inr z)) ]))))
+  λ h. (
+    h.0,
+    λ n. (let i = inserted_has 0 a b n xs s le in (
+      λ k. elim ((h.1 n).0 k) [ inl z ↦ elim (i.0 z) [ inl w ↦ inl w | inr w ↦ inr (inl w) ] | inr z ↦ inr (inr z) ],
+      λ k. elim k [ inl z ↦ (h.1 n).1 (inl (i.1 (inl z))) | inr z ↦ elim z [ inl w ↦ (h.1 n).1 (inl (i.1 (inr w))) | inr w ↦ (h.1 n).1 (inr w) ] ],
+    )),
+  ),
+  λ h. (
+    h.0,
+    λ n. (let i = inserted_has 0 a b n xs s le in (
+      λ k. elim ((h.1 n).0 k) [ inl z ↦ inl (i.1 (inl z)) | inr z ↦ elim z [ inl w ↦ inl (i.1 (inr w)) | inr w ↦ inr w ] ],
+      λ k. elim k [ inl z ↦ elim (i.0 z) [ inl w ↦ (h.1 n).1 (inl w) | inr w ↦ (h.1 n).1 (inr (inl w)) ] | inr z ↦ (h.1 n).1 (inr (inr z)) ],
+    )),
+  ),
+)
 
 adds_none : (xs : List (ℕ × ℕ)) → IsSet xs → Adds xs [] xs
 adds_none xs s = (s, λ n. (λ h. inl h, λ h. elim h [ inl z ↦ z | inr z ↦ absurd z ]))
@@ -123,15 +125,23 @@ module _ (most n : ℕ) (P : List ℕ → ℕ → Type 0) (ended : P [] n) (one 
   list_comma P' f items new low set le e rest all =
       let done : front new ≡ inserted (begin_of low n) n (front items) = ap front e ∙ front_push (inserted (begin_of low n) n (front items)) (0, 0) in
       rw done (
-        λ h. ((begin_of low n, n) ∷ h.0, (added_one (front items) (begin_of low n) n h.0 all set le).0 h.1, elim h.2 [
-          | inl k ↦ inl (ranges_comma_from low h.0 rest (ranges_same most P' (λ x m. IsDecimal 0 most m x) (λ x m. (f x m).0) None h.0 rest k))
-          | inr k ↦ absurd (length_pushed (inserted (begin_of low n) n (front items)) (0, 0) new e k.0)
-        ]),
+        λ h. (
+          (begin_of low n, n) ∷ h.0,
+          (added_one (front items) (begin_of low n) n h.0 all set le).0 h.1,
+          elim h.2 [
+            | inl k ↦ inl (ranges_comma_from low h.0 rest (ranges_same most P' (λ x m. IsDecimal 0 most m x) (λ x m. (f x m).0) None h.0 rest k))
+            | inr k ↦ absurd (length_pushed (inserted (begin_of low n) n (front items)) (0, 0) new e k.0)
+          ],
+        ),
         λ h. elim h.2 [
-          | inl k ↦ (let t = ranges_comma_to low h.0 rest k in (t.0, (added_one (front items) (begin_of low n) n t.0 all set le).1 (rw t.1 at h.1),
-              inl (ranges_same most (λ x m. IsDecimal 0 most m x) P' (λ x m. (f x m).1) None t.0 rest t.2)))
+          | inl k ↦ (let t = ranges_comma_to low h.0 rest k in (
+            t.0,
+            (added_one (front items) (begin_of low n) n t.0 all set le).1 (rw t.1 at h.1),
+            inl (ranges_same most (λ x m. IsDecimal 0 most m x) P' (λ x m. (f x m).1) None t.0 rest t.2),
+          ))
           | inr k ↦ absurd (let q = k.2 in cc)
-        ])
+        ],
+      )
 
   ranges_dash_to : (rs : List (ℕ × ℕ)) (text : List ℕ) → RangesRest most None P rs (45 ∷ text) → RangesRest most (Some n) (λ x m. IsDecimal n most m x) rs text
   ranges_dash_to [] text h = absurd h
@@ -150,14 +160,22 @@ module _ (most n : ℕ) (P : List ℕ → ℕ → Type 0) (ended : P [] n) (one 
   pub list_dash : (P' : List ℕ → ℕ → Type 0) → ((x : List ℕ) (m : ℕ) → P' x m ↔ IsDecimal n most m x) → (items : List (ℕ × ℕ)) → (length items ≡ 0 → (m : ℕ) → P [] m → ⊥) →
       (rest : List ℕ) (all : List (ℕ × ℕ)) → IsLooseRest items most (Some n) P' rest all ↔ IsLooseRest items most None P (45 ∷ rest) all
   list_dash P' f items fresh rest all = (
-    λ h. (h.0, h.1, elim h.2 [
-      | inl k ↦ inl (ranges_dash_from h.0 rest (ranges_same most P' (λ x m. IsDecimal n most m x) (λ x m. (f x m).0) (Some n) h.0 rest k))
-      | inr k ↦ absurd (fresh k.0 n ended)
-    ]),
-    λ h. (h.0, h.1, elim h.2 [
-      | inl k ↦ inl (ranges_same most (λ x m. IsDecimal n most m x) P' (λ x m. (f x m).1) (Some n) h.0 rest (ranges_dash_to h.0 rest k))
-      | inr k ↦ absurd (let q = k.2 in cc)
-    ]),
+    λ h. (
+      h.0,
+      h.1,
+      elim h.2 [
+        | inl k ↦ inl (ranges_dash_from h.0 rest (ranges_same most P' (λ x m. IsDecimal n most m x) (λ x m. (f x m).0) (Some n) h.0 rest k))
+        | inr k ↦ absurd (fresh k.0 n ended)
+      ],
+    ),
+    λ h. (
+      h.0,
+      h.1,
+      elim h.2 [
+        | inl k ↦ inl (ranges_same most (λ x m. IsDecimal n most m x) P' (λ x m. (f x m).1) (Some n) h.0 rest (ranges_dash_to h.0 rest k))
+        | inr k ↦ absurd (let q = k.2 in cc)
+      ],
+    ),
   )
 
 -- How a byte begins a rest.
@@ -301,13 +319,25 @@ module _ (most : ℕ) (P : List ℕ → ℕ → Type 0) (digits : (x : List ℕ)
 pub begun_list : (items : List (ℕ × ℕ)) (most : ℕ) (low : Option ℕ) (P : List ℕ → ℕ → Type 0) (byte : ℕ) → IsSet (front items) → IsSound most low P → Begun most low P byte → (rest : List ℕ) × (all : List (ℕ × ℕ)) × IsLooseRest items most low P (byte ∷ rest) all
 begun_list items most low P byte s o (inl h) = (h.0, inserted (begin_of low h.1) h.1 (front items), ((begin_of low h.1, h.1) ∷ [], adds_one (front items) (begin_of low h.1) h.1 s (o (byte ∷ h.0) h.1 h.2).1, inl (ranges_complete most low P (byte ∷ h.0) h.1 h.2)))
 begun_list items most None P byte s o (inr (inl h)) =
-    let t = some_decimal 0 most (omega arith) in
-    (t.0, inserted most most (inserted h.1 h.1 (front items)), ((h.1, h.1) ∷ (most, most) ∷ [], adds_two (front items) h.1 h.1 most most s (omega arith) (omega arith),
-      inl ([], byte ∷ t.0, refl, h.2, inl (refl, (t.0, ap (λ x. x ∷ t.0) h.0, (t.0, [], sym (append_nil t.0), t.1, inl (refl, refl)))))))
+    let t = some_decimal 0 most (omega arith) in (
+      t.0,
+      inserted most most (inserted h.1 h.1 (front items)),
+      (
+        (h.1, h.1) ∷ (most, most) ∷ [],
+        adds_two (front items) h.1 h.1 most most s (omega arith) (omega arith),
+        inl ([], byte ∷ t.0, refl, h.2, inl (refl, (t.0, ap (λ x. x ∷ t.0) h.0, (t.0, [], sym (append_nil t.0), t.1, inl (refl, refl))))),
+      ),
+    )
 begun_list items most (Some a) P byte s o (inr (inl h)) =
-    let t = some_decimal 0 most (omega arith) in
-    (t.0, inserted most most (inserted a h.1 (front items)), ((a, h.1) ∷ (most, most) ∷ [], adds_two (front items) a h.1 most most s (o [] h.1 h.2).1 (omega arith),
-      inl (refl, ([], byte ∷ t.0, refl, h.2, (t.0, ap (λ x. x ∷ t.0) h.0, (t.0, [], sym (append_nil t.0), t.1, inl (refl, refl)))))))
+    let t = some_decimal 0 most (omega arith) in (
+      t.0,
+      inserted most most (inserted a h.1 (front items)),
+      (
+        (a, h.1) ∷ (most, most) ∷ [],
+        adds_two (front items) a h.1 most most s (o [] h.1 h.2).1 (omega arith),
+        inl (refl, ([], byte ∷ t.0, refl, h.2, (t.0, ap (λ x. x ∷ t.0) h.0, (t.0, [], sym (append_nil t.0), t.1, inl (refl, refl))))),
+      ),
+    )
 begun_list items most None P byte s o (inr (inr h)) =
     let t = some_decimal h.2 most h.4 in
     (t.0, inserted h.2 most (front items), ((h.2, most) ∷ [], adds_one (front items) h.2 most s h.4, inl ([], byte ∷ t.0, refl, h.3, inr (t.0, ap (λ x. x ∷ t.0) h.0, (t.0, [], sym (append_nil t.0), t.1, refl)))))
@@ -320,15 +350,23 @@ RangeThen most N r text = (x : List ℕ) × (more : List ℕ) × (text ≡ x ++ 
 low_then : (most : ℕ) (N : List ℕ → Type 0) (r : ℕ × ℕ) (text : List ℕ) → LowRest most (λ x n. IsDecimal 0 most n x) N r text → RangeThen most N r text
 low_then most N r text (x, more, e, d, inl h) = (x, more, e, inl (h.0, d), h.1)
 low_then most N r text (x, more, e, d, inr h) =
-    let c = h.2 in
-    (x ++ 45 ∷ c.0, c.1, e ∙ ap (λ y. x ++ y) (h.1 ∙ ap (λ y. 45 ∷ y) c.2) ∙ sym (append_assoc x (45 ∷ c.0) c.1),
-      inr (c.3.0, x, c.0, refl, d, decimal_any (r.0) most (r.1) c.0 c.3), c.4)
+    let c = h.2 in (
+      x ++ 45 ∷ c.0,
+      c.1,
+      e ∙ ap (λ y. x ++ y) (h.1 ∙ ap (λ y. 45 ∷ y) c.2) ∙ sym (append_assoc x (45 ∷ c.0) c.1),
+      inr (c.3.0, x, c.0, refl, d, decimal_any (r.0) most (r.1) c.0 c.3),
+      c.4,
+    )
 
 then_low : (most : ℕ) (N : List ℕ → Type 0) (r : ℕ × ℕ) (text : List ℕ) → RangeThen most N r text → LowRest most (λ x n. IsDecimal 0 most n x) N r text
 then_low most N r text (x, more, e, inl h, n) = (x, more, e, h.1, inl (h.0, n))
-then_low most N r text (x, more, e, inr h, n) =
-    (h.1, 45 ∷ (h.2 ++ more), e ∙ ap (λ y. y ++ more) h.3 ∙ append_assoc h.1 (45 ∷ h.2) more, h.4,
-      inr (h.2 ++ more, refl, (h.2, more, refl, decimal_from (r.0) most (r.1) h.2 h.5 h.0, n)))
+then_low most N r text (x, more, e, inr h, n) = (
+  h.1,
+  45 ∷ (h.2 ++ more),
+  e ∙ ap (λ y. y ++ more) h.3 ∙ append_assoc h.1 (45 ∷ h.2) more,
+  h.4,
+  inr (h.2 ++ more, refl, (h.2, more, refl, decimal_from (r.0) most (r.1) h.2 h.5 h.0, n)),
+)
 
 texts_to : (most : ℕ) (rs : List (ℕ × ℕ)) (text : List ℕ) → RangesRest most None (λ x n. IsDecimal 0 most n x) rs text → AreLooseTexts most rs text
 texts_to most [] text h = absurd h
@@ -354,10 +392,15 @@ members_to rs all h n = (λ k. elim ((h.1 n).0 k) [ inl z ↦ absurd z | inr z �
 -- A new token.
 pub list_new : (most : ℕ) (P : List ℕ → ℕ → Type 0) → ((x : List ℕ) (n : ℕ) → P x n ↔ IsDecimal 0 most n x) → (items : List (ℕ × ℕ)) → items ≡ [] → (rest : List ℕ) (all : List (ℕ × ℕ)) → IsLooseRest items most None P rest all ↔ IsLooseList most all rest
 list_new most P f items e rest all = rw e (
-  λ h. (h.1.0, h.0, members_to h.0 all h.1, elim h.2 [
-    | inl k ↦ texts_to most h.0 rest (ranges_same most P (λ x n. IsDecimal 0 most n x) (λ x n. (f x n).0) None h.0 rest k)
-    | inr k ↦ rw (k.1, k.2) refl
-  ]),
+  λ h. (
+    h.1.0,
+    h.0,
+    members_to h.0 all h.1,
+    elim h.2 [
+      | inl k ↦ texts_to most h.0 rest (ranges_same most P (λ x n. IsDecimal 0 most n x) (λ x n. (f x n).0) None h.0 rest k)
+      | inr k ↦ rw (k.1, k.2) refl
+    ],
+  ),
   λ h. (h.1, (h.0, λ n. (λ k. inr ((h.2 n).0 k), λ k. elim k [ inl z ↦ absurd z | inr z ↦ (h.2 n).1 z ])), texts_from most h.1 rest h.3 (λ k. ranges_same most (λ x n. IsDecimal 0 most n x) P (λ x n. (f x n).1) None h.1 rest k)),
 )
 

@@ -1,7 +1,6 @@
--- What is left of a list.
-use Rattle.std.specs.Prelude.{◌≡◌, ℕ, ◌+◌, ◌≤◌, ◌<◌, ◌⊎◌, ◌↔◌, Bool, true, false, ◌||◌, nat_eq, Option, Some, None, List, [], ◌∷◌, ◌++◌, length}
+-- What is left of a list of ranges in any order.
+use Rattle.std.specs.Prelude.{◌≡◌, ℕ, ◌≤◌, ◌⊎◌, ◌↔◌, Option, Some, None, List, [], ◌∷◌, length}
 use Rattle.cg_text.specs.Decimal.{IsDecimal}
-use Rattle.cg_text.specs.DecimalState.{IsDecimalRest, decimal_ends}
 use Rattle.cg_text.specs.Numbers.{IsSet, Has}
 use Rattle.cg_text.specs.ListState.{front, Cut, begin_of, number_rest}
 use Rattle.cg_text.specs.declared.decimal.DecimalText.{DecimalText}

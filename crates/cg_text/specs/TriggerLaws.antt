@@ -1,12 +1,11 @@
 -- What holds of the times of a trigger.
-use Rattle.std.proofs.Common.{◌≡◌, ℕ, zero, suc, ◌+◌, ◌-◌, ◌≤◌, ◌<◌, ◌⊎◌, ◌↔◌, inl, inr, Bool, true, false, Option, Some, None, List, [], ◌∷◌, ◌++◌, length, refl, sym, ◌∙◌, ap, arith, IsTrue}
-use Rattle.cg_text.specs.Decimal.{AreDigits, IsNumeral, IsDecimal}
-use Rattle.cg_text.specs.DecimalState.{IsDecimalRest, decimal_ends}
+use Rattle.std.proofs.Common.{◌≡◌, ℕ, ◌≤◌, ◌↔◌, inl, inr, Bool, Option, Some, None, List, [], ◌∷◌, ◌++◌, refl, sym, ◌∙◌, ap, arith, IsTrue}
+use Rattle.cg_text.specs.Decimal.{AreDigits, IsDecimal}
 use Rattle.cg_text.specs.DecimalLaws.{IsDecimalRest_completes, IsDecimalRest_one}
 use Rattle.cg_text.specs.ListState.{number_rest}
 use Rattle.cg_text.specs.Token.{AreBytes}
 use Rattle.cg_text.specs.TokenLaws.{bytes_append}
-use Rattle.cg_text.specs.DecimalLaws.{number_digits, digits_bytes}
+use Rattle.cg_text.specs.DecimalLaws.{digits_bytes}
 use Rattle.cg_text.specs.ListLaws.{split_one, some_decimal, decimal_digits}
 use Rattle.cg_text.specs.Trigger.{AreTimes}
 use Rattle.cg_text.specs.TriggerState.{TimesRest, TimesBegun, IsTimesTurn, times_end, IsWithin}
@@ -58,7 +57,8 @@ module _ (n : ℕ) (P P' : List ℕ → ℕ → Type 0) (ended : P [] n) (one : 
   pub times_space : (text : List ℕ) (v : Times) → TimesRest (Some n) P' text v ↔ TimesRest None P (32 ∷ text) v
   times_space text v = (
     λ h. (let same : n ≡ v.stall = sym h.0 in ([], text, refl, rw same at ended, rw same at ((f text v.window).0 h.1))),
-    λ h. space_at text h.0 h.1 v h.2 h.3 h.4)
+    λ h. space_at text h.0 h.1 v h.2 h.3 h.4,
+  )
 
 begun_at : (byte : ℕ) (P : List ℕ → ℕ → Type 0) (text front back : List ℕ) (v : Times) → byte ∷ text ≡ front ++ 32 ∷ back → P front v.stall → IsDecimal v.stall 10000000 v.window back → TimesBegun None P byte
 begun_at byte P text [] back v e p d = inr (heads byte 32 text back e, refl, v.stall, p, omega (arith, d.0, d.1))

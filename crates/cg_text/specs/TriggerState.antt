@@ -1,5 +1,5 @@
 -- What is left of a trigger's times.
-use Rattle.std.specs.Prelude.{◌≡◌, ℕ, ◌≤◌, ◌⊎◌, ◌↔◌, Bool, true, false, Option, Some, None, List, [], ◌∷◌, ◌++◌}
+use Rattle.std.specs.Prelude.{◌≡◌, ℕ, ◌≤◌, ◌⊎◌, ◌↔◌, Bool, false, Option, Some, None, List, [], ◌∷◌, ◌++◌}
 use Rattle.cg_text.specs.Decimal.{IsDecimal}
 use Rattle.cg_text.specs.ListState.{number_rest}
 use Rattle.cg_text.specs.declared.decimal.DecimalText.{DecimalText}

@@ -7,16 +7,16 @@ ghost use Rattle.cg_text.specs.DecimalState.{decimal_ends};
 ghost use Rattle.cg_text.specs.ListLaws.{IsSound_prop};
 
 use crate::decimal::DecimalText;
-use crate::numbers::NumberSet;
 use crate::memory::OutOfMemory;
+use crate::numbers::NumberSet;
 use crate::token::Token;
 use std::alloc::Global;
 
-/// The numbers and ranges of a set in order, with commas between.
+/// The maximal ranges of a set in order, with commas between: `a` or `a-b`. The empty set is the empty text.
 #[derive(Drop)]
 pub struct StrictListText {
     most: u64,
-    /// The ranges so far. The last is not yet known.
+    /// The ranges so far, and a place for the present one.
     ranges: Vec<(u32, u32)>,
     /// Where the present range begins, once its dash was taken.
     low: Option<u32>,
@@ -77,7 +77,7 @@ pub(crate) fn open(ranges: &mut Vec<(u32, u32)>) -> Result<(), OutOfMemory>
 }
 
 impl StrictListText {
-    /// A token of lists of numbers up to `most`.
+    /// A token of such lists of numbers up to `most`. It takes no memory yet.
     pub fn new(alloc: Global, most: u32) -> StrictListText
         ensures spells { Spells ⟦<StrictListText as Token>⟧.means result (λ rest set. IsStrictList most set rest) }
         ensures size { ⟦<StrictListText as Token>⟧.size result ≡ 0 }
@@ -241,7 +241,10 @@ mod tests {
             (b"6,0".as_slice(), 2, false),
         ];
         for (text, end, whole) in rows {
-            assert_eq!(rt; reach(StrictListText::new(alloc, 65535), text), (end, whole));
+            assert_eq!(rt;
+                reach(StrictListText::new(alloc, 65535), text),
+                (end, whole)
+            );
         }
         match value(StrictListText::new(alloc, 65535), b"0-4,6,8-10".as_slice()) {
             Some(set) => {
@@ -250,7 +253,15 @@ mod tests {
             }
             None => assert!(rt; false),
         }
-        assert_eq!(rt; allowed(alloc, StrictListText::new(alloc, 65535), b"65533".as_slice())?.as_slice(), b",-".as_slice());
+        assert_eq!(rt;
+            allowed(
+                alloc,
+                StrictListText::new(alloc, 65535),
+                b"65533".as_slice()
+            )?
+            .as_slice(),
+            b",-".as_slice()
+        );
         Ok(())
     }
 }

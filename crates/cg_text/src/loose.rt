@@ -11,16 +11,16 @@ ghost use Rattle.cg_text.specs.LooseSound.{set_prop, sound_prop};
 
 use crate::decimal::DecimalText;
 use crate::list::open;
-use crate::numbers::{NumberSet, insert_into};
 use crate::memory::OutOfMemory;
+use crate::numbers::{NumberSet, insert_into};
 use crate::token::Token;
 use std::alloc::Global;
 
-/// The numbers and ranges of a set in order, with commas between.
+/// Numbers and ranges in any order, which may overlap, with commas between: `a` or `a-b`, where b is at least a. None is the empty text.
 #[derive(Drop)]
 pub struct LooseListText {
     most: u64,
-    /// The ranges so far. The last is not yet known.
+    /// The set of the ranges so far, and a place for the present one.
     ranges: Vec<(u32, u32)>,
     /// Where the present range begins, once its dash was taken.
     low: Option<u32>,
@@ -77,7 +77,7 @@ fn close(ranges: &mut Vec<(u32, u32)>, begin: u32, end: u32) -> Result<(), OutOf
 }
 
 impl LooseListText {
-    /// A token of lists of numbers up to `most`.
+    /// A token of such lists of numbers up to `most`. It takes no memory yet.
     pub fn new(alloc: Global, most: u32) -> LooseListText
         ensures spells { Spells ⟦<LooseListText as Token>⟧.means result (λ rest set. IsLooseList most set rest) }
         ensures size { ⟦<LooseListText as Token>⟧.size result ≡ 0 }

@@ -32,7 +32,11 @@ fn is_apart(end: u32, begin: u32) -> bool
 }
 
 /// Adds a range. It goes from the back, so that ranges in order cost a step each. It takes memory only where one range more is left.
-pub(crate) fn insert_into(ranges: &mut Vec<(u32, u32)>, first: u32, last: u32) -> Result<(), OutOfMemory>
+pub(crate) fn insert_into(
+    ranges: &mut Vec<(u32, u32)>,
+    first: u32,
+    last: u32,
+) -> Result<(), OutOfMemory>
     requires order { first ≤ last }
     requires set { IsSet ranges.old.items }
     ensures items { OnOk result (ranges.new.items ≡ inserted first last ranges.old.items) }
@@ -117,8 +121,7 @@ impl NumberSet {
     /// A law of sets, for proofs: those with the same numbers have the same ranges.
     pub fn same_ranges()
         ensures { (xs ys : List (ℕ × ℕ)) → IsSet xs → IsSet ys → ((n : ℕ) → Has xs n ↔ Has ys n) → xs ≡ ys }
-    {
-    }
+    {}
 }
 
 impl PartialEq for NumberSet {

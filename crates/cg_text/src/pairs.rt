@@ -217,7 +217,12 @@ fn limit_value(part: LimitPart) -> Limit
 }
 
 /// What the byte does to a key.
-fn key_after(given: LimitPairs, like: LimitKey, at: usize, byte: u8) -> Option<(LimitPairs, PairPart)>
+fn key_after(
+    given: LimitPairs,
+    like: LimitKey,
+    at: usize,
+    byte: u8,
+) -> Option<(LimitPairs, PairPart)>
     requires { IsTrue (is_live given (PairPart.InKey like at)) }
     ensures { MatchOption result ((rest : List ℕ) (v : LimitPairs) → LimitsRest given (PairPart.InKey like at) (byte ∷ rest) v → ⊥) (λ new. IsNextPart given (PairPart.InKey like at) byte new.0 new.1) }
 {
@@ -374,11 +379,33 @@ mod tests {
         for (text, end, whole) in rows {
             assert_eq!(rt; reach(LimitPairsText::new(), text), (end, whole));
         }
-        assert_eq!(rt; value(LimitPairsText::new(), b"wbps=7 rbps=max".as_slice()), Some(LimitPairs { rbps: Some(Limit::Max), wbps: Some(Limit::At(7)), riops: None, wiops: None }));
+        assert_eq!(rt;
+            value(LimitPairsText::new(), b"wbps=7 rbps=max".as_slice()),
+            Some(LimitPairs {
+                rbps: Some(Limit::Max),
+                wbps: Some(Limit::At(7)),
+                riops: None,
+                wiops: None
+            })
+        );
         assert_eq!(rt; value(LimitPairsText::new(), b"".as_slice()), None);
-        assert_eq!(rt; allowed(rt.alloc(), LimitPairsText::new(), b"".as_slice())?.as_slice(), b"rw".as_slice());
-        assert_eq!(rt; allowed(rt.alloc(), LimitPairsText::new(), b"rbps=1 r".as_slice())?.as_slice(), b"i".as_slice());
-        assert_eq!(rt; allowed(rt.alloc(), LimitPairsText::new(), b"rbps=1 riops=max ".as_slice())?.as_slice(), b"w".as_slice());
+        assert_eq!(rt;
+            allowed(rt.alloc(), LimitPairsText::new(), b"".as_slice())?.as_slice(),
+            b"rw".as_slice()
+        );
+        assert_eq!(rt;
+            allowed(rt.alloc(), LimitPairsText::new(), b"rbps=1 r".as_slice())?.as_slice(),
+            b"i".as_slice()
+        );
+        assert_eq!(rt;
+            allowed(
+                rt.alloc(),
+                LimitPairsText::new(),
+                b"rbps=1 riops=max ".as_slice()
+            )?
+            .as_slice(),
+            b"w".as_slice()
+        );
         Ok(())
     }
 }

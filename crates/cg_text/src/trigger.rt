@@ -173,8 +173,17 @@ mod tests {
         for (text, end, whole) in rows {
             assert_eq!(rt; reach(TriggerText::new(), text), (end, whole));
         }
-        assert_eq!(rt; value(TriggerText::new(), b"150000 1000000".as_slice()), Some(Times { stall: 150000, window: 1000000 }));
-        assert_eq!(rt; allowed(rt.alloc(), TriggerText::new(), b"9999999 ".as_slice())?.as_slice(), b"19".as_slice());
+        assert_eq!(rt;
+            value(TriggerText::new(), b"150000 1000000".as_slice()),
+            Some(Times {
+                stall: 150000,
+                window: 1000000
+            })
+        );
+        assert_eq!(rt;
+            allowed(rt.alloc(), TriggerText::new(), b"9999999 ".as_slice())?.as_slice(),
+            b"19".as_slice()
+        );
         Ok(())
     }
 }

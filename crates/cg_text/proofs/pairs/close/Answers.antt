@@ -1,4 +1,3 @@
-use Rattle.std.proofs.Common.{refl}
 use Rattle.cg_text.specs.LimitPairsLaws.{open_refuses, full_refuses, close_next}
 use Rattle.cg_text.proofs.pairs.close.Goals as goal
 

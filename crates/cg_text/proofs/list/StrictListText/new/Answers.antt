@@ -1,4 +1,3 @@
-use Rattle.std.proofs.Common.{◌≡◌, ◌+◌, [], arith, sym, ◌∙◌}
 use Rattle.cg_text.specs.ListState.{number_rest}
 use Rattle.cg_text.specs.ListLaws.{list_new}
 use Rattle.cg_text.proofs.list.StrictListText.new.Goals as goal

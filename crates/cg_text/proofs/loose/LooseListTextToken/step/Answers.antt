@@ -1,9 +1,9 @@
-use Rattle.std.proofs.Common.{◌≡◌, ◌≤◌, ◌<◌, ◌+◌, ◌∷◌, [], ◌++◌, Some, None, length, arith, ap, sym, ◌∙◌}
+use Rattle.std.proofs.Common.{◌≡◌, ◌∷◌, [], ◌++◌, arith, ap, sym, ◌∙◌}
 use Rattle.cg_text.specs.DecimalLaws.{number_digits}
 use Rattle.cg_text.specs.ListState.{number_rest, begin_of, front}
 use Rattle.cg_text.specs.ListLaws.{digit_byte, fresh_new, number_one, begin_some, begin_none, front_push}
 use Rattle.cg_text.specs.NumbersLaws.{inserted, inserted_set}
-use Rattle.cg_text.specs.LooseLaws.{list_digit, list_comma, list_dash, list_begun, sound_comma, sound_dash}
+use Rattle.cg_text.specs.LooseLaws.{list_digit, list_comma, list_dash, list_begun, sound_comma}
 use Rattle.cg_text.proofs.loose.LooseListTextToken.step.Goals as goal
 use Rattle.cg_text.proofs.loose.LooseListTextToken.step.Goals.{in-Some, in-None}
 
@@ -19,7 +19,7 @@ returns-in-Dash-clause-taken c =
     let s = c.args.self.now in
     let t = c.in-Dash.ensures.turn in
     λ rest all. rw (t.0, t.4) (list_dash s.most c.in-Dash.end (number_rest s.number) t.1 (number_one s.number c.in-Dash.end t.1) (number_digits s.number.lo s.number.hi s.number.progress)
-      (number_rest c.in-Dash.number) t.3 s.ranges.items s.fresh rest all)
+    (number_rest c.in-Dash.number) t.3 s.ranges.items s.fresh rest all)
 
 pub returns-in-Refused-clause-refused : goal.returns-in-Refused-clause-refused
 returns-in-Refused-clause-refused c =
@@ -33,7 +33,7 @@ returns-in-Ok-close-clause-taken c =
     let b : c.match-self.begin ≡ begin_of s.low c.in-Comma.end = elim c.match-self.branch [ in-Some w ↦ w.begin-is ∙ sym (begin_some s.low w.in-Some.low c.in-Comma.end w.in-Some.is) | in-None w ↦ w.begin-is ∙ sym (begin_none s.low c.in-Comma.end w.in-None.is) ] in
     let e : c.close.new.ranges.items ≡ inserted (begin_of s.low c.in-Comma.end) c.in-Comma.end (front s.ranges.items) ++ (0, 0) ∷ [] = c.in-Ok-close.ensures.closed ∙ ap (λ z. inserted z c.in-Comma.end (front s.ranges.items) ++ (0, 0) ∷ []) b in
     λ rest all. rw t.0 (list_comma s.most c.in-Comma.end (number_rest s.number) t.1 (number_one s.number c.in-Comma.end t.1) (number_digits s.number.lo s.number.hi s.number.progress)
-      (number_rest c.in-Comma.number) t.2 s.ranges.items c.close.new.ranges.items s.low s.set (s.sound [] c.in-Comma.end t.1).1 e rest all)
+    (number_rest c.in-Comma.number) t.2 s.ranges.items c.close.new.ranges.items s.low s.set (s.sound [] c.in-Comma.end t.1).1 e rest all)
 
 pub invariant_of-self-in-Ok-close : goal.invariant_of-self-in-Ok-close
 invariant_of-self-in-Ok-close c =

@@ -1,4 +1,4 @@
-use Rattle.std.proofs.Common.{◌≤◌, ◌<◌, ◌≡◌, ◌+◌, length, arith, ap, sym, ◌∙◌, [], refl, nat_eq}
+use Rattle.std.proofs.Common.{◌≡◌, length, arith, ap, sym, ◌∙◌, [], nat_eq}
 use Rattle.cg_text.specs.ListState.{number_rest, begin_of, front}
 use Rattle.cg_text.specs.ListLaws.{begin_some, begin_none, nil_set, nothing}
 use Rattle.cg_text.specs.NumbersLaws.{inserted, inserted_set}
