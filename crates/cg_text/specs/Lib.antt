@@ -14,8 +14,15 @@ pub mod Keyword
 pub mod KeywordLaws
 pub mod Limit
 pub mod LimitPairs
+pub mod LimitPairsLaws
+pub mod LimitPairsState
 pub mod List
 pub mod ListFacts
+pub mod ListLaws
+pub mod ListState
+pub mod LooseLaws
+pub mod LooseSound
+pub mod LooseState
 pub mod NumberRest
 pub mod NumberRestLaws
 pub mod Numbers
@@ -35,6 +42,8 @@ pub mod TextsLaws
 pub mod Token
 pub mod TokenLaws
 pub mod Trigger
+pub mod TriggerLaws
+pub mod TriggerState
 pub mod Word
 pub mod WordLaws
 pub mod WordState

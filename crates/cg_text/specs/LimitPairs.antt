@@ -1,5 +1,5 @@
 -- The pairs of a write of io.max (cgroup-v2.rst, io.max: nested keys in any order, not all of them given).
-use Rattle.std.specs.Prelude.{◌≡◌, ℕ, List, [], ◌∷◌, ◌++◌, Option, Some, None, codes}
+use Rattle.std.specs.Prelude.{◌≡◌, ℕ, Bool, true, false, cond, List, [], ◌∷◌, ◌++◌, Option, Some, None, codes}
 use Rattle.cg_text.specs.Limit.{IsLimit}
 use Rattle.cg_text.specs.declared.values.Limit.{Limit}
 use Rattle.cg_text.specs.declared.pairs.LimitKey.{LimitKey}
@@ -22,31 +22,29 @@ AreLimitPairs [] text = ⊥
 AreLimitPairs (p ∷ []) text = IsLimitPair p text
 AreLimitPairs (p ∷ q ∷ ps) text = (front : List ℕ) × (back : List ℕ) × (text ≡ front ++ 32 ∷ back) × IsLimitPair p front × AreLimitPairs (q ∷ ps) back
 
--- No pair has the key.
-abbrev pub LacksKey : LimitKey → List (LimitKey × Limit) → Type 0
-LacksKey key [] = Unit {0}
-LacksKey key (p ∷ ps) = (p.0 ≡ key → ⊥) × LacksKey key ps
+abbrev pub is_key : LimitKey → LimitKey → Bool
+is_key Rbps Rbps = true
+is_key Wbps Wbps = true
+is_key Riops Riops = true
+is_key Wiops Wiops = true
+is_key _ _ = false
+
+-- The key's limit in the first pair that has the key, if any.
+abbrev pub limit_of : LimitKey → List (LimitKey × Limit) → Option Limit
+limit_of key [] = None
+limit_of key (p ∷ ps) = cond (is_key key (p.0)) (Some (p.1)) (limit_of key ps)
 
 -- No key comes twice.
 abbrev pub HasDistinctKeys : List (LimitKey × Limit) → Type 0
 HasDistinctKeys [] = Unit {0}
-HasDistinctKeys (p ∷ ps) = LacksKey (p.0) ps × HasDistinctKeys ps
+HasDistinctKeys (p ∷ ps) = (limit_of (p.0) ps ≡ None) × HasDistinctKeys ps
 
--- The pair is one of those.
-abbrev pub HasPair : LimitKey → Limit → List (LimitKey × Limit) → Type 0
-HasPair key limit ps = (front : List (LimitKey × Limit)) × (back : List (LimitKey × Limit)) × (ps ≡ front ++ (key , limit) ∷ back)
-
--- The key's limit, none where it isn't given.
-abbrev pub IsLimitOf : LimitKey → Option Limit → List (LimitKey × Limit) → Type 0
-IsLimitOf key None ps = LacksKey key ps
-IsLimitOf key (Some limit) ps = HasPair key limit ps
-
--- The text gives these limits, no key twice.
+-- The text gives these limits, no key twice; none where a key isn't given.
 pub record AreLimits (v : LimitPairs) (text : List ℕ) : Type 0 where
   pub pairs : List (LimitKey × Limit)
   pub spelled : AreLimitPairs pairs text
   pub distinct : HasDistinctKeys pairs
-  pub rbps : IsLimitOf Rbps v.rbps pairs
-  pub wbps : IsLimitOf Wbps v.wbps pairs
-  pub riops : IsLimitOf Riops v.riops pairs
-  pub wiops : IsLimitOf Wiops v.wiops pairs
+  pub rbps : v.rbps ≡ limit_of Rbps pairs
+  pub wbps : v.wbps ≡ limit_of Wbps pairs
+  pub riops : v.riops ≡ limit_of Riops pairs
+  pub wiops : v.wiops ≡ limit_of Wiops pairs

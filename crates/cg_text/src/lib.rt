@@ -1,15 +1,19 @@
 //! Texts of one value that are taken a byte at a time, and the values that they spell.
 #![tactic(auto)]
 
+mod digit;
+mod spelled;
+mod trial;
 pub mod byte;
 pub mod bytes;
 pub mod decimal;
-mod digit;
 pub mod fixed;
 pub mod hundredths;
 pub mod items;
 pub mod key;
 pub mod keyword;
+pub mod list;
+pub mod loose;
 pub mod memory;
 pub mod numbers;
 pub mod pairs;
@@ -18,8 +22,6 @@ pub mod reason;
 pub mod signed;
 pub mod size;
 pub mod token;
-#[cfg(test)]
-mod trial;
 pub mod trigger;
 pub mod values;
 pub mod word;
@@ -32,14 +34,20 @@ pub use hundredths::Form;
 pub use items::Items;
 pub use key::{Key, KeyFault};
 pub use keyword::{Keyword, KeywordText};
+pub use list::StrictListText;
+pub use loose::LooseListText;
 pub use memory::OutOfMemory;
 pub use numbers::NumberSet;
+pub use pairs::{LimitKey, LimitPairs, LimitPairsText};
 pub use pairs::{LimitKey, LimitPairs};
 pub use raw::RawText;
 pub use reason::ReasonText;
 pub use signed::SignedText;
 pub use size::SizeText;
 pub use token::Token;
-pub use trigger::Times;
+pub use trigger::{Times, TriggerText};
 pub use values::{Amount, Clamp, Device, Hundredths, Limit};
 pub use word::WordText;
+
+#[cfg(test)]
+#[cfg(test)]

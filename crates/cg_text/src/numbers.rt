@@ -1,6 +1,6 @@
 //! Sets of numbers.
-ghost use Rattle.std.specs.Prelude.{◌≡◌, ℕ, ◌+◌, ◌≤◌, ◌<◌, ◌↔◌, ◌⊎◌, List, [], IsTrue, IsFalse, IfOk, OnErr, length, vec_len, vec_capacity};
-ghost use Rattle.cg_text.specs.Numbers.{IsSet, Has, size_of};
+ghost use Rattle.std.specs.Prelude.{◌≡◌, ℕ, ◌+◌, ◌≤◌, ◌<◌, ◌↔◌, ◌⊎◌, List, [], IsTrue, IsFalse, IfOk, IsOk, OnOk, OnErr, length, vec_len, vec_capacity};
+ghost use Rattle.cg_text.specs.Numbers.{IsSet, Has, size_of, IsCount};
 ghost use Rattle.cg_text.specs.NumbersLaws.{inserted};
 
 use crate::memory::OutOfMemory;
@@ -8,7 +8,7 @@ use std::alloc::Global;
 use std::marker::Model;
 
 /// A set of numbers.
-#[derive(Drop)]
+#[derive(Drop, Debug)]
 pub struct NumberSet {
     pub(crate) ranges: Vec<(u32, u32)>,
 }
@@ -31,32 +31,39 @@ fn is_apart(end: u32, begin: u32) -> bool
     u64::from(end) + 1 < u64::from(begin)
 }
 
-/// Adds a range, where there is room.
-pub(crate) fn insert_into(ranges: &mut Vec<(u32, u32)>, first: u32, last: u32)
-    requires room { vec_len ranges.old < vec_capacity ranges.old }
-    ensures items { ranges.new.items ≡ inserted first last ranges.old.items }
+/// Adds a range. It goes from the back, so that ranges in order cost a step each. It takes memory only where one range more is left.
+pub(crate) fn insert_into(
+    ranges: &mut Vec<(u32, u32)>,
+    first: u32,
+    last: u32,
+) -> Result<(), OutOfMemory>
+    requires order { first ≤ last }
+    requires set { IsSet ranges.old.items }
+    ensures items { OnOk result (ranges.new.items ≡ inserted first last ranges.old.items) }
+    ensures same { OnErr result (ranges.new.items ≡ ranges.old.items) }
     ensures len { vec_len ranges.new ≤ vec_len ranges.old + 1 }
-    ensures capacity { vec_capacity ranges.new ≡ vec_capacity ranges.old }
+    ensures room { vec_len ranges.old < vec_capacity ranges.old → IsOk result × (vec_capacity ranges.new ≡ vec_capacity ranges.old) }
 {
     let mut low = first;
     let mut high = last;
-    let mut at = 0;
-    while at < ranges.len() {
-        let (begin, end) = ranges[at];
-        if is_apart(high, begin) {
+    let mut at = ranges.len();
+    while at > 0 {
+        let (begin, end) = ranges[at - 1];
+        if is_apart(end, low) {
             break;
         }
-        if is_apart(end, low) {
-            at += 1;
+        if is_apart(high, begin) {
+            at -= 1;
         } else {
             low = low.min(begin);
             high = high.max(end);
-            ranges.remove(at);
+            ranges.remove(at - 1);
+            at -= 1;
         }
     }
     match ranges.insert(at, (low, high)) {
-        Ok(()) => {}
-        Err(_) => unreachable!(),
+        Ok(()) => Ok(()),
+        Err(_) => Err(OutOfMemory),
     }
 }
 
@@ -76,13 +83,7 @@ impl NumberSet {
         ensures added { IfOk result (λ _. (n : ℕ) → Has self.new n ↔ (Has self.old n ⊎ ((first ≤ n) × (n ≤ last)))) }
         ensures unchanged { OnErr result (self.new ≡ self.old) }
     {
-        match self.ranges.reserve(1) {
-            Ok(()) => {
-                insert_into(&mut self.ranges, first, last);
-                Ok(())
-            }
-            Err(_) => Err(OutOfMemory),
-        }
+        insert_into(&mut self.ranges, first, last)
     }
 
     /// Whether the number is in the set.
@@ -107,12 +108,60 @@ impl NumberSet {
 
     /// How many numbers it has.
     pub fn len(&self) -> u64
-        ensures count { result ≡ size_of self.now }
+        ensures size { result ≡ size_of self.now }
+        ensures count { (bound : ℕ) → ((n : ℕ) → Has self.now n → n < bound) → IsCount (Has self.now) bound result }
     {
         let mut total: u64 = 0;
         for range in &self.ranges {
             total += u64::from(range.1 - range.0) + 1;
         }
         total
+    }
+
+    /// A law of sets, for proofs: those with the same numbers have the same ranges.
+    pub fn same_ranges()
+        ensures { (xs ys : List (ℕ × ℕ)) → IsSet xs → IsSet ys → ((n : ℕ) → Has xs n ↔ Has ys n) → xs ≡ ys }
+    {}
+}
+
+impl PartialEq for NumberSet {
+    ghost use Rattle.cg_text.specs.Numbers.{are_same};
+    ghost use Rattle.cg_text.specs.NumbersLaws.{same_back, same_through};
+
+    ghost eq = { are_same };
+
+    ghost laws = { record { symm = same_back; trans = same_through } };
+
+    fn eq(&self, other: &NumberSet) -> bool {
+        self.ranges == other.ranges
+    }
+}
+
+#[cfg(test)]
+mod tests {
+    use super::*;
+    use std::test::Fail;
+
+    #[test]
+    fn ranges_merge(rt: HostRuntime) -> Result<(), Fail> {
+        let mut set = NumberSet::new(rt.alloc());
+        for (first, last) in [(8, 10), (0, 4), (6, 6)] {
+            set.insert_range(first, last)?;
+        }
+        assert_eq!(rt; set.ranges(), [(0, 4), (6, 6), (8, 10)].as_slice());
+        assert_eq!(rt; set.len(), 9);
+        assert!(rt; set.contains(10) && !set.contains(5) && !set.contains(11));
+        set.insert_range(5, 5)?;
+        assert_eq!(rt; set.ranges(), [(0, 6), (8, 10)].as_slice());
+        assert_eq!(rt; set.len(), 10);
+        let mut whole = NumberSet::new(rt.alloc());
+        whole.insert_range(7, 4294967295)?;
+        assert!(rt; whole != set);
+        whole.insert_range(0, 6)?;
+        assert_eq!(rt; whole.ranges(), [(0, 4294967295)].as_slice());
+        set.insert_range(0, 4294967295)?;
+        assert!(rt; whole == set);
+        assert_eq!(rt; set.len(), 4294967296);
+        Ok(())
     }
 }

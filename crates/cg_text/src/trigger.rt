@@ -1,8 +1,189 @@
 //! The times of a pressure trigger.
+ghost use Rattle.std.specs.Prelude.{◌≡◌, ℕ, ◌+◌, ◌≤◌, ◌<◌, ◌↔◌, false, List, [], ◌∷◌, IsTrue, refl};
+ghost use Rattle.cg_text.specs.Token.{Spells};
+ghost use Rattle.cg_text.specs.Trigger.{AreTimes};
+ghost use Rattle.cg_text.specs.ListState.{number_rest};
+ghost use Rattle.cg_text.specs.TriggerState.{TimesRest, IsTimesTurn, times_end, IsWithin};
+ghost use Rattle.cg_text.specs.DecimalState.{decimal_ends};
+
+use crate::decimal::DecimalText;
+use crate::memory::OutOfMemory;
+use crate::token::Token;
 
 /// A stall within a window, in microseconds.
 #[derive(Clone, Copy, Debug, PartialEq, Eq)]
 pub struct Times {
     pub stall: u64,
     pub window: u64,
+}
+
+/// The longest window, in microseconds.
+const LONGEST: u64 = 10000000;
+
+/// A stall and a window with a space between: at least 1, at most 10000000, and the stall no longer than the window.
+#[derive(Clone, Copy, Drop)]
+pub struct TriggerText {
+    /// The stall, once the space was taken.
+    stall: Option<u64>,
+    number: DecimalText,
+    ghost within: { IsWithin (number_rest number) },
+}
+
+/// What a byte does.
+#[derive(Clone, Copy, Drop)]
+enum TimesTurn {
+    Digit(DecimalText),
+    Space(u64, DecimalText),
+    Refused,
+}
+
+impl TriggerText {
+    /// A token of a stall and a window.
+    pub fn new() -> TriggerText
+        ensures spells { Spells ⟦<TriggerText as Token>⟧.means result (λ rest times. AreTimes times rest) }
+        ensures size { ⟦<TriggerText as Token>⟧.size result ≡ 0 }
+    {
+        match DecimalText::new(1, LONGEST) {
+            Some(number) => TriggerText {
+                stall: None,
+                number,
+            },
+            None => unreachable!(),
+        }
+    }
+
+    /// What the byte does.
+    fn turn(&self, byte: u8) -> TimesTurn
+        ensures turn { IsTimesTurn self.now.stall self.now.number byte result }
+    {
+        let mut number = self.number;
+        match number.step(byte) {
+            Ok(true) => return TimesTurn::Digit(number),
+            Ok(false) => {}
+            Err(_) => unreachable!(),
+        }
+        if byte != b' ' {
+            return TimesTurn::Refused;
+        }
+        if !self.number.can_end() {
+            return TimesTurn::Refused;
+        }
+        let stall = self.number.take();
+        match self.stall {
+            Some(_) => TimesTurn::Refused,
+            None => match DecimalText::new(stall, LONGEST) {
+                Some(number) => TimesTurn::Space(stall, number),
+                None => TimesTurn::Refused,
+            },
+        }
+    }
+}
+
+impl Token for TriggerText {
+    type Out = Times;
+
+    ghost use Rattle.cg_text.specs.DecimalLaws.{IsDecimalRest_completes, IsDecimalRest_one, decimal_ends_is, number_digits};
+    ghost use Rattle.cg_text.specs.TriggerLaws.{times_complete, times_end_is, times_one, times_bytes};
+
+    ghost means = { λ s rest times. TimesRest s.stall (number_rest s.number) rest times };
+
+    ghost size = { λ _. 0 };
+
+    ghost weight = { λ _. 0 };
+
+    ghost ends = { λ s. times_end s.stall (decimal_ends s.number.lo s.number.hi s.number.progress) };
+
+    ghost grows = { false };
+
+    fn step(&mut self, byte: u8) -> Result<bool, OutOfMemory> {
+        match self.turn(byte) {
+            TimesTurn::Digit(number) => {
+                self.number = number;
+                Ok(true)
+            }
+            TimesTurn::Space(stall, number) => {
+                self.stall = Some(stall);
+                self.number = number;
+                Ok(true)
+            }
+            TimesTurn::Refused => Ok(false),
+        }
+    }
+
+    fn allows(&self, byte: u8) -> bool {
+        match self.turn(byte) {
+            TimesTurn::Refused => false,
+            _ => true,
+        }
+    }
+
+    fn can_end(&self) -> bool {
+        match self.stall {
+            Some(_) => self.number.can_end(),
+            None => false,
+        }
+    }
+
+    fn held(&self) -> u64 {
+        0
+    }
+
+    fn take(self) -> Times {
+        match self.stall {
+            Some(stall) => Times {
+                stall,
+                window: self.number.take(),
+            },
+            None => unreachable!(),
+        }
+    }
+
+    fn weight_of(_value: &Times) -> u64 {
+        0
+    }
+
+    ghost completes = { λ s. times_complete s.stall (number_rest s.number) s.within (IsDecimalRest_completes s.number.lo s.number.hi s.number.progress s.number.range s.number.live) };
+
+    ghost no_size = { λ _ _. refl };
+
+    ghost ends_is = { λ s. times_end_is s.stall (number_rest s.number) (decimal_ends s.number.lo s.number.hi s.number.progress) (decimal_ends_is s.number.lo s.number.hi s.number.progress) };
+
+    ghost one_value = { λ s. times_one s.stall (number_rest s.number) (number_digits s.number.lo s.number.hi s.number.progress) (IsDecimalRest_one s.number.lo s.number.hi s.number.progress) };
+
+    ghost holds_bytes = { λ s. times_bytes s.stall (number_rest s.number) (number_digits s.number.lo s.number.hi s.number.progress) };
+}
+
+#[cfg(test)]
+mod tests {
+    use super::*;
+    use crate::spelled::{allowed, reach, value};
+    use std::test::Fail;
+
+    #[test]
+    fn triggers(rt: HostRuntime) -> Result<(), Fail> {
+        let rows = [
+            (b"150000 1000000".as_slice(), 14, true),
+            (b"0".as_slice(), 0, false),
+            (b"9999999 2".as_slice(), 8, false),
+            (b"9999999 9999998".as_slice(), 14, false),
+            (b"10000000 10000000".as_slice(), 17, true),
+            (b"10000001".as_slice(), 7, false),
+            (b"5  ".as_slice(), 2, false),
+        ];
+        for (text, end, whole) in rows {
+            assert_eq!(rt; reach(TriggerText::new(), text), (end, whole));
+        }
+        assert_eq!(rt;
+            value(TriggerText::new(), b"150000 1000000".as_slice()),
+            Some(Times {
+                stall: 150000,
+                window: 1000000
+            })
+        );
+        assert_eq!(rt;
+            allowed(rt.alloc(), TriggerText::new(), b"9999999 ".as_slice())?.as_slice(),
+            b"19".as_slice()
+        );
+        Ok(())
+    }
 }

@@ -1,0 +1,63 @@
+use Rattle.std.proofs.Common.{◌≡◌, ◌+◌, ◌∷◌, [], ◌++◌, arith, ap, sym, ◌∙◌}
+use Rattle.cg_text.specs.DecimalLaws.{number_digits}
+use Rattle.cg_text.specs.ListState.{number_rest, begin_of, front}
+use Rattle.cg_text.specs.ListLaws.{digit_byte, list_digit, list_comma, list_dash, list_begun, sound_comma, sound_dash, fresh_new, number_one, closed_length, some_length, begin_some, begin_none}
+use Rattle.cg_text.proofs.list.StrictListTextToken.step.Goals as goal
+use Rattle.cg_text.proofs.list.StrictListTextToken.step.Goals.{in-Some, in-None}
+
+pub invariant_of-self-in-Dash : goal.invariant_of-self-in-Dash
+invariant_of-self-in-Dash c =
+    let s = c.args.self.now in
+    let t = c.in-Dash.ensures.turn in
+    let sound = rw t.4 at s.sound in
+    record {
+      small = s.small;
+      sound = sound_dash s.ranges.items s.most (number_rest s.number) (number_rest c.in-Dash.number) c.in-Dash.end t.1 t.3 sound;
+      fresh = λ e. fresh_new (c.in-Dash.end + 1) s.most (number_rest c.in-Dash.number) t.3;
+    }
+
+pub returns-in-Ok-clause-taken : goal.returns-in-Ok-clause-taken
+returns-in-Ok-clause-taken c =
+    let s = c.args.self.now in
+    let t = c.in-Digit.ensures.turn in
+    let o = c.in-Ok.ensures.opened in
+    list_digit s.most c.args.byte (number_rest s.number) (number_rest c.in-Digit.number) (digit_byte s.number c.in-Digit.number c.args.byte t) t s.ranges.items c.open.new.ranges.items s.low o.0 o.1
+
+pub returns-in-Dash-clause-taken : goal.returns-in-Dash-clause-taken
+returns-in-Dash-clause-taken c =
+    let s = c.args.self.now in
+    let t = c.in-Dash.ensures.turn in
+    λ rest all. rw (t.0, t.4) (list_dash s.most c.in-Dash.end (number_rest s.number) t.1 (number_one s.number c.in-Dash.end t.1) (number_digits s.number.lo s.number.hi s.number.progress)
+    (number_rest c.in-Dash.number) t.3 s.ranges.items s.fresh rest all)
+
+pub returns-in-Refused-clause-refused : goal.returns-in-Refused-clause-refused
+returns-in-Refused-clause-refused c =
+    let s = c.args.self.now in
+    λ rest all h. c.in-Refused.ensures.turn (list_begun s.ranges.items s.most s.low (number_rest s.number) c.args.byte rest all h)
+
+pub returns-in-Ok-close-clause-taken : goal.returns-in-Ok-close-clause-taken
+returns-in-Ok-close-clause-taken c =
+    let s = c.args.self.now in
+    let t = c.in-Comma.ensures.turn in
+    let b : c.match-self.begin ≡ begin_of s.low c.in-Comma.end = elim c.match-self.branch [ in-Some w ↦ w.begin-is ∙ sym (begin_some s.low w.in-Some.low c.in-Comma.end w.in-Some.is) | in-None w ↦ w.begin-is ∙ sym (begin_none s.low c.in-Comma.end w.in-None.is) ] in
+    let e : c.close.new.ranges.items ≡ (front s.ranges.items ++ (begin_of s.low c.in-Comma.end, c.in-Comma.end) ∷ []) ++ (0, 0) ∷ [] = c.in-Ok-close.ensures.closed ∙ ap (λ z. (front s.ranges.items ++ (z, c.in-Comma.end) ∷ []) ++ (0, 0) ∷ []) b in
+    λ rest all. rw t.0 (list_comma s.most c.in-Comma.end (number_rest s.number) t.1 (number_one s.number c.in-Comma.end t.1) (number_digits s.number.lo s.number.hi s.number.progress)
+    (number_rest c.in-Comma.number) t.3 s.ranges.items c.close.new.ranges.items s.low e s.fresh rest all)
+
+pub invariant_of-self-in-Ok-close : goal.invariant_of-self-in-Ok-close
+invariant_of-self-in-Ok-close c =
+    let s = c.args.self.now in
+    let t = c.in-Comma.ensures.turn in
+    let b : c.match-self.begin ≡ begin_of s.low c.in-Comma.end = elim c.match-self.branch [ in-Some w ↦ w.begin-is ∙ sym (begin_some s.low w.in-Some.low c.in-Comma.end w.in-Some.is) | in-None w ↦ w.begin-is ∙ sym (begin_none s.low c.in-Comma.end w.in-None.is) ] in
+    let e : c.close.new.ranges.items ≡ (front s.ranges.items ++ (begin_of s.low c.in-Comma.end, c.in-Comma.end) ∷ []) ++ (0, 0) ∷ [] = c.in-Ok-close.ensures.closed ∙ ap (λ z. (front s.ranges.items ++ (z, c.in-Comma.end) ∷ []) ++ (0, 0) ∷ []) b in
+    record {
+      small = s.small;
+      sound = sound_comma s.ranges.items c.close.new.ranges.items s.most s.low (number_rest s.number) (number_rest c.in-Comma.number) c.in-Comma.end e t.1 t.3 s.sound;
+      fresh = λ e. fresh_new (c.in-Comma.end + 2) s.most (number_rest c.in-Comma.number) t.3;
+    }
+
+pub returns-in-Ok-close-clause-size : goal.returns-in-Ok-close-clause-size
+returns-in-Ok-close-clause-size c =
+    let s = c.args.self.now in
+    let t = c.in-Comma.ensures.turn in
+    omega (arith, closed_length s.ranges.items c.close.new.ranges.items (c.match-self.begin, c.in-Comma.end) (0, 0) (some_length s.ranges.items (λ e. s.fresh e c.in-Comma.end t.1)) c.in-Ok-close.ensures.closed)

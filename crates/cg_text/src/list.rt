@@ -1,0 +1,267 @@
+//! Lists of numbers and ranges.
+ghost use Rattle.std.specs.Prelude.{◌≡◌, ℕ, ◌+◌, ◌≤◌, ◌<◌, ◌↔◌, ◌||◌, true, List, [], ◌++◌, ◌∷◌, length, nat_eq, IsTrue, OnOk, OnErr, vec_len, vec_capacity, MatchOption};
+ghost use Rattle.cg_text.specs.Token.{Spells};
+ghost use Rattle.cg_text.specs.List.{IsStrictList};
+ghost use Rattle.cg_text.specs.ListState.{front, IsListRest, IsSound, IsTurn, begin_of, number_rest};
+ghost use Rattle.cg_text.specs.DecimalState.{decimal_ends};
+ghost use Rattle.cg_text.specs.ListLaws.{IsSound_prop};
+
+use crate::decimal::DecimalText;
+use crate::memory::OutOfMemory;
+use crate::numbers::NumberSet;
+use crate::token::Token;
+use std::alloc::Global;
+
+/// The maximal ranges of a set in order, with commas between: `a` or `a-b`. The empty set is the empty text.
+#[derive(Drop)]
+pub struct StrictListText {
+    most: u64,
+    /// The ranges so far, and a place for the present one.
+    ranges: Vec<(u32, u32)>,
+    /// Where the present range begins, once its dash was taken.
+    low: Option<u32>,
+    number: DecimalText,
+    ghost small: { most ≤ 4294967295 },
+    ghost sound: { IsSound ranges.items most low (number_rest number) } by { IsSound_prop ranges.items most low (number_rest number) },
+    ghost fresh: { length ranges.items ≡ 0 → (n : ℕ) → number_rest number [] n → ⊥ },
+}
+
+/// What a byte does.
+#[derive(Clone, Copy, Drop)]
+enum Turn {
+    Digit(DecimalText),
+    Comma(u64, DecimalText),
+    Dash(u64, DecimalText),
+    Refused,
+}
+
+/// Sets the last range.
+fn set_last(ranges: &mut Vec<(u32, u32)>, begin: u32, end: u32)
+    requires { 0 < length ranges.old.items }
+    ensures items { ranges.new.items ≡ front ranges.old.items ++ (begin, end) ∷ [] }
+    ensures room { vec_len ranges.old < vec_capacity ranges.old → vec_len ranges.new < vec_capacity ranges.new }
+{
+    let last = ranges.len() - 1;
+    ranges[last] = (begin, end);
+}
+
+/// Sets the last range, and begins another.
+fn close(ranges: &mut Vec<(u32, u32)>, begin: u32, end: u32) -> Result<(), OutOfMemory>
+    requires { 0 < length ranges.old.items }
+    ensures closed { OnOk result (ranges.new.items ≡ (front ranges.old.items ++ (begin, end) ∷ []) ++ (0, 0) ∷ []) }
+    ensures same { OnErr result (ranges.new.items ≡ ranges.old.items) }
+{
+    match ranges.reserve(1) {
+        Ok(()) => {}
+        Err(_) => return Err(OutOfMemory),
+    }
+    set_last(ranges, begin, end);
+    match ranges.push((0, 0)) {
+        Ok(()) => Ok(()),
+        Err(_) => unreachable!(),
+    }
+}
+
+/// Begins the first range, where there is none.
+pub(crate) fn open(ranges: &mut Vec<(u32, u32)>) -> Result<(), OutOfMemory>
+    ensures opened { OnOk result ((front ranges.new.items ≡ front ranges.old.items) × (0 < length ranges.new.items) × (length ranges.new.items ≤ length ranges.old.items + 1)) }
+    ensures same { OnErr result (ranges.new.items ≡ ranges.old.items) }
+{
+    if !ranges.is_empty() {
+        return Ok(());
+    }
+    match ranges.push((0, 0)) {
+        Ok(()) => Ok(()),
+        Err(_) => Err(OutOfMemory),
+    }
+}
+
+impl StrictListText {
+    /// A token of such lists of numbers up to `most`. It takes no memory yet.
+    pub fn new(alloc: Global, most: u32) -> StrictListText
+        ensures spells { Spells ⟦<StrictListText as Token>⟧.means result (λ rest set. IsStrictList most set rest) }
+        ensures size { ⟦<StrictListText as Token>⟧.size result ≡ 0 }
+    {
+        match DecimalText::new(0, u64::from(most)) {
+            Some(number) => StrictListText {
+                most: u64::from(most),
+                ranges: Vec::new(alloc),
+                low: None,
+                number,
+            },
+            None => unreachable!(),
+        }
+    }
+
+    /// What the byte does.
+    fn turn(&self, byte: u8) -> Turn
+        ensures turn { IsTurn self.now.most self.now.low self.now.number byte result }
+    {
+        let mut number = self.number;
+        match number.step(byte) {
+            Ok(true) => return Turn::Digit(number),
+            Ok(false) => {}
+            Err(_) => unreachable!(),
+        }
+        if !self.number.can_end() {
+            return Turn::Refused;
+        }
+        let end = self.number.take();
+        if byte == b',' {
+            return match DecimalText::new(end + 2, self.most) {
+                Some(number) => Turn::Comma(end, number),
+                None => Turn::Refused,
+            };
+        }
+        if byte != b'-' {
+            return Turn::Refused;
+        }
+        match self.low {
+            Some(_) => Turn::Refused,
+            None => match DecimalText::new(end + 1, self.most) {
+                Some(number) => Turn::Dash(end, number),
+                None => Turn::Refused,
+            },
+        }
+    }
+}
+
+impl Token for StrictListText {
+    type Out = NumberSet;
+
+    ghost use Rattle.cg_text.specs.ListLaws.{list_bytes};
+    ghost use Rattle.cg_text.specs.DecimalLaws.{IsDecimalRest_completes, IsDecimalRest_one, decimal_ends_is, number_digits};
+    ghost use Rattle.cg_text.specs.ListLaws.{list_completes, list_one, list_ends, true_not_false};
+
+    ghost means = { λ s rest all. IsListRest s.ranges.items s.most s.low (number_rest s.number) rest all };
+
+    ghost size = { λ s. length s.ranges.items };
+
+    ghost weight = { length };
+
+    ghost ends = { λ s. nat_eq (length s.ranges.items) 0 || decimal_ends s.number.lo s.number.hi s.number.progress };
+
+    ghost grows = { true };
+
+    fn step(&mut self, byte: u8) -> Result<bool, OutOfMemory> {
+        match self.turn(byte) {
+            Turn::Digit(number) => match open(&mut self.ranges) {
+                Ok(()) => {
+                    self.number = number;
+                    Ok(true)
+                }
+                Err(e) => Err(e),
+            },
+            Turn::Comma(end, number) => {
+                let begin = match self.low {
+                    Some(low) => low,
+                    None => end as u32,
+                };
+                match close(&mut self.ranges, begin, end as u32) {
+                    Ok(()) => {
+                        self.low = None;
+                        self.number = number;
+                        Ok(true)
+                    }
+                    Err(e) => Err(e),
+                }
+            }
+            Turn::Dash(end, number) => {
+                self.low = Some(end as u32);
+                self.number = number;
+                Ok(true)
+            }
+            Turn::Refused => Ok(false),
+        }
+    }
+
+    fn allows(&self, byte: u8) -> bool {
+        match self.turn(byte) {
+            Turn::Refused => false,
+            _ => true,
+        }
+    }
+
+    fn can_end(&self) -> bool {
+        let empty = self.ranges.is_empty();
+        let ended = self.number.can_end();
+        empty | ended
+    }
+
+    fn held(&self) -> u64 {
+        self.ranges.len() as u64
+    }
+
+    fn take(self) -> NumberSet {
+        let mut ranges = self.ranges;
+        if !ranges.is_empty() {
+            let end = self.number.take() as u32;
+            let begin = match self.low {
+                Some(low) => low,
+                None => end,
+            };
+            set_last(&mut ranges, begin, end);
+        }
+        NumberSet { ranges }
+    }
+
+    fn weight_of(value: &NumberSet) -> u64 {
+        value.ranges.len() as u64
+    }
+
+    ghost completes = { λ s. list_completes s.ranges.items s.most s.low (number_rest s.number) (IsDecimalRest_completes s.number.lo s.number.hi s.number.progress s.number.range s.number.live) };
+
+    ghost no_size = { λ e _. absurd (true_not_false e) };
+
+    ghost ends_is = { λ s. list_ends s.ranges.items s.most s.low (number_rest s.number) (decimal_ends s.number.lo s.number.hi s.number.progress) (decimal_ends_is s.number.lo s.number.hi s.number.progress) };
+
+    ghost one_value = { λ s. list_one s.most (number_rest s.number) (number_digits s.number.lo s.number.hi s.number.progress) (IsDecimalRest_one s.number.lo s.number.hi s.number.progress) s.ranges.items s.low s.fresh };
+
+    ghost holds_bytes = { λ s. list_bytes s.ranges.items s.most s.low (number_rest s.number) (number_digits s.number.lo s.number.hi s.number.progress) };
+}
+
+#[cfg(test)]
+mod tests {
+    use super::*;
+    use crate::spelled::{allowed, reach, value};
+    use std::test::Fail;
+
+    #[test]
+    fn strict_lists(rt: HostRuntime) -> Result<(), Fail> {
+        let alloc = rt.alloc();
+        let rows = [
+            (b"".as_slice(), 0, true),
+            (b"0-4,6,8-10".as_slice(), 10, true),
+            (b"65534,".as_slice(), 5, true),
+            (b"65533,65535".as_slice(), 11, true),
+            (b"65535-".as_slice(), 5, true),
+            (b"65534-65535".as_slice(), 11, true),
+            (b"0-3,4,".as_slice(), 5, false),
+            (b"3-3,".as_slice(), 3, false),
+            (b"6,0".as_slice(), 2, false),
+        ];
+        for (text, end, whole) in rows {
+            assert_eq!(rt;
+                reach(StrictListText::new(alloc, 65535), text),
+                (end, whole)
+            );
+        }
+        match value(StrictListText::new(alloc, 65535), b"0-4,6,8-10".as_slice()) {
+            Some(set) => {
+                assert_eq!(rt; set.len(), 9);
+                assert_eq!(rt; set.ranges(), [(0, 4), (6, 6), (8, 10)].as_slice());
+            }
+            None => assert!(rt; false),
+        }
+        assert_eq!(rt;
+            allowed(
+                alloc,
+                StrictListText::new(alloc, 65535),
+                b"65533".as_slice()
+            )?
+            .as_slice(),
+            b",-".as_slice()
+        );
+        Ok(())
+    }
+}

@@ -1,0 +1,252 @@
+//! Lists of numbers and ranges in any order.
+ghost use Rattle.std.specs.Prelude.{◌≡◌, ℕ, ◌+◌, ◌≤◌, ◌<◌, ◌↔◌, ◌||◌, true, List, [], ◌++◌, ◌∷◌, length, nat_eq, IsTrue, OnOk, OnErr, vec_len, vec_capacity, MatchOption};
+ghost use Rattle.cg_text.specs.Token.{Spells};
+ghost use Rattle.cg_text.specs.List.{IsLooseList};
+ghost use Rattle.cg_text.specs.ListState.{front, begin_of, number_rest};
+ghost use Rattle.cg_text.specs.LooseState.{IsLooseRest, IsSound, IsLooseTurn};
+ghost use Rattle.cg_text.specs.Numbers.{IsSet};
+ghost use Rattle.cg_text.specs.NumbersLaws.{inserted};
+ghost use Rattle.cg_text.specs.DecimalState.{decimal_ends};
+ghost use Rattle.cg_text.specs.LooseSound.{set_prop, sound_prop};
+
+use crate::decimal::DecimalText;
+use crate::list::open;
+use crate::memory::OutOfMemory;
+use crate::numbers::{NumberSet, insert_into};
+use crate::token::Token;
+use std::alloc::Global;
+
+/// Numbers and ranges in any order, which may overlap, with commas between: `a` or `a-b`, where b is at least a. None is the empty text.
+#[derive(Drop)]
+pub struct LooseListText {
+    most: u64,
+    /// The set of the ranges so far, and a place for the present one.
+    ranges: Vec<(u32, u32)>,
+    /// Where the present range begins, once its dash was taken.
+    low: Option<u32>,
+    number: DecimalText,
+    ghost small: { most ≤ 4294967295 },
+    ghost set: { IsSet (front ranges.items) } by { set_prop (front ranges.items) },
+    ghost sound: { IsSound most low (number_rest number) } by { sound_prop most low (number_rest number) },
+    ghost fresh: { length ranges.items ≡ 0 → (n : ℕ) → number_rest number [] n → ⊥ },
+}
+
+/// What a byte does.
+#[derive(Clone, Copy, Drop)]
+enum LooseTurn {
+    Digit(DecimalText),
+    Comma(u64, DecimalText),
+    Dash(u64, DecimalText),
+    Refused,
+}
+
+/// Adds a range in the place of the last, which is not yet known.
+fn add_last(ranges: &mut Vec<(u32, u32)>, begin: u32, end: u32)
+    requires some { 0 < length ranges.old.items }
+    requires order { begin ≤ end }
+    requires set { IsSet (front ranges.old.items) }
+    ensures items { ranges.new.items ≡ inserted begin end (front ranges.old.items) }
+    ensures room { vec_len ranges.old < vec_capacity ranges.old → vec_len ranges.new < vec_capacity ranges.new }
+    ensures len { vec_len ranges.new ≤ vec_len ranges.old }
+{
+    ranges.pop();
+    match insert_into(ranges, begin, end) {
+        Ok(()) => {}
+        Err(_) => unreachable!(),
+    }
+}
+
+/// Adds a range, and begins another.
+fn close(ranges: &mut Vec<(u32, u32)>, begin: u32, end: u32) -> Result<(), OutOfMemory>
+    requires some { 0 < length ranges.old.items }
+    requires order { begin ≤ end }
+    requires set { IsSet (front ranges.old.items) }
+    ensures closed { OnOk result (ranges.new.items ≡ inserted begin end (front ranges.old.items) ++ (0, 0) ∷ []) }
+    ensures len { vec_len ranges.new ≤ vec_len ranges.old + 1 }
+    ensures same { OnErr result (ranges.new.items ≡ ranges.old.items) }
+{
+    match ranges.reserve(1) {
+        Ok(()) => {}
+        Err(_) => return Err(OutOfMemory),
+    }
+    add_last(ranges, begin, end);
+    match ranges.push((0, 0)) {
+        Ok(()) => Ok(()),
+        Err(_) => unreachable!(),
+    }
+}
+
+impl LooseListText {
+    /// A token of such lists of numbers up to `most`. It takes no memory yet.
+    pub fn new(alloc: Global, most: u32) -> LooseListText
+        ensures spells { Spells ⟦<LooseListText as Token>⟧.means result (λ rest set. IsLooseList most set rest) }
+        ensures size { ⟦<LooseListText as Token>⟧.size result ≡ 0 }
+    {
+        match DecimalText::new(0, u64::from(most)) {
+            Some(number) => LooseListText {
+                most: u64::from(most),
+                ranges: Vec::new(alloc),
+                low: None,
+                number,
+            },
+            None => unreachable!(),
+        }
+    }
+
+    /// What the byte does.
+    fn turn(&self, byte: u8) -> LooseTurn
+        ensures turn { IsLooseTurn self.now.most self.now.low self.now.number byte result }
+    {
+        let mut number = self.number;
+        match number.step(byte) {
+            Ok(true) => return LooseTurn::Digit(number),
+            Ok(false) => {}
+            Err(_) => unreachable!(),
+        }
+        if !self.number.can_end() {
+            return LooseTurn::Refused;
+        }
+        let end = self.number.take();
+        if byte == b',' {
+            return match DecimalText::new(0, self.most) {
+                Some(number) => LooseTurn::Comma(end, number),
+                None => LooseTurn::Refused,
+            };
+        }
+        if byte != b'-' {
+            return LooseTurn::Refused;
+        }
+        match self.low {
+            Some(_) => LooseTurn::Refused,
+            None => match DecimalText::new(end, self.most) {
+                Some(number) => LooseTurn::Dash(end, number),
+                None => LooseTurn::Refused,
+            },
+        }
+    }
+}
+
+impl Token for LooseListText {
+    type Out = NumberSet;
+
+    ghost use Rattle.cg_text.specs.LooseLaws.{list_bytes};
+    ghost use Rattle.cg_text.specs.DecimalLaws.{IsDecimalRest_completes, IsDecimalRest_one, decimal_ends_is, number_digits};
+    ghost use Rattle.cg_text.specs.LooseLaws.{list_completes, list_one, list_ends};
+    ghost use Rattle.cg_text.specs.ListLaws.{true_not_false};
+
+    ghost means = { λ s rest all. IsLooseRest s.ranges.items s.most s.low (number_rest s.number) rest all };
+
+    ghost size = { λ s. length s.ranges.items };
+
+    ghost weight = { length };
+
+    ghost ends = { λ s. nat_eq (length s.ranges.items) 0 || decimal_ends s.number.lo s.number.hi s.number.progress };
+
+    ghost grows = { true };
+
+    fn step(&mut self, byte: u8) -> Result<bool, OutOfMemory> {
+        match self.turn(byte) {
+            LooseTurn::Digit(number) => match open(&mut self.ranges) {
+                Ok(()) => {
+                    self.number = number;
+                    Ok(true)
+                }
+                Err(e) => Err(e),
+            },
+            LooseTurn::Comma(end, number) => {
+                let begin = match self.low {
+                    Some(low) => low,
+                    None => end as u32,
+                };
+                match close(&mut self.ranges, begin, end as u32) {
+                    Ok(()) => {
+                        self.low = None;
+                        self.number = number;
+                        Ok(true)
+                    }
+                    Err(e) => Err(e),
+                }
+            }
+            LooseTurn::Dash(end, number) => {
+                self.low = Some(end as u32);
+                self.number = number;
+                Ok(true)
+            }
+            LooseTurn::Refused => Ok(false),
+        }
+    }
+
+    fn allows(&self, byte: u8) -> bool {
+        match self.turn(byte) {
+            LooseTurn::Refused => false,
+            _ => true,
+        }
+    }
+
+    fn can_end(&self) -> bool {
+        let empty = self.ranges.is_empty();
+        let ended = self.number.can_end();
+        empty | ended
+    }
+
+    fn held(&self) -> u64 {
+        self.ranges.len() as u64
+    }
+
+    fn take(self) -> NumberSet {
+        let mut ranges = self.ranges;
+        if !ranges.is_empty() {
+            let end = self.number.take() as u32;
+            let begin = match self.low {
+                Some(low) => low,
+                None => end,
+            };
+            add_last(&mut ranges, begin, end);
+        }
+        NumberSet { ranges }
+    }
+
+    fn weight_of(value: &NumberSet) -> u64 {
+        value.ranges.len() as u64
+    }
+
+    ghost completes = { λ s. list_completes s.ranges.items s.most s.low (number_rest s.number) s.set s.sound (IsDecimalRest_completes s.number.lo s.number.hi s.number.progress s.number.range s.number.live) };
+
+    ghost no_size = { λ e _. absurd (true_not_false e) };
+
+    ghost ends_is = { λ s. list_ends s.ranges.items s.most s.low (number_rest s.number) (decimal_ends s.number.lo s.number.hi s.number.progress) s.set s.sound (decimal_ends_is s.number.lo s.number.hi s.number.progress) };
+
+    ghost one_value = { λ s. list_one s.most (number_rest s.number) (number_digits s.number.lo s.number.hi s.number.progress) (IsDecimalRest_one s.number.lo s.number.hi s.number.progress) s.ranges.items s.low s.fresh };
+
+    ghost holds_bytes = { λ s. list_bytes s.ranges.items s.most s.low (number_rest s.number) (number_digits s.number.lo s.number.hi s.number.progress) };
+}
+
+#[cfg(test)]
+mod tests {
+    use super::*;
+    use crate::spelled::{reach, value};
+
+    #[test]
+    fn loose_lists(rt: HostRuntime) {
+        let alloc = rt.alloc();
+        let rows = [
+            (b"".as_slice(), 0, true),
+            (b"9,3-5,4".as_slice(), 7, true),
+            (b"3-3".as_slice(), 3, true),
+            (b"5-3,".as_slice(), 3, false),
+            (b"65535,65535-65535".as_slice(), 17, true),
+            (b"65536".as_slice(), 4, true),
+        ];
+        for (text, end, whole) in rows {
+            assert_eq!(rt; reach(LooseListText::new(alloc, 65535), text), (end, whole));
+        }
+        match value(LooseListText::new(alloc, 65535), b"9,3-5,4".as_slice()) {
+            Some(set) => assert_eq!(rt; set.ranges(), [(3, 5), (9, 9)].as_slice()),
+            None => assert!(rt; false),
+        }
+        match value(LooseListText::new(alloc, 65535), b"3-3".as_slice()) {
+            Some(set) => assert_eq!(rt; set.ranges(), [(3, 3)].as_slice()),
+            None => assert!(rt; false),
+        }
+    }
+}
