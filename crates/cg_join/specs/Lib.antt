@@ -8,5 +8,7 @@ pub mod Mapped
 pub mod MappedLaws
 pub mod Reading
 pub mod ReadingLaws
+pub mod Repeat
+pub mod RepeatLaws
 pub mod SequenceLaws
 pub mod Spelling
