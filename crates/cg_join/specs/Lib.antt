@@ -1,6 +1,8 @@
 pub mod ByteLaws
 pub mod Choice
 pub mod ChoiceLaws
+pub mod Distinct
+pub mod DistinctLaws
 pub mod Join
 pub mod Line
 pub mod LineLaws

@@ -2,8 +2,10 @@
 #![tactic(auto)]
 
 pub mod choice;
+pub mod distinct;
 pub mod line;
 pub mod mapped;
+pub mod peek;
 pub mod reading;
 pub mod repeat;
 pub mod sequence;
@@ -11,8 +13,10 @@ pub mod start;
 mod store;
 
 pub use choice::{Choice, Either};
+pub use distinct::Distinct;
 pub use line::{Line, one_line};
 pub use mapped::{Mapped, Turn};
+pub use peek::{Peek, StartNew};
 pub use reading::{Found, read};
 pub use repeat::Repeat;
 pub use sequence::Sequence;
