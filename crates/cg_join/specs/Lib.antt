@@ -6,6 +6,8 @@ pub mod DistinctLaws
 pub mod Join
 pub mod Line
 pub mod LineLaws
+pub mod Lines
+pub mod LinesLaws
 pub mod Mapped
 pub mod MappedLaws
 pub mod Reading

@@ -4,6 +4,7 @@
 pub mod choice;
 pub mod distinct;
 pub mod line;
+pub mod lines;
 pub mod mapped;
 pub mod peek;
 pub mod reading;
@@ -15,6 +16,7 @@ mod store;
 pub use choice::{Choice, Either};
 pub use distinct::Distinct;
 pub use line::{Line, one_line};
+pub use lines::Lines;
 pub use mapped::{Mapped, Turn};
 pub use peek::{Peek, StartNew};
 pub use reading::{Found, read};
