@@ -10,6 +10,8 @@ pub mod Lines
 pub mod LinesLaws
 pub mod Mapped
 pub mod MappedLaws
+pub mod Pairs
+pub mod PairsLaws
 pub mod Reading
 pub mod ReadingLaws
 pub mod Repeat

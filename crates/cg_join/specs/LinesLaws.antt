@@ -1,5 +1,5 @@
 -- What holds of lines.
-use Rattle.std.proofs.Common.{◌≡◌, ℕ, ◌↔◌, Bool, true, false, not, List, [], ◌∷◌, ◌++◌, refl, sym, ◌∙◌, ap, append_assoc, IsTrue, IsFalse}
+use Rattle.std.proofs.Common.{◌≡◌, ℕ, ◌↔◌, Bool, true, false, not, List, [], ◌∷◌, ◌++◌, refl, sym, ◌∙◌, ap, append_assoc, IsTrue}
 use Rattle.cg_text.specs.Token.{HasOneText}
 use Rattle.cg_join.specs.RepeatLaws.{not_nil, same_front}
 use Rattle.cg_join.specs.Line.{LacksByte}

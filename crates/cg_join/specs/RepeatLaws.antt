@@ -1,6 +1,6 @@
 -- What holds of lists of texts.
-use Rattle.std.proofs.Common.{◌≡◌, ℕ, ◌+◌, ◌≤◌, ◌↔◌, ◌⊎◌, inl, inr, Bool, true, false, ◌&&◌, ◌||◌, List, [], ◌∷◌, ◌++◌, length, refl, sym, ◌∙◌, ap, arith, append_assoc, IsTrue, min}
-use Rattle.cg_text.specs.Token.{Spells, Follows, Begins, NoneBegins, Same, Ends, Completes, HasOneValue, HasOneText, told}
+use Rattle.std.proofs.Common.{◌≡◌, ℕ, ◌+◌, ◌↔◌, ◌⊎◌, inl, inr, Bool, true, false, ◌&&◌, ◌||◌, List, [], ◌∷◌, ◌++◌, refl, sym, ◌∙◌, ap, arith, append_assoc, IsTrue, min}
+use Rattle.cg_text.specs.Token.{HasOneText, told}
 use Rattle.cg_join.specs.SequenceLaws.{cuts}
 use Rattle.cg_join.specs.Repeat.{Stops, IsList, IsListAfter, AreJoined, items_weight, out_weight}
 
@@ -141,7 +141,7 @@ module _ {V : Type 0} (separator : ℕ) where
       let s : x ≡ b = cc in
       inl (front, v, rw s at h)
 
-  list_begun : (P R : List ℕ → V → Type 0) (b : ℕ) (rest : List ℕ) (vs : List V) → IsList P R separator (b ∷ rest) vs →
+  pub list_begun : (P R : List ℕ → V → Type 0) (b : ℕ) (rest : List ℕ) (vs : List V) → IsList P R separator (b ∷ rest) vs →
       ((more : List ℕ) × (u : V) × P (b ∷ more) u) ⊎ ((b ≡ separator) × ((u : V) × P [] u))
   list_begun P R b rest [] h = absurd h
   list_begun P R b rest (v ∷ []) h = inl (rest, v, h)

@@ -1,10 +1,9 @@
-use Rattle.std.proofs.Common.{◌≡◌, true, false, [], ◌∷◌, ◌++◌, refl, sym, ◌∙◌, ap, arith}
+use Rattle.std.proofs.Common.{◌≡◌, true, false, [], ◌∷◌, ◌++◌, sym, ◌∙◌, ap, arith}
 use Rattle.cg_join.specs.RepeatLaws.{stops_taken, stops_same, list_taken, list_same, list_none, list_next, told_more, weight_pushed}
 use Rattle.cg_join.specs.Repeat.{items_weight}
 use Rattle.cg_join.specs.Distinct.{any_value}
 use Rattle.cg_join.specs.DistinctLaws.{with_distinct, distinct_dup, distinct_pushed, new_value}
 use Rattle.cg_join.proofs.distinct.DistinctToken.step.Goals as goal
-
 
 pub invariant_of-self-in-Ok-true : goal.invariant_of-self-in-Ok-true
 invariant_of-self-in-Ok-true g c =

@@ -1,4 +1,4 @@
-use Rattle.std.proofs.Common.{◌≡◌, [], ◌∷◌, ◌++◌, ◌∙◌, arith}
+use Rattle.std.proofs.Common.{◌∙◌, arith}
 use Rattle.cg_join.specs.RepeatLaws.{out_weight_pushed}
 use Rattle.cg_join.specs.DistinctLaws.{distinct_value}
 use Rattle.cg_join.proofs.distinct.DistinctToken.take.Goals as goal

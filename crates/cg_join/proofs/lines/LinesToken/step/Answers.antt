@@ -1,4 +1,4 @@
-use Rattle.std.proofs.Common.{◌≡◌, true, false, [], ◌∷◌, ◌++◌, refl, sym, ◌∙◌, ap, arith}
+use Rattle.std.proofs.Common.{◌≡◌, true, [], ◌∷◌, ◌++◌, ◌∙◌, ap, arith}
 use Rattle.cg_join.specs.RepeatLaws.{told_more, weight_pushed}
 use Rattle.cg_join.specs.LinesLaws.{lacks_taken, lacks_same, lines_taken, lines_same, lines_none, lines_next}
 use Rattle.cg_join.specs.Repeat.{items_weight}

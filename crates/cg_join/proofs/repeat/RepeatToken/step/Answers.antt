@@ -1,4 +1,4 @@
-use Rattle.std.proofs.Common.{◌≡◌, true, false, [], ◌∷◌, ◌++◌, refl, sym, ◌∙◌, ap, arith}
+use Rattle.std.proofs.Common.{◌≡◌, true, [], ◌∷◌, ◌++◌, ◌∙◌, ap, arith}
 use Rattle.cg_join.specs.RepeatLaws.{stops_taken, stops_same, list_taken, list_same, list_none, list_next, told_more, weight_pushed}
 use Rattle.cg_join.specs.Repeat.{items_weight}
 use Rattle.cg_join.proofs.repeat.RepeatToken.step.Goals as goal
