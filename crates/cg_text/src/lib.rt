@@ -1,12 +1,10 @@
 //! Texts of one value that are taken a byte at a time, and the values that they spell.
 #![tactic(auto)]
 
-mod digit;
-mod spelled;
-mod trial;
 pub mod byte;
 pub mod bytes;
 pub mod decimal;
+mod digit;
 pub mod fixed;
 pub mod hundredths;
 pub mod items;
@@ -39,7 +37,6 @@ pub use loose::LooseListText;
 pub use memory::OutOfMemory;
 pub use numbers::NumberSet;
 pub use pairs::{LimitKey, LimitPairs, LimitPairsText};
-pub use pairs::{LimitKey, LimitPairs};
 pub use raw::RawText;
 pub use reason::ReasonText;
 pub use signed::SignedText;
@@ -50,4 +47,4 @@ pub use values::{Amount, Clamp, Device, Hundredths, Limit};
 pub use word::WordText;
 
 #[cfg(test)]
-#[cfg(test)]
+mod spelled;

@@ -94,7 +94,7 @@ impl Token for RawText {
 #[cfg(test)]
 mod tests {
     use super::*;
-    use crate::trial::read;
+    use crate::spelled::read;
 
     #[test]
     fn reads_raw_lines(rt: HostRuntime) {

@@ -92,7 +92,7 @@ impl Token for ReasonText {
 #[cfg(test)]
 mod tests {
     use super::*;
-    use crate::trial::read;
+    use crate::spelled::read;
 
     #[test]
     fn reads_reasons(rt: HostRuntime) {

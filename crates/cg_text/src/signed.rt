@@ -169,7 +169,7 @@ impl Token for SignedText {
 #[cfg(test)]
 mod tests {
     use super::*;
-    use crate::trial::read;
+    use crate::spelled::read;
 
     #[test]
     fn reads_niceness(rt: HostRuntime) {

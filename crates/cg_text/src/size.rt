@@ -158,7 +158,7 @@ impl Token for SizeText {
 #[cfg(test)]
 mod tests {
     use super::*;
-    use crate::trial::read;
+    use crate::spelled::read;
 
     #[test]
     fn reads_sizes(rt: HostRuntime) {

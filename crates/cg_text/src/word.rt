@@ -108,7 +108,7 @@ impl Token for WordText {
 mod tests {
     use super::*;
     use crate::key::KeyFault;
-    use crate::trial::read;
+    use crate::spelled::read;
 
     #[test]
     fn reads_words(rt: HostRuntime) {

@@ -1,0 +1,26 @@
+-- Lists of values that are all different.
+use Rattle.std.specs.Prelude.{◌≡◌, ℕ, Bool, false, ◌||◌, List, [], ◌∷◌}
+use Rattle.cg_join.specs.Repeat.{AreJoined, IsListAfter}
+
+-- No member is the value.
+abbrev pub LacksValue : {V : Type 0} → V → List V → Type 0
+LacksValue v [] = Unit {0}
+LacksValue v (w ∷ ws) = (v ≡ w → ⊥) × LacksValue v ws
+
+-- No two members are one.
+abbrev pub AreDistinct : {V : Type 0} → List V → Type 0
+AreDistinct [] = Unit {0}
+AreDistinct (v ∷ vs) = LacksValue v vs × AreDistinct vs
+
+-- One or more texts of the relation with a separator between, each with its value, all different.
+abbrev pub AreDistinctJoined : {V : Type 0} → (List ℕ → V → Type 0) → ℕ → List ℕ → List V → Type 0
+AreDistinctJoined R separator text vs = AreJoined R separator text vs × AreDistinct vs
+
+-- Whether a member passes the test.
+abbrev pub any_value : {V : Type 0} → (V → Bool) → List V → Bool
+any_value f [] = false
+any_value f (v ∷ vs) = f v || any_value f vs
+
+-- The values before and those of the rest, all different.
+abbrev pub IsDistinctAfter : {V : Type 0} → List V → (List ℕ → V → Type 0) → (List ℕ → V → Type 0) → ℕ → List ℕ → List V → Type 0
+IsDistinctAfter items P R separator rest all = IsListAfter items P R separator rest all × AreDistinct all

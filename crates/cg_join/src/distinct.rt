@@ -1,0 +1,133 @@
+//! One or more of a token, all different, with a byte between.
+ghost use Rattle.std.specs.Prelude.{◌≡◌, ℕ, ◌+◌, ◌≤◌, ◌<◌, ◌↔◌, true, false, not, ◌&&◌, List, [], ◌++◌, ◌∷◌, IsTrue, IsFalse, vec_len, vec_capacity};
+ghost use Rattle.cg_text.specs.Token.{Spells, told};
+ghost use Rattle.cg_join.specs.Repeat.{LacksEmpty, Stops, items_weight, out_weight};
+ghost use Rattle.cg_join.specs.Distinct.{AreDistinct, AreDistinctJoined, any_value, IsDistinctAfter};
+ghost use Rattle.cg_join.specs.DistinctLaws.{AreDistinct_prop};
+
+use crate::peek::{Peek, StartNew, has};
+use crate::store::{make_room, put, weight_of_joined};
+use cg_text::{Items, OutOfMemory, Token};
+use std::alloc::Global;
+use std::mem;
+
+/// One or more of a token, all different, with a byte between that a token never takes where it could end.
+/// No text of it is empty. A text may end, or be followed by the byte, only where it is new.
+#[derive(Drop)]
+pub struct Distinct<T: Peek, S: StartNew<T>> {
+    start: S,
+    separator: u8,
+    items: Vec<T::Out>,
+    current: T,
+    kept: u64,
+    ghost counted: { kept ≡ told (items_weight T.weight items.items) },
+    ghost stops: { Stops (T.means current) separator },
+    ghost starts: { Stops (S.texts start) separator },
+    ghost filled: { LacksEmpty (S.texts start) },
+    ghost room: { IsTrue (T.ends current) → vec_len items < vec_capacity items },
+    ghost small: { separator < 256 },
+    ghost distinct: { AreDistinct items.items } by { AreDistinct_prop items.items },
+}
+
+impl<T: Peek, S: StartNew<T>> Distinct<T, S> {
+    /// One or more texts of the tokens that `start` makes, all different.
+    pub fn new(alloc: Global, start: S, separator: u8) -> Distinct<T, S>
+        requires stops { Stops (S.texts start) separator }
+        requires filled { LacksEmpty (S.texts start) }
+        ensures spells { Spells ⟦<Distinct<T, S> as Token>⟧.means result (AreDistinctJoined (S.texts start) separator) }
+        ensures size { ⟦<Distinct<T, S> as Token>⟧.size result ≡ 0 }
+    {
+        let current = start.start();
+        Distinct {
+            start,
+            separator,
+            items: Vec::new(alloc),
+            current,
+            kept: 0,
+        }
+    }
+}
+
+impl<T: Peek, S: StartNew<T>> Token for Distinct<T, S> {
+    type Out = Items<T::Out>;
+
+    ghost use Rattle.cg_join.specs.ByteLaws.{list_bytes};
+    ghost use Rattle.cg_join.specs.RepeatLaws.{true_not_false};
+    ghost use Rattle.cg_join.specs.DistinctLaws.{distinct_completes, distinct_ends, distinct_one};
+
+    ghost means = { λ s rest all. IsDistinctAfter s.items.items (T.means s.current) (S.texts s.start) s.separator rest all };
+
+    ghost size = { λ s. items_weight T.weight s.items.items + T.size s.current };
+
+    ghost weight = { out_weight T.weight };
+
+    ghost ends = { λ s. T.ends s.current && not (any_value (T.is_value s.current) s.items.items) };
+
+    ghost grows = { true };
+
+    fn step(&mut self, byte: u8) -> Result<bool, OutOfMemory> {
+        // The last value is put into the vector by `take`, which takes no memory.
+        match make_room(&mut self.items) {
+            Ok(()) => {}
+            Err(e) => return Err(e),
+        }
+        match self.current.step(byte) {
+            Ok(true) => return Ok(true),
+            Ok(false) => {}
+            Err(e) => return Err(e),
+        }
+        if byte != self.separator {
+            return Ok(false);
+        }
+        if !self.current.can_end() {
+            return Ok(false);
+        }
+        if has(self.items.as_slice(), &self.current) {
+            return Ok(false);
+        }
+        let next = self.start.start();
+        let done = mem::replace(&mut self.current, next);
+        let value = done.take();
+        let weight = T::weight_of(&value);
+        put(&mut self.items, value);
+        self.kept = self.kept.saturating_add(1).saturating_add(weight);
+        Ok(true)
+    }
+
+    fn allows(&self, byte: u8) -> bool {
+        let more = self.current.allows(byte);
+        let next = byte == self.separator;
+        let ended = self.can_end();
+        more | (next & ended)
+    }
+
+    fn can_end(&self) -> bool {
+        let ended = self.current.can_end();
+        let old = has(self.items.as_slice(), &self.current);
+        ended & !old
+    }
+
+    fn held(&self) -> u64 {
+        self.kept.saturating_add(self.current.held())
+    }
+
+    fn take(self) -> Items<T::Out> {
+        let mut items = self.items;
+        put(&mut items, self.current.take());
+        Items::of(items)
+    }
+
+    fn weight_of(value: &Items<T::Out>) -> u64 {
+        weight_of_joined::<T>(value.as_slice())
+    }
+
+    ghost completes = { λ s. distinct_completes (T.means s.current) (S.texts s.start) s.separator s.items.items s.distinct (T.longer s.current [] (T.completes s.current) s.items.items) };
+
+    ghost no_size = { λ e s. absurd (true_not_false e) };
+
+    ghost ends_is = { λ s. distinct_ends (T.means s.current) (S.texts s.start) s.separator s.items.items (T.is_value s.current) (T.ends s.current) s.distinct (T.is_value_is s.current) (T.one_value s.current) (T.ends_is s.current) };
+
+    ghost one_value = { λ s. distinct_one (T.means s.current) (S.texts s.start) s.separator s.items.items s.stops s.starts (T.one_value s.current) (S.one_text s.start) };
+
+    ghost holds_bytes = { λ s rest all h. list_bytes (T.means s.current) (S.texts s.start) s.separator s.small (T.holds_bytes s.current) (S.text_bytes s.start) rest h.0.0 h.0.2 };
+}

@@ -1,0 +1,125 @@
+//! Lines: any number of a token, each with an ending byte.
+ghost use Rattle.std.specs.Prelude.{◌≡◌, ℕ, ◌+◌, ◌≤◌, ◌<◌, ◌↔◌, Bool, true, false, not, List, [], ◌++◌, ◌∷◌, IsTrue, IsFalse};
+ghost use Rattle.cg_text.specs.Token.{Spells, told};
+ghost use Rattle.cg_join.specs.Repeat.{items_weight};
+ghost use Rattle.cg_join.specs.Line.{LacksByte};
+ghost use Rattle.cg_join.specs.Lines.{AreLines, AreLinesAfter};
+
+use crate::start::Start;
+use crate::store::{make_room, put, weight_of_all};
+use cg_text::{Items, OutOfMemory, Token};
+use std::alloc::Global;
+use std::mem;
+
+/// Any number of a token, also none, each with a byte after it that none of its texts has.
+#[derive(Drop)]
+pub struct Lines<T: Token, S: Start<T>> {
+    start: S,
+    end: u8,
+    items: Vec<T::Out>,
+    current: T,
+    begun: bool,
+    kept: u64,
+    ghost counted: { kept ≡ told (items_weight T.weight items.items) },
+    ghost lacks: { LacksByte (T.means current) end },
+    ghost starts: { LacksByte (S.texts start) end },
+    ghost small: { end < 256 },
+}
+
+impl<T: Token, S: Start<T>> Lines<T, S> {
+    /// Any number of texts of the tokens that `start` makes.
+    pub fn new(alloc: Global, start: S, end: u8) -> Lines<T, S>
+        requires { LacksByte (S.texts start) end }
+        ensures spells { Spells ⟦<Lines<T, S> as Token>⟧.means result (AreLines (S.texts start) end) }
+        ensures size { ⟦<Lines<T, S> as Token>⟧.size result ≡ 0 }
+    {
+        let current = start.start();
+        Lines {
+            start,
+            end,
+            items: Vec::new(alloc),
+            current,
+            begun: false,
+            kept: 0,
+        }
+    }
+}
+
+impl<T: Token, S: Start<T>> Token for Lines<T, S> {
+    type Out = Items<T::Out>;
+
+    ghost use Rattle.cg_join.specs.ByteLaws.{lines_bytes};
+    ghost use Rattle.cg_join.specs.RepeatLaws.{true_not_false};
+    ghost use Rattle.cg_join.specs.LinesLaws.{lines_completes, lines_ends, lines_after_one};
+
+    ghost means = { λ s rest all. AreLinesAfter s.items.items s.begun (T.means s.current) (S.texts s.start) s.end rest all };
+
+    ghost size = { λ s. items_weight T.weight s.items.items + T.size s.current };
+
+    ghost weight = { items_weight T.weight };
+
+    ghost ends = { λ s. not s.begun };
+
+    ghost grows = { true };
+
+    fn step(&mut self, byte: u8) -> Result<bool, OutOfMemory> {
+        if byte != self.end {
+            return match self.current.step(byte) {
+                Ok(true) => {
+                    self.begun = true;
+                    Ok(true)
+                }
+                Ok(false) => Ok(false),
+                Err(e) => Err(e),
+            };
+        }
+        if !self.current.can_end() {
+            return Ok(false);
+        }
+        match make_room(&mut self.items) {
+            Ok(()) => {}
+            Err(e) => return Err(e),
+        }
+        let next = self.start.start();
+        let done = mem::replace(&mut self.current, next);
+        let value = done.take();
+        let weight = T::weight_of(&value);
+        put(&mut self.items, value);
+        self.kept = self.kept.saturating_add(1).saturating_add(weight);
+        self.begun = false;
+        Ok(true)
+    }
+
+    fn allows(&self, byte: u8) -> bool {
+        if byte == self.end {
+            return self.current.can_end();
+        }
+        self.current.allows(byte)
+    }
+
+    fn can_end(&self) -> bool {
+        !self.begun
+    }
+
+    fn held(&self) -> u64 {
+        self.kept.saturating_add(self.current.held())
+    }
+
+    fn take(self) -> Items<T::Out> {
+        Items::of(self.items)
+    }
+
+    fn weight_of(value: &Items<T::Out>) -> u64 {
+        weight_of_all::<T>(value.as_slice())
+    }
+
+    ghost completes = { λ s. lines_completes s.end (T.means s.current) (S.texts s.start) s.items.items s.begun (T.completes s.current) };
+
+    ghost no_size = { λ e s. absurd (true_not_false e) };
+
+    ghost ends_is = { λ s. lines_ends s.end (T.means s.current) (S.texts s.start) s.items.items s.begun };
+
+    ghost one_value = { λ s. lines_after_one s.end (T.means s.current) (S.texts s.start) s.items.items s.begun s.lacks s.starts (T.one_value s.current) (S.one_text s.start) };
+
+    ghost holds_bytes = { λ s rest all h. lines_bytes (T.means s.current) (S.texts s.start) s.end s.small (T.holds_bytes s.current) (S.text_bytes s.start) s.begun rest h.0 h.2 };
+}

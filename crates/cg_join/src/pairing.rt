@@ -1,0 +1,82 @@
+//! Pairs of a word and a value.
+ghost use Rattle.std.specs.Prelude.{◌≡◌, ℕ, ◌+◌, ◌≤◌, ◌<◌, Bool, List, [], ◌++◌, ◌∷◌, IsTrue, map, vec_len, vec_capacity, not, ◌&&◌};
+ghost use Rattle.cg_text.specs.Token.{Spells, told};
+ghost use Rattle.cg_join.specs.Repeat.{items_weight};
+ghost use Rattle.cg_join.specs.Distinct.{any_value};
+ghost use Rattle.cg_join.specs.Pairs.{pair_weight};
+
+use crate::peek::Peek;
+use crate::start::Start;
+use crate::store::put;
+use cg_text::Token;
+use std::mem;
+
+/// How a word and a value make a pair.
+pub trait Pairing<K: Token, V: Token> {
+    type Pair: Drop;
+
+    /// The word of a pair.
+    ghost word_of: { Self.Pair → K.Out };
+
+    /// The value of a pair.
+    ghost value_of: { Self.Pair → V.Out };
+
+    /// The pair of the two.
+    ghost paired: { K.Out → V.Out → Self.Pair };
+
+    /// Makes the pair. It takes no memory.
+    fn pair(word: K::Out, value: V::Out) -> Self::Pair
+        ensures { result ≡ paired word value };
+
+    /// The word of a pair.
+    fn word(pair: &Self::Pair) -> &K::Out
+        ensures { result.now ≡ word_of pair.now };
+
+    /// The value of a pair.
+    fn value(pair: &Self::Pair) -> &V::Out
+        ensures { result.now ≡ value_of pair.now };
+
+    /// A pair has the word that it is made of.
+    ghost has_word: { (word : K.Out) (value : V.Out) → word_of (paired word value) ≡ word };
+
+    /// A pair has the value that it is made of.
+    ghost has_value: { (word : K.Out) (value : V.Out) → value_of (paired word value) ≡ value };
+
+    /// A pair has nothing else.
+    ghost whole: { (pair : Self.Pair) → paired (word_of pair) (value_of pair) ≡ pair };
+}
+
+/// Whether what was taken is a word that no pair has.
+pub(crate) fn is_new_word<K: Peek, V: Token, F: Pairing<K, V>>(items: &[F::Pair], word: &K) -> bool
+    ensures { result ≡ not (any_value (K.is_value word.now) (map F.word_of items.now)) }
+{
+    for pair in items {
+        if word.is(F::word(pair)) {
+            return false;
+        }
+    }
+    true
+}
+
+/// The sum of the lengths of the vectors in pairs, and a place for each.
+pub(crate) fn weight_of_pairs<K: Token, V: Token, F: Pairing<K, V>>(items: &[F::Pair]) -> u64
+    ensures { result ≡ told (items_weight (pair_weight F.word_of F.value_of K.weight V.weight) items.now) }
+{
+    let mut total: u64 = 0;
+    for pair in items {
+        let weight = K::weight_of(F::word(pair)).saturating_add(V::weight_of(F::value(pair)));
+        total = total.saturating_add(1).saturating_add(weight);
+    }
+    total
+}
+
+/// The value of a token that has ended, and a new token in its place.
+pub(crate) fn renew<T: Token, S: Start<T>>(token: &mut T, start: &S) -> T::Out
+    requires { IsTrue (T.ends token.old) }
+    ensures value { T.means token.old [] result }
+    ensures weight { T.weight result ≤ T.size token.old }
+    ensures spells { Spells T.means token.new (S.texts start.now) }
+    ensures size { T.size token.new ≡ 0 }
+{
+    mem::replace(token, start.start()).take()
+}
