@@ -18,8 +18,7 @@ module _ (kind : ReadForm) (taken : List ℕ) where
   pub allowed_more : (old new : List Bool) (n : ℕ) → IsAllowedBelow old kind taken n → ((other : ℕ) → HasByte new other ↔ (HasByte old other ⊎ (other ≡ n))) → Next (KindFile kind) taken n → IsAllowedBelow new kind taken (n + 1)
   allowed_more old new n h added next b =
       let to : (HasByte old b ⊎ (b ≡ n)) → (b < n + 1) × Next (KindFile kind) taken b =
-      elim [ inl k ↦ (let m = (h b).0 k in (omega (arith, m.0), m.1)) | inr e ↦ (omega (arith, e), rw e next) ] in
-      (
+      elim [ inl k ↦ (let m = (h b).0 k in (omega (arith, m.0), m.1)) | inr e ↦ (omega (arith, e), rw e next) ] in (
         λ k. to ((added b).0 k),
         λ k. (added b).1 (elim (dec_lt b n) [ yes lt ↦ inl ((h b).1 (lt, k.1)) | no ge ↦ inr (omega (arith, ge, k.0)) ]),
       )

@@ -27,5 +27,5 @@ one_is kind P make reads text v = (
     text_is = h.1.whole;
   },
   λ h. (let one = (reads v h.lines).0 h.spelled in
-    ((one.x, tt), record { front = one.line; whole = h.text_is ∙ ap unlines one.lines_are; spells = one.spelled }, sym one.value)),
+      ((one.x, tt), record { front = one.line; whole = h.text_is ∙ ap unlines one.lines_are; spells = one.spelled }, sym one.value)),
 )

@@ -40,7 +40,9 @@ fn read_whole(reader: ValueReader, bytes: &[u8]) -> Result<Value, FileFault>
     }
     match reader.finish() {
         Ok(value) => Ok(value),
-        Err(_) => Err(FileFault::Cut { at: bytes.len() as u64 }),
+        Err(_) => Err(FileFault::Cut {
+            at: bytes.len() as u64,
+        }),
     }
 }
 

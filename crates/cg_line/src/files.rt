@@ -4,7 +4,7 @@ ghost use Rattle.cg_text.specs.Token.{Spells};
 ghost use Rattle.cg_value.specs.Files.{KindText};
 ghost use Rattle.cg_value.specs.declared.kind.ReadForm.TheVariants.{Number as NumberForm, Limit as LimitForm};
 
-use cg_join::{Line, LimitText, Sequence, Turn, one_line};
+use cg_join::{LimitText, Line, Sequence, Turn, one_line};
 use cg_text::{ByteText, DecimalText, Limit, Token};
 use cg_value::Value;
 

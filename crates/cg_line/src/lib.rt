@@ -6,6 +6,8 @@ pub mod files;
 pub mod machine;
 pub mod place;
 pub mod reader;
+#[cfg(test)]
+mod tests;
 
 pub use decode::{FileFault, decode_file};
 pub use machine::PushFault;

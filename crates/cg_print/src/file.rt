@@ -66,3 +66,25 @@ fn append_limit(text: &mut Vec<u8>, limit: Limit) -> Result<(), OutOfMemory>
         Limit::At(number) => append_number(text, number),
     }
 }
+
+#[cfg(test)]
+mod tests {
+    use super::*;
+    use std::test::Fail;
+
+    #[test]
+    fn canonical_texts(rt: HostRuntime) -> Result<(), Fail> {
+        let rows = [
+            (Value::Number(0), "0\n"),
+            (Value::Number(10000), "10000\n"),
+            (Value::Number(u64::MAX), "18446744073709551615\n"),
+            (Value::Limit(Limit::Max), "max\n"),
+            (Value::Limit(Limit::At(4096)), "4096\n"),
+        ];
+        for (value, wanted) in rows {
+            let text = print_file(rt.alloc(), &value)?;
+            assert!(rt; text.as_slice() == wanted.as_bytes(), "{wanted}");
+        }
+        Ok(())
+    }
+}

@@ -33,7 +33,7 @@ impl ByteSet {
     pub fn insert(&mut self, byte: u8)
         ensures added { (other : ℕ) → HasByte self.new other ↔ (HasByte self.old other ⊎ (other ≡ byte)) }
     {
-        self.marks[byte as usize] = true;
+        self.marks[usize::from(byte)] = true;
     }
 
     /// Whether the byte is in the set.

@@ -27,32 +27,32 @@ any_u64 = 18446744073709551615
 
 abbrev pub rows : List Row
 rows = limit (codes "cgroup.max.descendants")
-  ∷ limit (codes "cgroup.max.depth")
-  ∷ number (codes "cgroup.freeze") 1
-  ∷ number (codes "cgroup.pressure") 1
-  ∷ unreadable (codes "cgroup.kill")
-  ∷ number (codes "cpu.weight") 10000
-  ∷ number (codes "cpu.idle") 1
-  ∷ number (codes "cpu.max.burst") any_u64
-  ∷ number (codes "memory.current") any_u64
-  ∷ number (codes "memory.peak") any_u64
-  ∷ number (codes "memory.swap.current") any_u64
-  ∷ number (codes "memory.swap.peak") any_u64
-  ∷ number (codes "memory.zswap.current") any_u64
-  ∷ limit (codes "memory.min")
-  ∷ limit (codes "memory.low")
-  ∷ limit (codes "memory.high")
-  ∷ limit (codes "memory.max")
-  ∷ limit (codes "memory.swap.high")
-  ∷ limit (codes "memory.swap.max")
-  ∷ limit (codes "memory.zswap.max")
-  ∷ number (codes "memory.oom.group") 1
-  ∷ number (codes "memory.zswap.writeback") 1
-  ∷ unreadable (codes "memory.reclaim")
-  ∷ limit (codes "pids.max")
-  ∷ number (codes "pids.current") any_u64
-  ∷ number (codes "pids.peak") any_u64
-  ∷ []
+    ∷ limit (codes "cgroup.max.depth")
+    ∷ number (codes "cgroup.freeze") 1
+    ∷ number (codes "cgroup.pressure") 1
+    ∷ unreadable (codes "cgroup.kill")
+    ∷ number (codes "cpu.weight") 10000
+    ∷ number (codes "cpu.idle") 1
+    ∷ number (codes "cpu.max.burst") any_u64
+    ∷ number (codes "memory.current") any_u64
+    ∷ number (codes "memory.peak") any_u64
+    ∷ number (codes "memory.swap.current") any_u64
+    ∷ number (codes "memory.swap.peak") any_u64
+    ∷ number (codes "memory.zswap.current") any_u64
+    ∷ limit (codes "memory.min")
+    ∷ limit (codes "memory.low")
+    ∷ limit (codes "memory.high")
+    ∷ limit (codes "memory.max")
+    ∷ limit (codes "memory.swap.high")
+    ∷ limit (codes "memory.swap.max")
+    ∷ limit (codes "memory.zswap.max")
+    ∷ number (codes "memory.oom.group") 1
+    ∷ number (codes "memory.zswap.writeback") 1
+    ∷ unreadable (codes "memory.reclaim")
+    ∷ limit (codes "pids.max")
+    ∷ number (codes "pids.current") any_u64
+    ∷ number (codes "pids.peak") any_u64
+    ∷ []
 
 -- What the first row of the name says; a name outside the table has no read form yet.
 abbrev pub reads_in : List Row → List ℕ → Option ReadForm

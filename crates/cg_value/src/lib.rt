@@ -5,6 +5,8 @@ pub mod kind;
 pub mod path;
 pub mod profile;
 pub mod table;
+#[cfg(test)]
+mod tests;
 pub mod value;
 
 pub use kind::{ReadForm, ReadKind};

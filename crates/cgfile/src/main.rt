@@ -9,6 +9,8 @@ mod plain;
 mod reading;
 mod run;
 mod source;
+#[cfg(test)]
+mod tests;
 mod words;
 
 use cg_print::{PlainWriter, Sink, write_text};
@@ -40,7 +42,14 @@ fn main(rt: HostRuntime) -> ExitCode {
     };
     match parse_words(rt.alloc(), words.as_slice()) {
         Ok((profile, command, limits)) => {
-            let outcome = run(rt.alloc(), profile, &command, &mut reader, &mut writer, limits);
+            let outcome = run(
+                rt.alloc(),
+                profile,
+                &command,
+                &mut reader,
+                &mut writer,
+                limits,
+            );
             ExitCode::from(status(&outcome))
         }
         Err(UsageFault::Help(text)) => ended(&mut writer, text.as_bytes(), 0),

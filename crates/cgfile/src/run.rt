@@ -120,7 +120,14 @@ pub fn run<R: Source, W: Sink>(
 {
     match command {
         Command::File { name } => {
-            run_file(alloc, profile, name.as_slice(), reader, writer, limits.max_stream)
+            run_file(
+                alloc,
+                profile,
+                name.as_slice(),
+                reader,
+                writer,
+                limits.max_stream,
+            )
         }
         Command::Setting { .. } => told_line(writer, Outcome::NotWritable),
         Command::Plan => told_line(writer, Outcome::NotWritable),

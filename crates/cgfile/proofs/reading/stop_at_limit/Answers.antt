@@ -13,6 +13,6 @@ returns-then-contains c kind taken h e =
 pub returns-else-contains : goal.returns-else-contains
 returns-else-contains c kind taken h e =
     let none : Next (KindFile kind) taken c.args.byte → ⊥ = λ next. (
-      let has : c.contains.result ≡ true = c.contains.ensures.1 ((c.allowed.ensures kind taken h c.args.byte).1 next) in
-      let lacks = c.if-contains.false in cc) in
+    let has : c.contains.result ≡ true = c.contains.ensures.1 ((c.allowed.ensures kind taken h c.args.byte).1 next) in
+    let lacks = c.if-contains.false in cc) in
     rw e (stop_refused (KindFile kind) (length taken) taken c.args.byte (reads_viable c.args.reader.now kind taken h) (omega arith) none)

@@ -12,7 +12,7 @@ loop-number-preserved c kind taken h =
     elim c.if-allows_byte.branch [
       | then-allows_byte w ↦ rw w.set-is (allowed_more kind taken c.loop-number.set w.insert.new.self number before w.insert.ensures.added (next.0 (c.allows_byte.ensures.0 w.if-allows_byte.true)))
       | else-allows_byte w ↦ rw w.set-is (allowed_same kind taken c.loop-number.set number before
-        (λ goes. (let allowed : c.allows_byte.result ≡ true = c.allows_byte.ensures.1 (next.1 goes) in let refused = w.if-allows_byte.false in cc)))
+          (λ goes. (let allowed : c.allows_byte.result ≡ true = c.allows_byte.ensures.1 (next.1 goes) in let refused = w.if-allows_byte.false in cc)))
     ]
 
 pub returns : goal.returns

@@ -1,0 +1,328 @@
+//! Whole runs over bytes in memory.
+use crate::cut::CutSource;
+use crate::outcome::{Outcome, status};
+use crate::run::run;
+use crate::words::Command;
+use cg_print::CutSink;
+use cg_snap::{Limits, Stop, Why};
+use cg_value::Profile;
+use std::alloc::{AllocError, Global};
+use std::test::Fail;
+
+/// The command `file NAME`.
+fn file(alloc: Global, name: &[u8]) -> Result<Command, AllocError> {
+    Ok(Command::File {
+        name: Vec::from_slice(alloc, name)?,
+    })
+}
+
+/// A run of `file NAME` over these bytes, which a source gives and a sink takes a few at a time.
+fn run_file(
+    alloc: Global,
+    name: &[u8],
+    input: &[u8],
+    limits: Limits,
+    step: usize,
+) -> Result<(Outcome, CutSink), AllocError> {
+    let command = file(alloc, name)?;
+    let mut source = CutSource::new(input, usize::MAX, step);
+    let mut sink = CutSink::new(usize::MAX, step);
+    let outcome = run(
+        alloc,
+        Profile::One,
+        &command,
+        &mut source,
+        &mut sink,
+        limits,
+    );
+    Ok((outcome, sink))
+}
+
+/// Rows of one file: its name, its bytes, what is written and the status.
+const ROWS: [(&str, &[u8], &[u8], u8); 27] = [
+    ("cpu.weight", b"10000\n", b"10000\n", 0),
+    ("cpu.weight", b"0\n", b"0\n", 0),
+    ("cpu.weight", b"10001\n", b"cgfile: refused at 4: line\n", 1),
+    ("cpu.weight", b"007\n", b"cgfile: refused at 1: line\n", 1),
+    ("cpu.weight", b"\n", b"cgfile: refused at 0: line\n", 1),
+    ("cpu.weight", b"1\n1\n", b"cgfile: refused at 2: line\n", 1),
+    ("cpu.weight", b"1\n\n", b"cgfile: refused at 2: line\n", 1),
+    ("cpu.weight", b" 1\n", b"cgfile: refused at 0: line\n", 1),
+    ("cpu.weight", b"1 \n", b"cgfile: refused at 1: line\n", 1),
+    ("cpu.weight", b"0x1\n", b"cgfile: refused at 1: line\n", 1),
+    ("cpu.weight", b"\xff", b"cgfile: refused at 0: line\n", 1),
+    ("cpu.weight", b"1\xff", b"cgfile: refused at 1: line\n", 1),
+    ("cpu.weight", b"", b"cgfile: cut at 0\n", 1),
+    ("cpu.weight", b"1", b"cgfile: cut at 1\n", 1),
+    ("cpu.weight", b"10000", b"cgfile: cut at 5\n", 1),
+    ("cpu.idle", b"1\n", b"1\n", 0),
+    ("cpu.idle", b"2\n", b"cgfile: refused at 0: line\n", 1),
+    (
+        "memory.current",
+        b"18446744073709551615\n",
+        b"18446744073709551615\n",
+        0,
+    ),
+    (
+        "memory.current",
+        b"18446744073709551616\n",
+        b"cgfile: refused at 19: line\n",
+        1,
+    ),
+    (
+        "memory.current",
+        b"184467440737095516150\n",
+        b"cgfile: refused at 20: line\n",
+        1,
+    ),
+    ("memory.max", b"max\n", b"max\n", 0),
+    ("memory.max", b"4096\n", b"4096\n", 0),
+    ("memory.max", b"ma", b"cgfile: cut at 2\n", 1),
+    ("memory.max", b"maxi\n", b"cgfile: refused at 3: line\n", 1),
+    ("cgroup.kill", b"1\n", b"cgfile: not readable\n", 1),
+    ("memory.reclaim", b"", b"cgfile: not readable\n", 1),
+    ("cpu.stat", b"usage_usec 1\n", b"cgfile: not readable\n", 1),
+];
+
+#[test]
+fn rows(rt: HostRuntime) -> Result<(), Fail> {
+    for (name, input, written, wanted) in ROWS {
+        for step in [1, 2, 4096] {
+            let (outcome, sink) = run_file(
+                rt.alloc(),
+                name.as_bytes(),
+                input,
+                Limits::DEFAULT,
+                step,
+            )?;
+            assert!(rt; sink.bytes() == written, "{name} {input:?} {step}");
+            assert_eq!(rt; status(&outcome), wanted, "{name} {input:?} {step}");
+        }
+    }
+    Ok(())
+}
+
+#[test]
+fn limits_of_the_stream(rt: HostRuntime) -> Result<(), Fail> {
+    let rows: [(u64, &[u8], &[u8]); 7] = [
+        (1, b"1\n", b"cgfile: stream too long at 1\n"),
+        (2, b"1\n", b"1\n"),
+        (0, b"1\n", b"cgfile: stream too long at 0\n"),
+        (0, b"", b"cgfile: cut at 0\n"),
+        (0, b"x", b"cgfile: refused at 0: line\n"),
+        (1, b"1x", b"cgfile: refused at 1: line\n"),
+        (2, b"1\n1", b"cgfile: refused at 2: line\n"),
+    ];
+    for (max_stream, input, written) in rows {
+        let limits = Limits {
+            max_record: 0,
+            max_lines: 0,
+            max_stream,
+        };
+        let (_, sink) = run_file(rt.alloc(), b"cpu.weight", input, limits, 1)?;
+        assert!(rt; sink.bytes() == written, "{max_stream} {input:?}");
+    }
+    Ok(())
+}
+
+#[test]
+fn nothing_is_read_without_a_form(rt: HostRuntime) -> Result<(), Fail> {
+    let command = file(rt.alloc(), b"cgroup.kill")?;
+    let mut source = CutSource::new(b"1\n", usize::MAX, 4096);
+    let mut sink = CutSink::new(usize::MAX, 4096);
+    let outcome = run(
+        rt.alloc(),
+        Profile::Two,
+        &command,
+        &mut source,
+        &mut sink,
+        Limits::DEFAULT,
+    );
+    assert_eq!(rt; outcome, Outcome::NotReadable);
+    assert_eq!(rt; source.asks(), 0);
+    assert!(rt; sink.bytes() == b"cgfile: not readable\n".as_slice());
+    Ok(())
+}
+
+#[test]
+fn each_read_failing(rt: HostRuntime) -> Result<(), Fail> {
+    let command = file(rt.alloc(), b"cpu.weight")?;
+    for budget in 0..=6 {
+        for step in [1, 4] {
+            let mut source = CutSource::new(b"10000\n", budget, step);
+            let mut sink = CutSink::new(usize::MAX, 4096);
+            let outcome = run(
+                rt.alloc(),
+                Profile::One,
+                &command,
+                &mut source,
+                &mut sink,
+                Limits::DEFAULT,
+            );
+            assert_eq!(rt; outcome, Outcome::ReadFault, "{budget} {step}");
+            assert_eq!(rt; status(&outcome), 3);
+            assert!(rt; sink.bytes() == b"cgfile: read fault\n".as_slice());
+        }
+    }
+    Ok(())
+}
+
+#[test]
+fn a_refusal_comes_before_a_failing_read(rt: HostRuntime) -> Result<(), Fail> {
+    let command = file(rt.alloc(), b"cpu.weight")?;
+    let mut source = CutSource::new(b"x", 1, 1);
+    let mut sink = CutSink::new(usize::MAX, 4096);
+    let outcome = run(
+        rt.alloc(),
+        Profile::One,
+        &command,
+        &mut source,
+        &mut sink,
+        Limits::DEFAULT,
+    );
+    let stop = Stop::Refused {
+        at: 0,
+        why: Why::Line,
+    };
+    assert_eq!(rt; outcome, Outcome::Stopped(stop));
+    Ok(())
+}
+
+#[test]
+fn each_write_failing(rt: HostRuntime) -> Result<(), Fail> {
+    let rows: [(&[u8], &[u8]); 2] = [
+        (b"10000\n", b"10000\n"),
+        (b"10001\n", b"cgfile: refused at 4: line\n"),
+    ];
+    let command = file(rt.alloc(), b"cpu.weight")?;
+    for (input, text) in rows {
+        for budget in 0..text.len() {
+            let mut source = CutSource::new(input, usize::MAX, 4096);
+            let mut sink = CutSink::new(budget, 2);
+            let outcome = run(
+                rt.alloc(),
+                Profile::One,
+                &command,
+                &mut source,
+                &mut sink,
+                Limits::DEFAULT,
+            );
+            let written = budget as u64;
+            assert_eq!(rt; outcome, Outcome::WriteFault { written }, "{budget}");
+            assert_eq!(rt; status(&outcome), 3);
+            assert!(rt; text.starts_with(sink.bytes()), "{budget}");
+            assert_eq!(rt; sink.bytes().len(), budget);
+        }
+    }
+    Ok(())
+}
+
+#[test]
+fn asks_are_few(rt: HostRuntime) -> Result<(), Fail> {
+    let command = file(rt.alloc(), b"memory.current")?;
+    let digits = [b'1'; 64];
+    for max_stream in 0..12u64 {
+        let limits = Limits {
+            max_stream,
+            ..Limits::DEFAULT
+        };
+        let mut source = CutSource::new(&digits, usize::MAX, 1);
+        let mut sink = CutSink::new(usize::MAX, 4096);
+        let outcome = run(
+            rt.alloc(),
+            Profile::One,
+            &command,
+            &mut source,
+            &mut sink,
+            limits,
+        );
+        let stop = Stop::TooMuch { at: max_stream };
+        assert_eq!(rt; outcome, Outcome::Stopped(stop));
+        assert!(rt; source.asks() <= max_stream + 2, "{max_stream}");
+    }
+    Ok(())
+}
+
+#[test]
+fn commands_that_are_not_built(rt: HostRuntime) -> Result<(), Fail> {
+    let commands = [
+        (Command::Show, Outcome::NotReadable),
+        (Command::Json, Outcome::NotReadable),
+        (Command::Check, Outcome::NotReadable),
+        (Command::Kinds, Outcome::NotReadable),
+        (Command::Plan, Outcome::NotWritable),
+    ];
+    for (command, wanted) in commands {
+        let mut source = CutSource::new(b"x", usize::MAX, 1);
+        let mut sink = CutSink::new(usize::MAX, 4096);
+        let outcome = run(
+            rt.alloc(),
+            Profile::One,
+            &command,
+            &mut source,
+            &mut sink,
+            Limits::DEFAULT,
+        );
+        assert_eq!(rt; outcome, wanted);
+        assert_eq!(rt; source.asks(), 0);
+    }
+    Ok(())
+}
+
+/// Takes all memory that is to be had, in blocks of falling size.
+fn hog(alloc: Global) -> Result<Vec<Vec<u8>>, AllocError> {
+    let mut held: Vec<Vec<u8>> = Vec::with_capacity(alloc, 400000)?;
+    let mut size: usize = 17179869184;
+    for _ in 0..40 {
+        for _ in 0..20000 {
+            match Vec::with_capacity(alloc, size) {
+                Ok(block) => held.push(block)?,
+                Err(_) => break,
+            }
+        }
+        size /= 2;
+        if size < 16 {
+            break;
+        }
+    }
+    Ok(held)
+}
+
+/// Runs the first row without memory, gives back a block after each refusal, and runs it again.
+#[test]
+fn wants_of_memory(rt: HostRuntime) -> Result<(), Fail> {
+    let command = file(rt.alloc(), b"cpu.weight")?;
+    let mut held = hog(rt.alloc())?;
+    let mut refusals: u64 = 0;
+    let mut done = false;
+    for _ in 0..5000 {
+        let mut source = CutSource::new(b"10000\n", usize::MAX, 4096);
+        let mut sink = CutSink::new(usize::MAX, 4096);
+        let outcome = run(
+            rt.alloc(),
+            Profile::One,
+            &command,
+            &mut source,
+            &mut sink,
+            Limits::DEFAULT,
+        );
+        match outcome {
+            Outcome::OutOfMemory => {
+                refusals = refusals.saturating_add(1);
+                let line = sink.bytes() == b"cgfile: out of memory\n".as_slice();
+                if !line || status(&outcome) != 4 {
+                    break;
+                }
+            }
+            _ => {
+                done = outcome == Outcome::Done && sink.bytes() == b"10000\n".as_slice();
+                break;
+            }
+        }
+        let _ = held.pop();
+    }
+    drop(held);
+    assert!(rt; done);
+    assert!(rt; refusals > 0, "{refusals}");
+    Ok(())
+}
