@@ -21,3 +21,4 @@ pub mod Repeat
 pub mod RepeatLaws
 pub mod SequenceLaws
 pub mod Spelling
+pub mod StartLaws
