@@ -2,6 +2,9 @@ pub mod ByteLaws
 pub mod Choice
 pub mod ChoiceLaws
 pub mod Join
+pub mod Lawful
+pub mod LimitLaws
+pub mod LimitState
 pub mod Line
 pub mod LineLaws
 pub mod Mapped

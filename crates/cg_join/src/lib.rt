@@ -2,12 +2,14 @@
 #![tactic(auto)]
 
 pub mod choice;
+pub mod limit;
 pub mod line;
 pub mod mapped;
 pub mod reading;
 pub mod sequence;
 
 pub use choice::{Choice, Either};
+pub use limit::LimitText;
 pub use line::{Line, one_line};
 pub use mapped::{Mapped, Turn};
 pub use reading::{Found, read};

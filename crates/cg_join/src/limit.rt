@@ -1,0 +1,110 @@
+//! Limits.
+ghost use Rattle.std.specs.Prelude.{◌≡◌, ℕ, ◌≤◌, ◌<◌, List, MatchOption, ⊤, false, refl};
+ghost use Rattle.cg_text.specs.Token.{Spells};
+ghost use Rattle.cg_text.specs.Limit.{IsLimit};
+
+use crate::choice::{Choice, Either};
+use crate::mapped::{Mapped, Turn};
+use cg_text::{DecimalText, FixedText, Limit, OutOfMemory, Token};
+
+/// The limit of a choice.
+#[derive(Clone, Copy)]
+pub struct ToLimit;
+
+impl Turn<Choice<FixedText, DecimalText>> for ToLimit {
+    type To = Limit;
+
+    ghost use Rattle.cg_join.specs.LimitState.{limit_of};
+
+    ghost turned = { limit_of };
+
+    ghost weight = { λ _. 0 };
+
+    fn turn(value: Either<(), u64>) -> Limit {
+        match value {
+            Either::Left(_) => Limit::Max,
+            Either::Right(n) => Limit::At(n),
+        }
+    }
+
+    fn weight_of(_value: &Limit) -> u64 {
+        0
+    }
+
+    ghost use Rattle.std.proofs.Common.{arith};
+
+    ghost no_more = { λ v. Prim.omega arith };
+}
+
+type Parts = Mapped<Choice<FixedText, DecimalText>, ToLimit>;
+
+/// The word `max`, or a decimal number of a range.
+#[derive(Drop)]
+pub struct LimitText {
+    parts: Parts,
+}
+
+impl LimitText {
+    /// A token of `max` and the numbers from `lo` to `hi`, unless there are no such numbers.
+    pub fn new(lo: u64, hi: u64) -> Option<LimitText>
+        ensures spells { MatchOption result (hi < lo) (λ token. (lo ≤ hi) × Spells ⟦<LimitText as Token>⟧.means token (λ rest v. IsLimit lo hi v rest)) }
+        ensures size { MatchOption result ⊤ (λ token. ⟦<LimitText as Token>⟧.size token ≡ 0) }
+    {
+        match DecimalText::new(lo, hi) {
+            Some(number) => Some(LimitText {
+                parts: Mapped::new(Choice::new(FixedText::new(b"max"), number)),
+            }),
+            None => None,
+        }
+    }
+}
+
+impl Token for LimitText {
+    type Out = Limit;
+
+    ghost use Rattle.cg_join.specs.LimitLaws.{limit_lawful};
+
+    ghost means = { λ s rest v. ⟦<Parts as Token>⟧.means s.parts rest v };
+
+    ghost size = { λ _. 0 };
+
+    ghost weight = { λ _. 0 };
+
+    ghost ends = { λ s. ⟦<Parts as Token>⟧.ends s.parts };
+
+    ghost grows = { false };
+
+    fn step(&mut self, byte: u8) -> Result<bool, OutOfMemory> {
+        self.parts.step(byte)
+    }
+
+    fn allows(&self, byte: u8) -> bool {
+        self.parts.allows(byte)
+    }
+
+    fn can_end(&self) -> bool {
+        self.parts.can_end()
+    }
+
+    fn held(&self) -> u64 {
+        0
+    }
+
+    fn take(self) -> Limit {
+        self.parts.take()
+    }
+
+    fn weight_of(_value: &Limit) -> u64 {
+        0
+    }
+
+    ghost completes = { λ s. (limit_lawful s.parts.token.left s.parts.token.right s.parts.token.left_lives s.parts.token.right_lives s.parts.token.some s.parts.token.apart).completes };
+
+    ghost no_size = { λ _ _. refl };
+
+    ghost ends_is = { λ s. (limit_lawful s.parts.token.left s.parts.token.right s.parts.token.left_lives s.parts.token.right_lives s.parts.token.some s.parts.token.apart).ends_is };
+
+    ghost one_value = { λ s. (limit_lawful s.parts.token.left s.parts.token.right s.parts.token.left_lives s.parts.token.right_lives s.parts.token.some s.parts.token.apart).one_value };
+
+    ghost holds_bytes = { λ s. (limit_lawful s.parts.token.left s.parts.token.right s.parts.token.left_lives s.parts.token.right_lives s.parts.token.some s.parts.token.apart).holds_bytes };
+}
