@@ -9,6 +9,8 @@ pub mod DecimalState
 pub mod Device
 pub mod FixedLaws
 pub mod Hundredths
+pub mod HundredthsLaws
+pub mod HundredthsState
 pub mod Key
 pub mod Limit
 pub mod LimitPairs
