@@ -6,6 +6,10 @@ use Rattle.cg_text.specs.FixedLaws.{drop_at_end}
 use Rattle.cg_text.specs.DecimalState.{IsDecimalRest, decimal_ends}
 use Rattle.cg_text.specs.DecimalLaws.{IsDecimalRest_completes, IsDecimalRest_one, decimal_ends_is, number_digits, digits_bytes}
 use Rattle.cg_text.specs.ByteLaws.{left, byte_ends, byte_bytes}
+use Rattle.cg_text.specs.HundredthsState.{HundredthsRest, hundredths_ends}
+use Rattle.cg_text.specs.HundredthsLaws.{hundredths_completes, hundredths_ends_is, hundredths_one, hundredths_bytes}
+use Rattle.cg_text.specs.declared.hundredths.HundredthsText.{HundredthsText}
+use Rattle.cg_text.specs.declared.values.Hundredths.{Hundredths}
 use Rattle.cg_text.specs.declared.byte.ByteText.{ByteText}
 use Rattle.cg_text.specs.declared.decimal.DecimalText.{DecimalText}
 use Rattle.cg_text.specs.declared.fixed.FixedText.{FixedText}
@@ -37,6 +41,12 @@ NumberRest s rest n = IsDecimalRest s.lo s.hi s.progress rest n
 abbrev pub number_ends : DecimalText → Bool
 number_ends s = decimal_ends s.lo s.hi s.progress
 
+abbrev pub FractionRest : HundredthsText → List ℕ → Hundredths → Type 0
+FractionRest s rest h = HundredthsRest s.form s.most s.part rest h
+
+abbrev pub fraction_ends : HundredthsText → Bool
+fraction_ends s = hundredths_ends s.form s.part
+
 pub fixed_lawful : (s : FixedText) → IsLawful FixedRest s (nat_eq s.at (length s.text.now))
 fixed_lawful s = record {
   completes = (drop s.at s.text.now, tt, refl);
@@ -59,6 +69,14 @@ number_lawful s = record {
   ends_is = decimal_ends_is s.lo s.hi s.progress;
   one_value = IsDecimalRest_one s.lo s.hi s.progress;
   holds_bytes = λ rest n h. digits_bytes rest (number_digits s.lo s.hi s.progress rest n h);
+}
+
+pub fraction_lawful : (s : HundredthsText) → IsLawful FractionRest s (fraction_ends s)
+fraction_lawful s = record {
+  completes = hundredths_completes s.form s.most s.part s.within;
+  ends_is = hundredths_ends_is s.form s.most s.part s.within;
+  one_value = hundredths_one s.form s.most s.part;
+  holds_bytes = hundredths_bytes s.form s.most s.part;
 }
 
 pub mapped_lawful : {S V W : Type 0} {means : S → List ℕ → V → Type 0} {s : S} {e : Bool} (turned : V → W) → IsLawful means s e → IsLawful (IsMapped means turned) s e

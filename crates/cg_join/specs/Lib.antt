@@ -1,6 +1,12 @@
+pub mod AmountLaws
+pub mod AmountState
 pub mod ByteLaws
 pub mod Choice
 pub mod ChoiceLaws
+pub mod ClampLaws
+pub mod ClampState
+pub mod DeviceLaws
+pub mod DeviceState
 pub mod Join
 pub mod Lawful
 pub mod LimitLaws
@@ -9,6 +15,7 @@ pub mod Line
 pub mod LineLaws
 pub mod Mapped
 pub mod MappedLaws
+pub mod MaxLaws
 pub mod Reading
 pub mod ReadingLaws
 pub mod SequenceLaws

@@ -9,7 +9,7 @@ use cg_text::{DecimalText, FixedText, Limit, OutOfMemory, Token};
 
 /// The limit of a choice.
 #[derive(Clone, Copy)]
-pub struct ToLimit;
+struct ToLimit;
 
 impl Turn<Choice<FixedText, DecimalText>> for ToLimit {
     type To = Limit;

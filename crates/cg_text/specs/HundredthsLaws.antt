@@ -1,11 +1,10 @@
 -- What holds of hundredths.
-use Rattle.std.proofs.Common.{◌≡◌, ℕ, ◌+◌, ◌-◌, ◌*◌, ◌/◌, ◌≤◌, ◌<◌, ◌⊎◌, ◌↔◌, inl, inr, Bool, true, false, ◌&&◌, List, [], ◌∷◌, ◌++◌, refl, sym, ◌∙◌, ap, arith, IsTrue}
+use Rattle.std.proofs.Common.{◌≡◌, ℕ, ◌+◌, ◌-◌, ◌*◌, ◌/◌, ◌≤◌, ◌<◌, ◌↔◌, inl, inr, Bool, true, ◌&&◌, List, [], ◌∷◌, ◌++◌, refl, sym, ◌∙◌, ap, arith, IsTrue}
 use Rattle.std.proofs.lemmas.Bool.{and_from, and_parts}
 use Rattle.std.proofs.Props.{props}
 use Rattle.cg_text.specs.Decimal.{IsDecimal, AreDigits}
-use Rattle.cg_text.specs.DecimalState.{IsDecimalRest, decimal_ends}
 use Rattle.cg_text.specs.DecimalLaws.{IsDecimalRest_completes, IsDecimalRest_one, decimal_ends_is, number_digits, digits_bytes}
-use Rattle.cg_text.specs.Hundredths.{IsDigit, HasTwoDigits, HasOneDigit, HasNoDigit, HasDigits, IsHundredths}
+use Rattle.cg_text.specs.Hundredths.{HasTwoDigits, HasOneDigit, HasNoDigit, HasDigits, IsHundredths}
 use Rattle.cg_text.specs.HundredthsState.{may_leave_out, AfterTenth, AfterDot, AfterWhole, WholeRest, NumberRest, number_ends, PartRest, HundredthsRest, IsWholeWithin, IsWithin, hundredths_ends}
 use Rattle.cg_text.specs.Token.{AreBytes}
 use Rattle.cg_text.specs.TokenLaws.{bytes_append}
@@ -177,15 +176,21 @@ tenth_least form base (c ∷ cs) count h = omega (arith, h.2)
 -- Every state can be completed.
 pub hundredths_completes : (form : Form) (most : ℕ) (part : Part) → IsWithin most part → (rest : List ℕ) × (h : Hundredths) × HundredthsRest form most part rest h
 hundredths_completes form most (Whole number) w =
-    let done = IsDecimalRest_completes number.lo number.hi number.progress number.range number.live in
-    (done.0 ++ 46 ∷ 48 ∷ 48 ∷ [], record { count = 100 * done.1 }, (w done.0 done.1 done.2, record {
-      whole = done.1;
-      front = done.0;
-      back = 46 ∷ 48 ∷ 48 ∷ [];
-      text_is = refl;
-      begins = done.2;
-      ends = (refl, ((omega arith, omega arith), ((omega arith, omega arith), refl, omega arith)));
-    }))
+    let done = IsDecimalRest_completes number.lo number.hi number.progress number.range number.live in (
+      done.0 ++ 46 ∷ 48 ∷ 48 ∷ [],
+      record { count = 100 * done.1 },
+      (
+        w done.0 done.1 done.2,
+        record {
+          whole = done.1;
+          front = done.0;
+          back = 46 ∷ 48 ∷ 48 ∷ [];
+          text_is = refl;
+          begins = done.2;
+          ends = (refl, ((omega arith, omega arith), ((omega arith, omega arith), refl, omega arith)));
+        },
+      ),
+    )
 hundredths_completes form most (Dot base) w = (48 ∷ 48 ∷ [], record { count = base }, (w, ((omega arith, omega arith), ((omega arith, omega arith), refl, omega arith))))
 hundredths_completes form most (Tenth base) w = (48 ∷ [], record { count = base }, (w, ((omega arith, omega arith), refl, omega arith)))
 hundredths_completes form most (Hundredth base) w = ([], record { count = base }, (w, (refl, refl)))

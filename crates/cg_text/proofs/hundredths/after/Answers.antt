@@ -1,4 +1,4 @@
-use Rattle.std.proofs.Common.{◌≡◌, ℕ, List, [], true, sym, ◌∙◌, IsTrue}
+use Rattle.std.proofs.Common.{ℕ, []}
 use Rattle.cg_text.specs.DecimalLaws.{IsDecimalRest_one, number_digits, decimal_ends_is}
 use Rattle.cg_text.specs.HundredthsState.{NumberRest}
 use Rattle.cg_text.specs.HundredthsLaws.{digit_byte, whole_digit, whole_dot, whole_none}
