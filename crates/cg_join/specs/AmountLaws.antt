@@ -1,5 +1,5 @@
 -- What holds of amounts.
-use Rattle.std.proofs.Common.{◌≡◌, ℕ, ◌≤◌, ◌↔◌, inl, inr, Bool, ◌||◌, ◌&&◌, nat_eq, length, List, [], ◌∷◌, ◌++◌, refl, codes, arith, IsTrue}
+use Rattle.std.proofs.Common.{◌≡◌, ℕ, ◌↔◌, Bool, ◌||◌, ◌&&◌, nat_eq, length, List, [], ◌∷◌, ◌++◌, refl, codes, arith, IsTrue}
 use Rattle.cg_text.specs.Amount.{IsAmount}
 use Rattle.cg_text.specs.Decimal.{IsDecimal, AreDigits}
 use Rattle.cg_text.specs.DecimalLaws.{number_digits}
@@ -64,6 +64,6 @@ pub amount_lawful : (word : FixedText) (whole : DecimalText) (fraction : Hundred
     (IsTrue l → IsTrue r → ShareNone FixedRest (λ (u : Unit {0}) rest v. IsChoice NumberRest FractionRest l' r' whole fraction rest v) word tt) →
     (IsTrue l' → IsTrue r' → ShareNone NumberRest FractionRest whole fraction) →
     IsLawful (IsMapped (λ (u : Unit {0}) rest v. IsChoice FixedRest (λ (w : Unit {0}) rest v. IsChoice NumberRest FractionRest l' r' whole fraction rest v) l r word tt rest v) amount_of) tt
-        ((l && nat_eq word.at (length word.text.now)) || (r && ((l' && number_ends whole) || (r' && fraction_ends fraction))))
+    ((l && nat_eq word.at (length word.text.now)) || (r && ((l' && number_ends whole) || (r' && fraction_ends fraction))))
 amount_lawful word whole fraction l r l' r' some some' apart apart' =
     mapped_lawful amount_of (choice_lawful l r some apart (fixed_lawful word) (choice_lawful l' r' some' apart' (number_lawful whole) (fraction_lawful fraction)))

@@ -1,5 +1,5 @@
 -- What holds of clamps.
-use Rattle.std.proofs.Common.{◌≡◌, ℕ, ◌+◌, ◌≤◌, ◌↔◌, ◌⊎◌, inl, inr, Bool, ◌||◌, ◌&&◌, nat_eq, length, List, [], ◌∷◌, ◌++◌, refl, codes, arith, IsTrue}
+use Rattle.std.proofs.Common.{◌≡◌, ℕ, ◌↔◌, Bool, ◌||◌, ◌&&◌, nat_eq, length, List, refl, codes, IsTrue}
 use Rattle.cg_text.specs.Hundredths.{IsHundredths}
 use Rattle.cg_text.specs.Clamp.{IsClamp}
 use Rattle.cg_text.specs.declared.fixed.FixedText.{FixedText}

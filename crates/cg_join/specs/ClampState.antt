@@ -1,5 +1,4 @@
 -- The clamp of what a choice spells.
-use Rattle.std.specs.Prelude.{ℕ}
 use Rattle.cg_text.specs.declared.values.Clamp.{Clamp}
 use Rattle.cg_text.specs.declared.values.Clamp.TheVariants.{Max, At}
 use Rattle.cg_text.specs.declared.values.Hundredths.{Hundredths}

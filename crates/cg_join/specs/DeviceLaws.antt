@@ -1,5 +1,5 @@
 -- What holds of devices.
-use Rattle.std.proofs.Common.{◌≡◌, ℕ, ◌≤◌, ◌<◌, ◌↔◌, Bool, ◌||◌, ◌&&◌, List, [], ◌∷◌, ◌++◌, refl, sym, ◌∙◌, ap, arith, IsTrue, IsFalse}
+use Rattle.std.proofs.Common.{◌≡◌, ℕ, ◌↔◌, Bool, ◌||◌, ◌&&◌, List, [], ◌∷◌, ◌++◌, refl, ap, arith, IsTrue, IsFalse}
 use Rattle.cg_text.specs.Decimal.{IsDecimal, AreDigits}
 use Rattle.cg_text.specs.DecimalLaws.{number_digits}
 use Rattle.cg_text.specs.Device.{IsDevice}

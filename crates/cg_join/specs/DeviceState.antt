@@ -1,5 +1,5 @@
 -- The numbers of a device.
-use Rattle.std.specs.Prelude.{ℕ, ◌^◌, ◌<◌, List}
+use Rattle.std.specs.Prelude.{ℕ, ◌<◌, List}
 use Rattle.cg_text.specs.declared.values.Device.{Device}
 
 -- What two numbers with a byte between spell.

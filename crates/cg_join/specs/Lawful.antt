@@ -1,5 +1,5 @@
 -- The laws of one state of a token, and how they are joined.
-use Rattle.std.proofs.Common.{◌≡◌, ℕ, ◌≤◌, ◌↔◌, Bool, false, ◌&&◌, ◌||◌, List, [], length, drop, nat_eq, refl, IsTrue, IsFalse}
+use Rattle.std.proofs.Common.{◌≡◌, ℕ, ◌↔◌, Bool, ◌&&◌, ◌||◌, List, [], length, drop, nat_eq, refl, IsTrue, IsFalse}
 use Rattle.cg_text.specs.Token.{Ends, Completes, HasOneValue, HoldsBytes}
 use Rattle.cg_text.specs.TokenLaws.{fixed_bytes}
 use Rattle.cg_text.specs.FixedLaws.{drop_at_end}

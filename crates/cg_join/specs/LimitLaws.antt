@@ -1,5 +1,5 @@
 -- What holds of limits.
-use Rattle.std.proofs.Common.{◌≡◌, ℕ, ◌≤◌, ◌↔◌, ◌⊎◌, inl, inr, Bool, ◌||◌, ◌&&◌, nat_eq, length, List, [], ◌∷◌, refl, codes, arith, IsTrue}
+use Rattle.std.proofs.Common.{◌≡◌, ℕ, ◌↔◌, Bool, ◌||◌, ◌&&◌, nat_eq, length, List, refl, codes, IsTrue}
 use Rattle.cg_text.specs.Decimal.{IsDecimal}
 use Rattle.cg_text.specs.Limit.{IsLimit}
 use Rattle.cg_text.specs.declared.values.Limit.{Limit}

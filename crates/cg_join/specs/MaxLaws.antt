@@ -1,5 +1,5 @@
 -- The word max is no number.
-use Rattle.std.proofs.Common.{◌≡◌, ℕ, ◌+◌, ◌≤◌, ◌⊎◌, inl, inr, List, [], ◌∷◌, ◌++◌, refl, codes, arith}
+use Rattle.std.proofs.Common.{◌≡◌, ℕ, ◌≤◌, inl, inr, List, [], ◌∷◌, ◌++◌, codes, arith}
 use Rattle.cg_text.specs.Decimal.{IsNumeral, IsDecimal}
 use Rattle.cg_text.specs.Hundredths.{IsHundredths, HasDigits, HasTwoDigits}
 use Rattle.cg_text.specs.declared.hundredths.Form.{Form}

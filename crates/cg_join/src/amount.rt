@@ -5,7 +5,9 @@ ghost use Rattle.cg_text.specs.Amount.{IsAmount};
 
 use crate::choice::{Choice, Either};
 use crate::mapped::{Mapped, Turn};
-use cg_text::{Amount, DecimalText, FixedText, Form, Hundredths, HundredthsText, OutOfMemory, Token};
+use cg_text::{
+    Amount, DecimalText, FixedText, Form, Hundredths, HundredthsText, OutOfMemory, Token,
+};
 
 /// The amount of a choice.
 #[derive(Clone, Copy)]

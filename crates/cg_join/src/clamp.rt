@@ -51,7 +51,10 @@ impl ClampText {
         ensures size { ⟦<ClampText as Token>⟧.size result ≡ 0 }
     {
         ClampText {
-            parts: Mapped::new(Choice::new(FixedText::new(b"max"), HundredthsText::new(form, 10000))),
+            parts: Mapped::new(Choice::new(
+                FixedText::new(b"max"),
+                HundredthsText::new(form, 10000),
+            )),
         }
     }
 }

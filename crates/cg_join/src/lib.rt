@@ -20,3 +20,6 @@ pub use line::{Line, one_line};
 pub use mapped::{Mapped, Turn};
 pub use reading::{Found, read};
 pub use sequence::Sequence;
+
+#[cfg(test)]
+mod composite_tests;
