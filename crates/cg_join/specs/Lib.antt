@@ -8,6 +8,7 @@ pub mod ClampState
 pub mod DeviceLaws
 pub mod DeviceState
 pub mod Join
+pub mod LackLaws
 pub mod Lawful
 pub mod LimitLaws
 pub mod LimitState

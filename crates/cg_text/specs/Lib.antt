@@ -1,3 +1,5 @@
+pub mod AboveSpace
+pub mod AboveSpaceLaws
 pub mod Amount
 pub mod ByteLaws
 pub mod Bytes
@@ -17,6 +19,7 @@ pub mod LimitPairs
 pub mod List
 pub mod Numbers
 pub mod NumbersLaws
+pub mod OneTextLaws
 pub mod Raw
 pub mod Signed
 pub mod Size
