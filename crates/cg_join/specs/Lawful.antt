@@ -45,7 +45,7 @@ abbrev pub FractionRest : HundredthsText → List ℕ → Hundredths → Type 0
 FractionRest s rest h = HundredthsRest s.form s.most s.part rest h
 
 abbrev pub fraction_ends : HundredthsText → Bool
-fraction_ends s = hundredths_ends s.form s.part
+fraction_ends s = hundredths_ends s.form s.most s.part
 
 pub fixed_lawful : (s : FixedText) → IsLawful FixedRest s (nat_eq s.at (length s.text.now))
 fixed_lawful s = record {

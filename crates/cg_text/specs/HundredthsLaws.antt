@@ -1,14 +1,16 @@
 -- What holds of hundredths.
-use Rattle.std.proofs.Common.{◌≡◌, ℕ, ◌+◌, ◌-◌, ◌*◌, ◌/◌, ◌≤◌, ◌<◌, ◌↔◌, inl, inr, Bool, true, ◌&&◌, List, [], ◌∷◌, ◌++◌, refl, sym, ◌∙◌, ap, arith, IsTrue}
+use Rattle.std.proofs.Common.{◌≡◌, ℕ, ◌+◌, ◌-◌, ◌*◌, ◌/◌, ◌≤◌, ◌<◌, ◌↔◌, inl, inr, Bool, true, ◌&&◌, List, [], ◌∷◌, ◌++◌, refl, sym, ◌∙◌, ap, arith, leb-true, le-leb, IsTrue}
 use Rattle.std.proofs.lemmas.Bool.{and_from, and_parts}
 use Rattle.std.proofs.Props.{props}
 use Rattle.cg_text.specs.Decimal.{IsDecimal, AreDigits}
-use Rattle.cg_text.specs.DecimalLaws.{IsDecimalRest_completes, IsDecimalRest_one, decimal_ends_is, number_digits, digits_bytes}
+use Rattle.cg_text.specs.DecimalLaws.{IsDecimalRest_completes, IsDecimalRest_one, number_digits, digits_bytes}
+use Rattle.cg_text.specs.DecimalState.{is_open}
 use Rattle.cg_text.specs.Hundredths.{HasTwoDigits, HasOneDigit, HasNoDigit, HasDigits, IsHundredths}
-use Rattle.cg_text.specs.HundredthsState.{may_leave_out, AfterTenth, AfterDot, AfterWhole, WholeRest, NumberRest, number_ends, PartRest, HundredthsRest, IsWholeWithin, IsWithin, hundredths_ends}
+use Rattle.cg_text.specs.HundredthsState.{may_leave_out, AfterTenth, AfterDot, AfterWhole, WholeRest, WholePart, whole_ends, PartRest, HundredthsRest, IsWithin, hundredths_ends}
 use Rattle.cg_text.specs.Token.{AreBytes}
 use Rattle.cg_text.specs.TokenLaws.{bytes_append}
-use Rattle.cg_text.specs.declared.decimal.DecimalText.{DecimalText}
+use Rattle.cg_text.specs.declared.decimal.Progress.{Progress}
+use Rattle.cg_text.specs.declared.decimal.Progress.TheVariants.{Start, Zero, Number}
 use Rattle.cg_text.specs.declared.values.Hundredths.{Hundredths}
 use Rattle.cg_text.specs.declared.hundredths.Form.{Form}
 use Rattle.cg_text.specs.declared.hundredths.Form.TheVariants.{Read, Written}
@@ -16,7 +18,7 @@ use Rattle.cg_text.specs.declared.hundredths.Part.{Part}
 use Rattle.cg_text.specs.declared.hundredths.Part.TheVariants.{Whole, Dot, Tenth, Hundredth}
 
 pub IsWithin_prop : (most : ℕ) (part : Part) → IsProp (IsWithin most part)
-IsWithin_prop most (Whole number) = hlevel props
+IsWithin_prop most (Whole progress) = hlevel props
 IsWithin_prop most (Dot base) = hlevel props
 IsWithin_prop most (Tenth base) = hlevel props
 IsWithin_prop most (Hundredth base) = hlevel props
@@ -107,9 +109,6 @@ hundredths_new form most P f text h = (
   λ k. (k.0, digits_to form most P f h.count text k.0 k.1),
 )
 
-pub within_new : (most : ℕ) (P : List ℕ → ℕ → Type 0) → ((x : List ℕ) (n : ℕ) → P x n ↔ IsDecimal 0 (most / 100) n x) → IsWholeWithin most P
-within_new most P f rest n h = omega (arith, ((f rest n).0 h).1)
-
 -- What comes after a number's digits is no digit.
 abbrev EndsNumber : List ℕ → Type 0
 EndsNumber [] = Unit {0}
@@ -134,14 +133,35 @@ module _ (form : Form) (byte : ℕ) (P P' : List ℕ → ℕ → Type 0) (digit 
     λ h. digit_at text h.front h.back h.whole count h.text_is h.begins h.ends,
   )
 
-pub within_digit : (most byte : ℕ) (P P' : List ℕ → ℕ → Type 0) → ((x : List ℕ) (n : ℕ) → P' x n ↔ P (byte ∷ x) n) → IsWholeWithin most P → IsWholeWithin most P'
-within_digit most byte P P' f w rest n h = w (byte ∷ rest) n ((f rest n).0 h)
+-- A whole part is within its bound.
+pub whole_within : (most : ℕ) (progress : Progress) (rest : List ℕ) (n : ℕ) → WholePart most progress rest n → 100 * n ≤ most
+whole_within most Start rest n h = omega (arith, h.1)
+whole_within most Zero rest n h = omega (arith, h.1)
+whole_within most (Number m) rest n h = omega (arith, h.1)
+
+pub whole_digits : (most : ℕ) (progress : Progress) (rest : List ℕ) (n : ℕ) → WholePart most progress rest n → AreDigits rest
+whole_digits most progress = number_digits 0 (most / 100) progress
+
+pub whole_is_one : (most : ℕ) (progress : Progress) (rest : List ℕ) (m n : ℕ) → WholePart most progress rest m → WholePart most progress rest n → m ≡ n
+whole_is_one most progress = IsDecimalRest_one 0 (most / 100) progress
+
+whole_completes : (most : ℕ) (progress : Progress) → IsTrue (is_open 0 (most / 100) progress) → (rest : List ℕ) × (n : ℕ) × WholePart most progress rest n
+whole_completes most progress live = IsDecimalRest_completes 0 (most / 100) progress (omega arith) live
+
+-- The whole part may end exactly where the empty rest has a number.
+pub whole_ends_is : (most : ℕ) (progress : Progress) → IsTrue (whole_ends most progress) ↔ ((n : ℕ) × WholePart most progress [] n)
+whole_ends_is most Start = (λ e. absurd (cc), λ h. absurd h.1.2)
+whole_ends_is most Zero = (λ e. (0, (refl, refl)), λ h. refl)
+whole_ends_is most (Number m) = (
+  λ e. (m, (omega arith, leb-true m (most / 100) e, tt, refl)),
+  λ h. le-leb m (most / 100) (omega (arith, h.1.1, h.1.3)),
+)
 
 -- A byte that a number takes is a digit.
-pub digit_byte : (old new : DecimalText) (byte : ℕ) → ((x : List ℕ) (n : ℕ) → NumberRest new x n ↔ NumberRest old (byte ∷ x) n) → 48 ≤ byte
-digit_byte old new byte f =
-    let done = IsDecimalRest_completes new.lo new.hi new.progress new.range new.live in
-    (number_digits old.lo old.hi old.progress (byte ∷ done.0) done.1 ((f done.0 done.1).0 done.2)).0
+pub digit_byte : (most : ℕ) (old new : Progress) (byte : ℕ) → IsTrue (is_open 0 (most / 100) new) → ((x : List ℕ) (n : ℕ) → WholePart most new x n ↔ WholePart most old (byte ∷ x) n) → 48 ≤ byte
+digit_byte most old new byte live f =
+    let done = whole_completes most new live in
+    (whole_digits most old (byte ∷ done.0) done.1 ((f done.0 done.1).0 done.2)).0
 
 -- The dot.
 module _ (form : Form) (end : ℕ) (P : List ℕ → ℕ → Type 0) (ended : P [] end) (one : (m : ℕ) → P [] m → m ≡ end) (digits : (x : List ℕ) (m : ℕ) → P x m → AreDigits x) where
@@ -157,6 +177,15 @@ module _ (form : Form) (end : ℕ) (P : List ℕ → ℕ → Type 0) (ended : P 
     λ h. record { whole = end; front = []; back = 46 ∷ text; text_is = refl; begins = ended; ends = (refl, h) },
     λ h. dot_at text h.front h.back h.whole count h.text_is h.begins h.ends,
   )
+
+-- No dot stands inside a number, or before it may end.
+module _ (form : Form) (P : List ℕ → ℕ → Type 0) (digits : (x : List ℕ) (m : ℕ) → P x m → AreDigits x) (goes_on : (n : ℕ) → P [] n → ⊥) where
+  no_dot_at : (text front back : List ℕ) (whole : ℕ) → 46 ∷ text ≡ front ++ back → P front whole → ⊥
+  no_dot_at text [] back whole e p = goes_on whole p
+  no_dot_at text (x ∷ front) back whole e p = let s : x ≡ 46 = cc in omega (arith, s, (digits (x ∷ front) whole p).0)
+
+  pub whole_dot_none : (text : List ℕ) (count : ℕ) → WholeRest form P (46 ∷ text) count → ⊥
+  whole_dot_none text count h = no_dot_at text h.front h.back h.whole h.text_is h.begins
 
 -- A byte that neither goes on with the number nor is a dot after it.
 module _ (form : Form) (byte : ℕ) (P : List ℕ → ℕ → Type 0) (none : (x : List ℕ) (n : ℕ) → P (byte ∷ x) n → ⊥) (no_dot : byte ≡ 46 → (n : ℕ) → P [] n → ⊥) where
@@ -175,12 +204,12 @@ tenth_least form base (c ∷ cs) count h = omega (arith, h.2)
 
 -- Every state can be completed.
 pub hundredths_completes : (form : Form) (most : ℕ) (part : Part) → IsWithin most part → (rest : List ℕ) × (h : Hundredths) × HundredthsRest form most part rest h
-hundredths_completes form most (Whole number) w =
-    let done = IsDecimalRest_completes number.lo number.hi number.progress number.range number.live in (
+hundredths_completes form most (Whole progress) w =
+    let done = whole_completes most progress w in (
       done.0 ++ 46 ∷ 48 ∷ 48 ∷ [],
       record { count = 100 * done.1 },
       (
-        w done.0 done.1 done.2,
+        whole_within most progress done.0 done.1 done.2,
         record {
           whole = done.1;
           front = done.0;
@@ -196,7 +225,7 @@ hundredths_completes form most (Tenth base) w = (48 ∷ [], record { count = bas
 hundredths_completes form most (Hundredth base) w = ([], record { count = base }, (w, (refl, refl)))
 
 -- Nothing need follow exactly where the empty rest has a number.
-whole_ends_from : (form : Form) (most : ℕ) (P : List ℕ → ℕ → Type 0) (e : Bool) → IsTrue e ↔ ((n : ℕ) × P [] n) → IsWholeWithin most P → IsTrue (may_leave_out form && e) → (h : Hundredths) × ((h.count ≤ most) × WholeRest form P [] h.count)
+whole_ends_from : (form : Form) (most : ℕ) (P : List ℕ → ℕ → Type 0) (e : Bool) → IsTrue e ↔ ((n : ℕ) × P [] n) → ((rest : List ℕ) (n : ℕ) → P rest n → 100 * n ≤ most) → IsTrue (may_leave_out form && e) → (h : Hundredths) × ((h.count ≤ most) × WholeRest form P [] h.count)
 whole_ends_from form most P e is w t =
     let both = and_parts (may_leave_out form) e t in
     let n = is.0 both.1 in
@@ -207,11 +236,11 @@ whole_ends_at form P e is [] [] whole count t p h = and_from (may_leave_out form
 whole_ends_at form P e is [] (c ∷ back) whole count t p h = absurd (cc)
 whole_ends_at form P e is (x ∷ front) back whole count t p h = absurd (cc)
 
-pub hundredths_ends_is : (form : Form) (most : ℕ) (part : Part) → IsWithin most part → IsTrue (hundredths_ends form part) ↔ ((h : Hundredths) × HundredthsRest form most part [] h)
-hundredths_ends_is form most (Whole number) w =
-    let is = decimal_ends_is number.lo number.hi number.progress in (
-      λ t. whole_ends_from form most (NumberRest number) (number_ends number) is w t,
-      λ h. whole_ends_at form (NumberRest number) (number_ends number) is h.1.1.front h.1.1.back h.1.1.whole h.0.count h.1.1.text_is h.1.1.begins h.1.1.ends,
+pub hundredths_ends_is : (form : Form) (most : ℕ) (part : Part) → IsWithin most part → IsTrue (hundredths_ends form most part) ↔ ((h : Hundredths) × HundredthsRest form most part [] h)
+hundredths_ends_is form most (Whole progress) w =
+    let is = whole_ends_is most progress in (
+      λ t. whole_ends_from form most (WholePart most progress) (whole_ends most progress) is (whole_within most progress) t,
+      λ h. whole_ends_at form (WholePart most progress) (whole_ends most progress) is h.1.1.front h.1.1.back h.1.1.whole h.0.count h.1.1.text_is h.1.1.begins h.1.1.ends,
     )
 hundredths_ends_is form most (Dot base) w = (λ t. absurd (cc), λ h. absurd h.1.1)
 hundredths_ends_is form most (Tenth base) w = (λ t. (record { count = base }, (w, (t, refl))), λ h. h.1.1.0)
@@ -252,14 +281,14 @@ whole_one form P digits one rest m n h k =
 count_one : (m n : ℕ) → m ≡ n → (let r : Hundredths = record { count = m } in r) ≡ record { count = n }
 count_one m n e = ap (λ c. record { count = c }) e
 
-part_one : (form : Form) (part : Part) (rest : List ℕ) (m n : ℕ) → PartRest form part rest m → PartRest form part rest n → m ≡ n
-part_one form (Whole number) rest m n h k = whole_one form (NumberRest number) (number_digits number.lo number.hi number.progress) (IsDecimalRest_one number.lo number.hi number.progress) rest m n h k
-part_one form (Dot base) rest m n h k = dot_one form base rest m n h k
-part_one form (Tenth base) rest m n h k = tenth_one form base rest m n h k
-part_one form (Hundredth base) rest m n h k = h.1 ∙ sym k.1
+part_one : (form : Form) (most : ℕ) (part : Part) (rest : List ℕ) (m n : ℕ) → PartRest form most part rest m → PartRest form most part rest n → m ≡ n
+part_one form most (Whole progress) rest m n h k = whole_one form (WholePart most progress) (whole_digits most progress) (whole_is_one most progress) rest m n h k
+part_one form most (Dot base) rest m n h k = dot_one form base rest m n h k
+part_one form most (Tenth base) rest m n h k = tenth_one form base rest m n h k
+part_one form most (Hundredth base) rest m n h k = h.1 ∙ sym k.1
 
 pub hundredths_one : (form : Form) (most : ℕ) (part : Part) (rest : List ℕ) (v w : Hundredths) → HundredthsRest form most part rest v → HundredthsRest form most part rest w → v ≡ w
-hundredths_one form most part rest v w h k = count_one v.count w.count (part_one form part rest v.count w.count h.1 k.1)
+hundredths_one form most part rest v w h k = count_one v.count w.count (part_one form most part rest v.count w.count h.1 k.1)
 
 -- A rest holds bytes.
 tenth_bytes : (form : Form) (base : ℕ) (rest : List ℕ) (count : ℕ) → AfterTenth form base rest count → AreBytes rest
@@ -274,11 +303,11 @@ after_bytes : (form : Form) (whole : ℕ) (rest : List ℕ) (count : ℕ) → Af
 after_bytes form whole [] count h = tt
 after_bytes form whole (c ∷ cs) count h = (omega (arith, h.0), dot_bytes form (100 * whole) cs count h.1)
 
-part_bytes : (form : Form) (part : Part) (rest : List ℕ) (count : ℕ) → PartRest form part rest count → AreBytes rest
-part_bytes form (Whole number) rest count h = rw h.text_is (bytes_append h.front h.back (digits_bytes h.front (number_digits number.lo number.hi number.progress h.front h.whole h.begins)) (after_bytes form h.whole h.back count h.ends))
-part_bytes form (Dot base) rest count h = dot_bytes form base rest count h
-part_bytes form (Tenth base) rest count h = tenth_bytes form base rest count h
-part_bytes form (Hundredth base) rest count h = rw h.0 tt
+part_bytes : (form : Form) (most : ℕ) (part : Part) (rest : List ℕ) (count : ℕ) → PartRest form most part rest count → AreBytes rest
+part_bytes form most (Whole progress) rest count h = rw h.text_is (bytes_append h.front h.back (digits_bytes h.front (whole_digits most progress h.front h.whole h.begins)) (after_bytes form h.whole h.back count h.ends))
+part_bytes form most (Dot base) rest count h = dot_bytes form base rest count h
+part_bytes form most (Tenth base) rest count h = tenth_bytes form base rest count h
+part_bytes form most (Hundredth base) rest count h = rw h.0 tt
 
 pub hundredths_bytes : (form : Form) (most : ℕ) (part : Part) (rest : List ℕ) (h : Hundredths) → HundredthsRest form most part rest h → AreBytes rest
-hundredths_bytes form most part rest h k = part_bytes form part rest h.count k.1
+hundredths_bytes form most part rest h k = part_bytes form most part rest h.count k.1

@@ -1,8 +1,9 @@
 -- What is left of hundredths.
-use Rattle.std.specs.Prelude.{◌≡◌, ℕ, ◌+◌, ◌-◌, ◌*◌, ◌≤◌, Bool, true, false, ◌&&◌, List, [], ◌∷◌, ◌++◌}
-use Rattle.cg_text.specs.DecimalState.{IsDecimalRest, decimal_ends}
+use Rattle.std.specs.Prelude.{◌≡◌, ℕ, ◌+◌, ◌-◌, ◌*◌, ◌/◌, ◌≤◌, Bool, true, false, ◌&&◌, leb, IsTrue, List, [], ◌∷◌, ◌++◌}
+use Rattle.cg_text.specs.DecimalState.{IsDecimalRest, is_open}
 use Rattle.cg_text.specs.Hundredths.{IsDigit}
-use Rattle.cg_text.specs.declared.decimal.DecimalText.{DecimalText}
+use Rattle.cg_text.specs.declared.decimal.Progress.{Progress}
+use Rattle.cg_text.specs.declared.decimal.Progress.TheVariants.{Start, Zero, Number}
 use Rattle.cg_text.specs.declared.values.Hundredths.{Hundredths}
 use Rattle.cg_text.specs.declared.hundredths.Form.{Form}
 use Rattle.cg_text.specs.declared.hundredths.Form.TheVariants.{Read, Written}
@@ -38,37 +39,37 @@ pub record WholeRest (form : Form) (P : List ℕ → ℕ → Type 0) (text : Lis
   pub begins : P front whole
   pub ends : AfterWhole form whole back count
 
-abbrev pub NumberRest : DecimalText → List ℕ → ℕ → Type 0
-NumberRest d rest n = IsDecimalRest d.lo d.hi d.progress rest n
+-- What is left of a whole part of at most so many hundredths.
+abbrev pub WholePart : ℕ → Progress → List ℕ → ℕ → Type 0
+WholePart most progress rest n = IsDecimalRest 0 (most / 100) progress rest n
 
-abbrev pub number_ends : DecimalText → Bool
-number_ends d = decimal_ends d.lo d.hi d.progress
+-- Whether the whole part may end.
+abbrev pub whole_ends : ℕ → Progress → Bool
+whole_ends most Start = false
+whole_ends most Zero = true
+whole_ends most (Number n) = leb n (most / 100)
 
 -- The rest completes a count.
-abbrev pub PartRest : Form → Part → List ℕ → ℕ → Type 0
-PartRest form (Whole number) rest count = WholeRest form (NumberRest number) rest count
-PartRest form (Dot base) rest count = AfterDot form base rest count
-PartRest form (Tenth base) rest count = AfterTenth form base rest count
-PartRest form (Hundredth base) rest count = (rest ≡ []) × (count ≡ base)
+abbrev pub PartRest : Form → ℕ → Part → List ℕ → ℕ → Type 0
+PartRest form most (Whole progress) rest count = WholeRest form (WholePart most progress) rest count
+PartRest form most (Dot base) rest count = AfterDot form base rest count
+PartRest form most (Tenth base) rest count = AfterTenth form base rest count
+PartRest form most (Hundredth base) rest count = (rest ≡ []) × (count ≡ base)
 
 -- The rest completes a number of at most this many hundredths.
 abbrev pub HundredthsRest : Form → ℕ → Part → List ℕ → Hundredths → Type 0
-HundredthsRest form most part rest h = (h.count ≤ most) × PartRest form part rest h.count
+HundredthsRest form most part rest h = (h.count ≤ most) × PartRest form most part rest h.count
 
--- A whole part is at most so many hundredths.
-abbrev pub IsWholeWithin : ℕ → (List ℕ → ℕ → Type 0) → Type 0
-IsWholeWithin most P = (rest : List ℕ) (n : ℕ) → P rest n → 100 * n ≤ most
-
--- What was taken is at most so many hundredths.
+-- What was taken can be completed to at most so many hundredths.
 abbrev pub IsWithin : ℕ → Part → Type 0
-IsWithin most (Whole number) = IsWholeWithin most (NumberRest number)
+IsWithin most (Whole progress) = IsTrue (is_open 0 (most / 100) progress)
 IsWithin most (Dot base) = base ≤ most
 IsWithin most (Tenth base) = base ≤ most
 IsWithin most (Hundredth base) = base ≤ most
 
 -- Whether nothing need follow.
-abbrev pub hundredths_ends : Form → Part → Bool
-hundredths_ends form (Whole number) = may_leave_out form && number_ends number
-hundredths_ends form (Dot base) = false
-hundredths_ends form (Tenth base) = may_leave_out form
-hundredths_ends form (Hundredth base) = true
+abbrev pub hundredths_ends : Form → ℕ → Part → Bool
+hundredths_ends form most (Whole progress) = may_leave_out form && whole_ends most progress
+hundredths_ends form most (Dot base) = false
+hundredths_ends form most (Tenth base) = may_leave_out form
+hundredths_ends form most (Hundredth base) = true

@@ -1,11 +1,12 @@
 //! Numbers with two decimals.
 ghost use Rattle.std.specs.Prelude.{◌≡◌, ℕ, ◌+◌, ◌*◌, ◌/◌, ◌-◌, ◌≤◌, ◌<◌, ◌↔◌, ◌⊎◌, false, List, [], ◌∷◌, IsTrue, MatchOption, ⊤, refl};
 ghost use Rattle.cg_text.specs.Hundredths.{IsHundredths, IsDigit};
-ghost use Rattle.cg_text.specs.HundredthsState.{HundredthsRest, IsWithin, hundredths_ends, may_leave_out};
+ghost use Rattle.cg_text.specs.DecimalState.{IsDecimalRest};
+ghost use Rattle.cg_text.specs.HundredthsState.{HundredthsRest, IsWithin, hundredths_ends, may_leave_out, whole_ends};
 ghost use Rattle.cg_text.specs.HundredthsLaws.{IsWithin_prop};
 ghost use Rattle.cg_text.specs.Token.{Follows, NoneBegins, Spells};
 
-use crate::decimal::DecimalText;
+use crate::decimal::{self, Progress};
 use crate::memory::OutOfMemory;
 use crate::token::Token;
 use crate::values::Hundredths;
@@ -32,8 +33,8 @@ impl Form {
 /// What was taken of hundredths.
 #[derive(Clone, Copy, Drop)]
 enum Part {
-    /// The whole part, at which this token stands.
-    Whole(DecimalText),
+    /// So much of the whole part.
+    Whole(Progress),
     /// The whole part, of so many hundredths, and the dot.
     Dot(u64),
     /// One digit after the dot, so many hundredths in all.
@@ -68,6 +69,29 @@ fn with_digit(count: u64, unit: u64, most: u64, byte: u8) -> Option<u64>
     }
 }
 
+/// Whether the whole part may end.
+fn whole_ends(most: u64, progress: Progress) -> bool
+    ensures { result ≡ whole_ends most progress }
+{
+    match progress {
+        Progress::Start => false,
+        Progress::Zero => true,
+        Progress::Number(n) => n <= most / 100,
+    }
+}
+
+/// The whole part that was taken.
+fn whole_part(most: u64, progress: Progress) -> u64
+    requires { IsTrue (whole_ends most progress) }
+    ensures value { IsDecimalRest 0 (most / 100) progress [] result }
+    ensures within { 100 * result ≤ most }
+{
+    match progress {
+        Progress::Number(n) => n,
+        _ => 0,
+    }
+}
+
 /// The state after one more byte, where some rest begins with it.
 fn after(form: Form, most: u64, part: Part, byte: u8) -> Option<Part>
     requires { IsWithin most part }
@@ -75,20 +99,17 @@ fn after(form: Form, most: u64, part: Part, byte: u8) -> Option<Part>
     ensures within { MatchOption result ⊤ (λ new. IsWithin most new) }
 {
     match part {
-        Part::Whole(number) => {
-            let mut next = number;
-            match next.step(byte) {
-                Ok(true) => return Some(Part::Whole(next)),
-                Ok(false) => {}
-                Err(_) => unreachable!(),
+        Part::Whole(progress) => {
+            if byte == b'.' {
+                return if whole_ends(most, progress) {
+                    Some(Part::Dot(100 * whole_part(most, progress)))
+                } else {
+                    None
+                };
             }
-            if byte != b'.' {
-                return None;
-            }
-            if number.can_end() {
-                Some(Part::Dot(100 * number.take()))
-            } else {
-                None
+            match decimal::after(0, most / 100, progress, byte) {
+                Some(new) => Some(Part::Whole(new)),
+                None => None,
             }
         }
         Part::Dot(count) => match with_digit(count, 10, most, byte) {
@@ -109,13 +130,10 @@ impl HundredthsText {
         ensures spells { Spells ⟦<HundredthsText as Token>⟧.means result (λ rest h. IsHundredths form most h rest) }
         ensures size { ⟦<HundredthsText as Token>⟧.size result ≡ 0 }
     {
-        match DecimalText::new(0, most / 100) {
-            Some(number) => HundredthsText {
-                form,
-                most,
-                part: Part::Whole(number),
-            },
-            None => unreachable!(),
+        HundredthsText {
+            form,
+            most,
+            part: Part::Whole(Progress::Start),
         }
     }
 }
@@ -131,7 +149,7 @@ impl Token for HundredthsText {
 
     ghost weight = { λ _. 0 };
 
-    ghost ends = { λ s. hundredths_ends s.form s.part };
+    ghost ends = { λ s. hundredths_ends s.form s.most s.part };
 
     ghost grows = { false };
 
@@ -154,7 +172,9 @@ impl Token for HundredthsText {
 
     fn can_end(&self) -> bool {
         match self.part {
-            Part::Whole(number) => self.form.may_leave_out() && number.can_end(),
+            Part::Whole(progress) => {
+                self.form.may_leave_out() && whole_ends(self.most, progress)
+            }
             Part::Dot(_) => false,
             Part::Tenth(_) => self.form.may_leave_out(),
             Part::Hundredth(_) => true,
@@ -167,7 +187,7 @@ impl Token for HundredthsText {
 
     fn take(self) -> Hundredths {
         let count = match self.part {
-            Part::Whole(number) => 100 * number.take(),
+            Part::Whole(progress) => 100 * whole_part(self.most, progress),
             Part::Tenth(count) | Part::Hundredth(count) => count,
             Part::Dot(_) => unreachable!(),
         };
