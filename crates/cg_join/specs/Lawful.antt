@@ -1,16 +1,19 @@
 -- The laws of one state of a token, and how they are joined.
-use Rattle.std.proofs.Common.{◌≡◌, ℕ, ◌≤◌, ◌↔◌, Bool, false, ◌&&◌, ◌||◌, List, [], length, drop, nat_eq, refl, IsTrue, IsFalse}
+use Rattle.std.proofs.Common.{◌≡◌, ℕ, ◌↔◌, Bool, ◌&&◌, ◌||◌, List, [], length, drop, nat_eq, refl, IsTrue, IsFalse}
 use Rattle.cg_text.specs.Token.{Ends, Completes, HasOneValue, HoldsBytes}
 use Rattle.cg_text.specs.TokenLaws.{fixed_bytes}
 use Rattle.cg_text.specs.FixedLaws.{drop_at_end}
 use Rattle.cg_text.specs.DecimalState.{IsDecimalRest, decimal_ends}
 use Rattle.cg_text.specs.DecimalLaws.{IsDecimalRest_completes, IsDecimalRest_one, decimal_ends_is, number_digits, digits_bytes}
 use Rattle.cg_text.specs.ByteLaws.{left, byte_ends, byte_bytes}
+use Rattle.cg_text.specs.HundredthsState.{HundredthsRest, hundredths_ends}
+use Rattle.cg_text.specs.HundredthsLaws.{hundredths_completes, hundredths_ends_is, hundredths_one, hundredths_bytes}
+use Rattle.cg_text.specs.declared.hundredths.HundredthsText.{HundredthsText}
+use Rattle.cg_text.specs.declared.values.Hundredths.{Hundredths}
 use Rattle.cg_text.specs.declared.byte.ByteText.{ByteText}
 use Rattle.cg_text.specs.declared.decimal.DecimalText.{DecimalText}
 use Rattle.cg_text.specs.Keyword.{text_of}
 use Rattle.cg_text.specs.KeywordLaws.{keyword_bytes}
-use Rattle.cg_text.specs.declared.fixed.FixedText.{FixedText}
 use Rattle.cg_text.specs.declared.keyword.KeywordText.{KeywordText}
 use Rattle.cg_join.specs.ByteLaws.{sequence_bytes, choice_bytes}
 use Rattle.cg_join.specs.Choice.{IsChoice, ShareNone}
@@ -28,9 +31,6 @@ pub record IsLawful {S V : Type 0} (means : S → List ℕ → V → Type 0) (s 
   pub holds_bytes : HoldsBytes means s
 
 -- What the states of tokens mean.
-abbrev pub FixedRest : FixedText → List ℕ → Unit {0} → Type 0
-FixedRest s rest _ = rest ≡ drop s.at s.text.now
-
 abbrev pub KeywordRest : KeywordText → List ℕ → Unit {0} → Type 0
 KeywordRest s rest _ = rest ≡ drop s.at (text_of s.keyword)
 
@@ -43,13 +43,11 @@ NumberRest s rest n = IsDecimalRest s.lo s.hi s.progress rest n
 abbrev pub number_ends : DecimalText → Bool
 number_ends s = decimal_ends s.lo s.hi s.progress
 
-pub fixed_lawful : (s : FixedText) → IsLawful FixedRest s (nat_eq s.at (length s.text.now))
-fixed_lawful s = record {
-  completes = (drop s.at s.text.now, tt, refl);
-  ends_is = drop_at_end s.at s.text.now s.within;
-  one_value = λ rest v w h k. refl;
-  holds_bytes = λ rest v h. fixed_bytes s.at s.text.now rest s.bytes h;
-}
+abbrev pub FractionRest : HundredthsText → List ℕ → Hundredths → Type 0
+FractionRest s rest h = HundredthsRest s.form s.most s.part rest h
+
+abbrev pub fraction_ends : HundredthsText → Bool
+fraction_ends s = hundredths_ends s.form s.most s.part
 
 pub keyword_lawful : (s : KeywordText) → IsLawful KeywordRest s (nat_eq s.at (length (text_of s.keyword)))
 keyword_lawful s = record {
@@ -73,6 +71,14 @@ number_lawful s = record {
   ends_is = decimal_ends_is s.lo s.hi s.progress;
   one_value = IsDecimalRest_one s.lo s.hi s.progress;
   holds_bytes = λ rest n h. digits_bytes rest (number_digits s.lo s.hi s.progress rest n h);
+}
+
+pub fraction_lawful : (s : HundredthsText) → IsLawful FractionRest s (fraction_ends s)
+fraction_lawful s = record {
+  completes = hundredths_completes s.form s.most s.part s.within;
+  ends_is = hundredths_ends_is s.form s.most s.part s.within;
+  one_value = hundredths_one s.form s.most s.part;
+  holds_bytes = hundredths_bytes s.form s.most s.part;
 }
 
 pub mapped_lawful : {S V W : Type 0} {means : S → List ℕ → V → Type 0} {s : S} {e : Bool} (turned : V → W) → IsLawful means s e → IsLawful (IsMapped means turned) s e

@@ -1,9 +1,16 @@
+pub mod AmountLaws
+pub mod AmountState
 pub mod ByteLaws
 pub mod Choice
 pub mod ChoiceLaws
+pub mod ClampLaws
+pub mod ClampState
+pub mod DeviceLaws
+pub mod DeviceState
 pub mod Distinct
 pub mod DistinctLaws
 pub mod Join
+pub mod LackLaws
 pub mod Lawful
 pub mod LimitLaws
 pub mod LimitState
@@ -13,6 +20,7 @@ pub mod Lines
 pub mod LinesLaws
 pub mod Mapped
 pub mod MappedLaws
+pub mod MaxLaws
 pub mod Pairs
 pub mod PairsLaws
 pub mod Reading

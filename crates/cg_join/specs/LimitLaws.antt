@@ -1,5 +1,5 @@
 -- What holds of limits.
-use Rattle.std.proofs.Common.{◌≡◌, ℕ, ◌≤◌, ◌↔◌, ◌⊎◌, inl, inr, Bool, ◌||◌, ◌&&◌, nat_eq, length, List, [], ◌∷◌, refl, codes, arith, IsTrue}
+use Rattle.std.proofs.Common.{◌≡◌, ℕ, ◌↔◌, Bool, ◌||◌, ◌&&◌, nat_eq, length, List, refl, codes, IsTrue}
 use Rattle.cg_text.specs.Decimal.{IsDecimal}
 use Rattle.cg_text.specs.Limit.{IsLimit}
 use Rattle.cg_text.specs.declared.values.Limit.{Limit}
@@ -14,14 +14,6 @@ use Rattle.cg_text.specs.declared.keyword.KeywordText.{KeywordText}
 use Rattle.cg_join.specs.Choice.{IsChoice, ShareNone}
 use Rattle.cg_join.specs.Mapped.{IsMapped}
 use Rattle.cg_join.specs.Lawful.{IsLawful, KeywordRest, NumberRest, number_ends, keyword_lawful, number_lawful, choice_lawful, mapped_lawful}
-
--- No decimal begins with a letter.
-letter_not_decimal : (lo hi n c : ℕ) (cs : List ℕ) → 58 ≤ c → IsDecimal lo hi n (c ∷ cs) → ⊥
-letter_not_decimal lo hi n c cs h (a, b, inl k) = omega (arith, k.0)
-letter_not_decimal lo hi n c cs h (a, b, inr k) = omega (arith, k.1)
-
-pub max_not_decimal : (lo hi n : ℕ) (text : List ℕ) → text ≡ codes "max" → IsDecimal lo hi n text → ⊥
-max_not_decimal lo hi n text e h = letter_not_decimal lo hi n 109 (97 ∷ 120 ∷ []) (omega arith) (rw e at h)
 
 limit_from : (lo hi : ℕ) (text : List ℕ) (x : Either (Unit {0}) ℕ) → IsEither (λ t _. t ≡ codes "max") (λ t n. IsDecimal lo hi n t) text x → IsLimit lo hi (limit_of x) text
 limit_from lo hi text (Left u) h = h

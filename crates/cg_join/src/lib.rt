@@ -1,7 +1,10 @@
 //! Tokens that are made of tokens.
 #![tactic(auto)]
 
+pub mod amount;
 pub mod choice;
+pub mod clamp;
+pub mod device;
 pub mod distinct;
 pub mod limit;
 pub mod line;
@@ -16,10 +19,11 @@ pub mod sequence;
 pub mod start;
 pub mod starts;
 mod store;
-#[cfg(test)]
-mod tests;
 
+pub use amount::AmountText;
 pub use choice::{Choice, Either};
+pub use clamp::ClampText;
+pub use device::DeviceText;
 pub use distinct::Distinct;
 pub use limit::LimitText;
 pub use line::{Line, one_line};
@@ -33,3 +37,8 @@ pub use repeat::Repeat;
 pub use sequence::Sequence;
 pub use start::Start;
 pub use starts::NumberStart;
+
+#[cfg(test)]
+mod composite_tests;
+#[cfg(test)]
+mod tests;

@@ -9,7 +9,7 @@ use cg_text::{DecimalText, Keyword, KeywordText, Limit, OutOfMemory, Token};
 
 /// The limit of a choice.
 #[derive(Clone, Copy)]
-pub struct ToLimit;
+struct ToLimit;
 
 impl Turn<Choice<KeywordText, DecimalText>> for ToLimit {
     type To = Limit;

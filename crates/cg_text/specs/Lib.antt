@@ -1,3 +1,5 @@
+pub mod AboveSpace
+pub mod AboveSpaceLaws
 pub mod Amount
 pub mod ByteLaws
 pub mod Bytes
@@ -9,6 +11,8 @@ pub mod DecimalState
 pub mod Device
 pub mod FixedLaws
 pub mod Hundredths
+pub mod HundredthsLaws
+pub mod HundredthsState
 pub mod Key
 pub mod Keyword
 pub mod KeywordLaws
@@ -28,6 +32,7 @@ pub mod NumberRestLaws
 pub mod Numbers
 pub mod NumbersLaws
 pub mod NumeralLaws
+pub mod OneTextLaws
 pub mod Raw
 pub mod RawLaws
 pub mod RawState

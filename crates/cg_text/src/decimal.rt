@@ -9,7 +9,7 @@ use crate::token::Token;
 
 /// What was taken of a number.
 #[derive(Clone, Copy, Drop)]
-enum Progress {
+pub(crate) enum Progress {
     Start,
     Zero,
     /// A number above 0.
@@ -43,7 +43,7 @@ fn reaches(lo: u64, hi: u64, n: u128) -> bool
 }
 
 /// The state after one more byte, where some rest begins with it.
-fn after(lo: u64, hi: u64, progress: Progress, byte: u8) -> Option<Progress>
+pub(crate) fn after(lo: u64, hi: u64, progress: Progress, byte: u8) -> Option<Progress>
     requires range { lo ≤ hi }
     requires live { IsTrue (is_open lo hi progress) }
     ensures follows { MatchOption result (NoneBegins (IsDecimalRest lo hi) progress byte) (Follows (IsDecimalRest lo hi) progress byte) }

@@ -28,7 +28,7 @@ pub use byte::ByteText;
 pub use bytes::ByteSet;
 pub use decimal::DecimalText;
 pub use fixed::FixedText;
-pub use hundredths::Form;
+pub use hundredths::{Form, HundredthsText};
 pub use items::Items;
 pub use key::{Key, KeyFault};
 pub use keyword::{Keyword, KeywordText};

@@ -1,6 +1,7 @@
 use Rattle.cg_join.specs.Spelling.{none_spells, choice_spells, mapped_spells, spells_as}
 use Rattle.cg_join.specs.LimitState.{limit_of}
-use Rattle.cg_join.specs.LimitLaws.{max_not_decimal, limit_is}
+use Rattle.cg_join.specs.LimitLaws.{limit_is}
+use Rattle.cg_join.specs.MaxLaws.{max_not_decimal}
 use Rattle.cg_join.proofs.limit.LimitText.new.Goals as goal
 
 pub new-requires-in-Some-2-clause-apart : goal.new-requires-in-Some-2-clause-apart

@@ -1,0 +1,98 @@
+-- What holds of devices.
+use Rattle.std.proofs.Common.{◌≡◌, ℕ, ◌↔◌, Bool, ◌||◌, ◌&&◌, List, [], ◌∷◌, ◌++◌, refl, ap, arith, IsTrue, IsFalse}
+use Rattle.cg_text.specs.Decimal.{IsDecimal, AreDigits}
+use Rattle.cg_text.specs.DecimalLaws.{number_digits}
+use Rattle.cg_text.specs.Device.{IsDevice}
+use Rattle.cg_text.specs.Token.{Completes, Ends, HasOneValue, HoldsBytes}
+use Rattle.cg_text.specs.declared.byte.ByteText.{ByteText}
+use Rattle.cg_text.specs.declared.decimal.DecimalText.{DecimalText}
+use Rattle.cg_text.specs.declared.decimal.Progress.TheVariants.{Start}
+use Rattle.cg_text.specs.declared.values.Device.{Device}
+use Rattle.cg_join.specs.DeviceState.{numbers_of, HasNarrow}
+use Rattle.cg_join.specs.Join.{IsSequence, AreApart}
+use Rattle.cg_join.specs.Lawful.{IsLawful, ByteRest, NumberRest, number_ends, byte_lawful, number_lawful, sequence_lawful}
+use Rattle.cg_join.specs.Spelling.{IsConcat, Apart}
+
+abbrev pub IsMajor : List ℕ → ℕ → Type 0
+IsMajor text n = IsDecimal 0 4095 n text
+
+abbrev pub IsColon : List ℕ → Unit {0} → Type 0
+IsColon text _ = text ≡ 58 ∷ []
+
+abbrev pub IsMinor : List ℕ → ℕ → Type 0
+IsMinor text n = IsDecimal 0 1048575 n text
+
+-- A colon goes on with nothing.
+colon_alone : (front more : List ℕ) (byte : ℕ) → front ≡ 58 ∷ [] → front ++ byte ∷ more ≡ 58 ∷ [] → ⊥
+colon_alone [] more byte e f = absurd (cc)
+colon_alone (c ∷ []) more byte e f = absurd (cc)
+colon_alone (c ∷ d ∷ front) more byte e f = absurd (cc)
+
+pub colon_apart : Apart IsColon IsMinor
+colon_apart front more back byte v u w h k l = colon_alone front more byte h k
+
+colon_first : (byte : ℕ) (back front rest : List ℕ) → byte ∷ back ≡ front ++ rest → front ≡ 58 ∷ [] → byte ≡ 58
+colon_first byte back [] rest e f = absurd (cc)
+colon_first byte back (c ∷ front) rest e f = cc
+
+colon_no_digit : (front back : List ℕ) → AreDigits (front ++ 58 ∷ back) → ⊥
+colon_no_digit [] back h = omega (arith, h.1)
+colon_no_digit (c ∷ front) back h = colon_no_digit front back h.2
+
+-- The major number stands before a colon.
+pub major_apart : Apart IsMajor (IsConcat IsColon IsMinor)
+major_apart front more back byte v u w h k l =
+    let e : byte ≡ 58 = colon_first byte back l.front l.back l.whole l.begins in
+    colon_no_digit front more (number_digits 0 4095 Start (front ++ 58 ∷ more) u (rw e at k))
+
+-- The three parts of a device.
+pub device_is : (text : List ℕ) (device : Device) → IsConcat IsMajor (IsConcat IsColon IsMinor) text (numbers_of device) ↔ IsDevice device text
+device_is text device = (
+  λ h. record {
+    major = h.front;
+    minor = h.ends.back;
+    text_is = (let b = rw h.ends.begins at h.ends.whole in rw b at h.whole);
+    major_is = h.begins;
+    minor_is = h.ends.ends;
+  },
+  λ h. record {
+    front = h.major;
+    back = 58 ∷ h.minor;
+    whole = h.text_is;
+    begins = h.major_is;
+    ends = record { front = 58 ∷ []; back = h.minor; whole = refl; begins = refl; ends = h.minor_is };
+  },
+)
+
+pub narrow_new : HasNarrow (IsConcat IsMajor (IsConcat IsColon IsMinor))
+narrow_new rest v h = (omega (arith, h.begins.1), omega (arith, h.ends.ends.1))
+
+abbrev pub device_of : ℕ × (Unit {0} × ℕ) → Device
+device_of v = record { major = v.0; minor = v.1.1 }
+
+same_device : (v w : Device) → numbers_of v ≡ numbers_of w → v ≡ w
+same_device v w e = ap device_of e
+
+-- A state of numbers is one of a device.
+module _ {R : List ℕ → ℕ × (Unit {0} × ℕ) → Type 0} {e : Bool} where
+  pub numbers_lawful : IsLawful (λ (u : Unit {0}). R) tt e → IsLawful (λ (u : Unit {0}) (rest : List ℕ) (device : Device). R rest (numbers_of device)) tt e
+  numbers_lawful a = record {
+    completes = (let c = a.completes in (c.0, device_of c.1, c.2));
+    ends_is = (λ h. (let v = a.ends_is.0 h in (device_of v.0, v.1)), λ h. a.ends_is.1 (numbers_of h.0, h.1));
+    one_value = λ rest v w h k. same_device v w (a.one_value rest (numbers_of v) (numbers_of w) h k);
+    holds_bytes = λ rest v h. a.holds_bytes rest (numbers_of v) h;
+  }
+
+-- The laws of a state of what follows the major number.
+pub tail_lawful : (colon : ByteText) (minor : DecimalText) (b : Bool) → (IsFalse b → AreApart ByteRest NumberRest colon minor) → (IsTrue b → IsTrue colon.taken) →
+    IsLawful (λ (u : Unit {0}) (rest : List ℕ) (v : Unit {0} × ℕ). IsSequence ByteRest NumberRest b colon minor rest v.0 v.1) tt ((b || colon.taken) && number_ends minor)
+tail_lawful colon minor b apart ended = sequence_lawful b apart ended (byte_lawful colon) (number_lawful minor)
+
+-- The laws of a state.
+pub device_lawful : {T : Type 0} (second : T → List ℕ → Unit {0} × ℕ → Type 0) (t : T) (major : DecimalText) (b : Bool) →
+    (IsFalse b → AreApart NumberRest second major t) → (IsTrue b → IsTrue (number_ends major)) →
+    {e : Bool} → Completes second t → IsTrue e ↔ Ends second t → HasOneValue second t → HoldsBytes second t →
+    IsLawful (λ (u : Unit {0}) (rest : List ℕ) (device : Device). IsSequence NumberRest second b major t rest device.major (tt, device.minor)) tt ((b || number_ends major) && e)
+device_lawful second t major b apart ended {e = e} completes ends one bytes =
+    let tail : IsLawful second t e = record { completes = completes; ends_is = ends; one_value = one; holds_bytes = bytes } in
+    numbers_lawful (sequence_lawful b apart ended (number_lawful major) tail)

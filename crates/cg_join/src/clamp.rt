@@ -1,0 +1,110 @@
+//! Utilization clamps.
+ghost use Rattle.std.specs.Prelude.{◌≡◌, ℕ, List, false, refl};
+ghost use Rattle.cg_text.specs.Token.{Spells};
+ghost use Rattle.cg_text.specs.Clamp.{IsClamp};
+
+use crate::choice::{Choice, Either};
+use crate::mapped::{Mapped, Turn};
+use cg_text::{Clamp, Keyword, KeywordText, Form, Hundredths, HundredthsText, OutOfMemory, Token};
+
+/// The clamp of a choice.
+#[derive(Clone, Copy)]
+struct ToClamp;
+
+impl Turn<Choice<KeywordText, HundredthsText>> for ToClamp {
+    type To = Clamp;
+
+    ghost use Rattle.cg_join.specs.ClampState.{clamp_of};
+
+    ghost turned = { clamp_of };
+
+    ghost weight = { λ _. 0 };
+
+    fn turn(value: Either<(), Hundredths>) -> Clamp {
+        match value {
+            Either::Left(_) => Clamp::Max,
+            Either::Right(percentage) => Clamp::At(percentage),
+        }
+    }
+
+    fn weight_of(_value: &Clamp) -> u64 {
+        0
+    }
+
+    ghost use Rattle.std.proofs.Common.{arith};
+
+    ghost no_more = { λ v. Prim.omega arith };
+}
+
+type Parts = Mapped<Choice<KeywordText, HundredthsText>, ToClamp>;
+
+/// The word `max`, or a percentage of at most 100.00 in a form.
+#[derive(Drop)]
+pub struct ClampText {
+    parts: Parts,
+}
+
+impl ClampText {
+    /// A token of clamps, with percentages in the form.
+    pub fn new(form: Form) -> ClampText
+        ensures spells { Spells ⟦<ClampText as Token>⟧.means result (λ rest v. IsClamp form v rest) }
+        ensures size { ⟦<ClampText as Token>⟧.size result ≡ 0 }
+    {
+        ClampText {
+            parts: Mapped::new(Choice::new(
+                KeywordText::new(Keyword::Max),
+                HundredthsText::new(form, 10000),
+            )),
+        }
+    }
+}
+
+impl Token for ClampText {
+    type Out = Clamp;
+
+    ghost use Rattle.cg_join.specs.ClampLaws.{clamp_lawful};
+
+    ghost means = { λ s rest v. ⟦<Parts as Token>⟧.means s.parts rest v };
+
+    ghost size = { λ _. 0 };
+
+    ghost weight = { λ _. 0 };
+
+    ghost ends = { λ s. ⟦<Parts as Token>⟧.ends s.parts };
+
+    ghost grows = { false };
+
+    fn step(&mut self, byte: u8) -> Result<bool, OutOfMemory> {
+        self.parts.step(byte)
+    }
+
+    fn allows(&self, byte: u8) -> bool {
+        self.parts.allows(byte)
+    }
+
+    fn can_end(&self) -> bool {
+        self.parts.can_end()
+    }
+
+    fn held(&self) -> u64 {
+        0
+    }
+
+    fn take(self) -> Clamp {
+        self.parts.take()
+    }
+
+    fn weight_of(_value: &Clamp) -> u64 {
+        0
+    }
+
+    ghost completes = { λ s. (clamp_lawful s.parts.token.left s.parts.token.right s.parts.token.left_lives s.parts.token.right_lives s.parts.token.some s.parts.token.apart).completes };
+
+    ghost no_size = { λ _ _. refl };
+
+    ghost ends_is = { λ s. (clamp_lawful s.parts.token.left s.parts.token.right s.parts.token.left_lives s.parts.token.right_lives s.parts.token.some s.parts.token.apart).ends_is };
+
+    ghost one_value = { λ s. (clamp_lawful s.parts.token.left s.parts.token.right s.parts.token.left_lives s.parts.token.right_lives s.parts.token.some s.parts.token.apart).one_value };
+
+    ghost holds_bytes = { λ s. (clamp_lawful s.parts.token.left s.parts.token.right s.parts.token.left_lives s.parts.token.right_lives s.parts.token.some s.parts.token.apart).holds_bytes };
+}
