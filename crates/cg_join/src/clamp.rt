@@ -5,7 +5,7 @@ ghost use Rattle.cg_text.specs.Clamp.{IsClamp};
 
 use crate::choice::{Choice, Either};
 use crate::mapped::{Mapped, Turn};
-use cg_text::{Clamp, Keyword, KeywordText, Form, Hundredths, HundredthsText, OutOfMemory, Token};
+use cg_text::{Clamp, Form, Hundredths, HundredthsText, Keyword, KeywordText, OutOfMemory, Token};
 
 /// The clamp of a choice.
 #[derive(Clone, Copy)]
