@@ -22,6 +22,8 @@ pub mod LooseSound
 pub mod LooseState
 pub mod Numbers
 pub mod NumbersLaws
+pub mod RangesLaws
+pub mod RangesState
 pub mod Raw
 pub mod Signed
 pub mod Size

@@ -2,11 +2,11 @@
 use Rattle.std.proofs.Common.{◌≡◌, ℕ, ◌≤◌, ◌↔◌, inl, inr, Bool, Option, Some, None, List, [], ◌∷◌, ◌++◌, refl, sym, ◌∙◌, ap, arith, IsTrue}
 use Rattle.cg_text.specs.Decimal.{AreDigits, IsDecimal}
 use Rattle.cg_text.specs.DecimalLaws.{IsDecimalRest_completes, IsDecimalRest_one}
-use Rattle.cg_text.specs.ListState.{number_rest}
+use Rattle.cg_text.specs.RangesState.{number_rest}
 use Rattle.cg_text.specs.Token.{AreBytes}
 use Rattle.cg_text.specs.TokenLaws.{bytes_append}
 use Rattle.cg_text.specs.DecimalLaws.{digits_bytes}
-use Rattle.cg_text.specs.ListLaws.{split_one, some_decimal, decimal_digits}
+use Rattle.cg_text.specs.RangesLaws.{split_one, some_decimal, decimal_digits}
 use Rattle.cg_text.specs.Trigger.{AreTimes}
 use Rattle.cg_text.specs.TriggerState.{TimesRest, TimesBegun, IsTimesTurn, times_end, IsWithin}
 use Rattle.cg_text.specs.declared.decimal.DecimalText.{DecimalText}
