@@ -139,9 +139,6 @@ set_widen : (least a b c : ℕ) (xs : List (ℕ × ℕ)) → IsSetFrom least (xs
 set_widen least a b c [] s h = (s.0, omega (arith, s.1, h), tt)
 set_widen least a b c (x ∷ xs) s h = (s.0, s.1, set_widen (x.1 + 2) a b c xs s.2 h)
 
-pub sound_digit : (items new : List (ℕ × ℕ)) (most : ℕ) (low : Option ℕ) (P P' : List ℕ → ℕ → Type 0) (byte : ℕ) → front new ≡ front items → ((x : List ℕ) (n : ℕ) → P' x n ↔ P (byte ∷ x) n) → IsSound items most low P → IsSound new most low P'
-sound_digit items new most low P P' byte e f s rest n h = rw e (s (byte ∷ rest) n ((f rest n).0 h))
-
 pub sound_comma : (items new : List (ℕ × ℕ)) (most : ℕ) (low : Option ℕ) (P P' : List ℕ → ℕ → Type 0) (end : ℕ) → new ≡ (front items ++ (begin_of low end, end) ∷ []) ++ (0, 0) ∷ [] → P [] end → ((x : List ℕ) (n : ℕ) → P' x n ↔ IsDecimal (end + 2) most n x) →
     IsSound items most low P → IsSound new most None P'
 sound_comma items new most low P P' end e p f s rest n h =
@@ -153,9 +150,6 @@ pub sound_dash : (items : List (ℕ × ℕ)) (most : ℕ) (P P' : List ℕ → �
 sound_dash items most P P' end p f s rest n h =
     let d = (f rest n).0 h in
     (d.1, set_widen 0 end end n (front items) (s [] end p).1 (omega (arith, d.0)))
-
-pub sound_new : (most : ℕ) (P : List ℕ → ℕ → Type 0) (items : List (ℕ × ℕ)) → items ≡ [] → ((x : List ℕ) (n : ℕ) → P x n ↔ IsDecimal 0 most n x) → IsSound items most None P
-sound_new most P items e f rest n h = rw e (let d = (f rest n).0 h in (d.1, (omega arith, omega arith, tt)))
 
 set_past : (x y r : ℕ × ℕ) (xs : List (ℕ × ℕ)) → set (x ∷ y ∷ xs) (length (y ∷ xs)) r ≡ x ∷ set (y ∷ xs) (length (y ∷ xs) - 1) r
 set_past x y r xs = let e : suc (length xs) - 1 ≡ length xs = omega arith in rw e refl

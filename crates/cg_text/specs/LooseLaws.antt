@@ -168,11 +168,5 @@ list_new most P f items e rest all = rw e (
   λ h. (h.1, (h.0, λ n. (λ k. inr ((h.2 n).0 k), λ k. elim k [ inl z ↦ absurd z | inr z ↦ (h.2 n).1 z ])), texts_from most h.1 rest h.3 (λ k. ranges_same false most (λ x n. IsDecimal 0 most n x) P (λ x n. (f x n).1) None h.1 rest k)),
 )
 
-pub sound_digit : (most : ℕ) (low : Option ℕ) (P P' : List ℕ → ℕ → Type 0) (byte : ℕ) → ((x : List ℕ) (n : ℕ) → P' x n ↔ P (byte ∷ x) n) → IsSound most low P → IsSound most low P'
-sound_digit most low P P' byte f s rest n h = s (byte ∷ rest) n ((f rest n).0 h)
-
 pub sound_comma : (most : ℕ) (P' : List ℕ → ℕ → Type 0) → ((x : List ℕ) (n : ℕ) → P' x n ↔ IsDecimal 0 most n x) → IsSound most None P'
 sound_comma most P' f rest n h = (((f rest n).0 h).1, omega arith)
-
-pub sound_dash : (most end : ℕ) (P' : List ℕ → ℕ → Type 0) → ((x : List ℕ) (n : ℕ) → P' x n ↔ IsDecimal end most n x) → IsSound most (Some end) P'
-sound_dash most end P' f rest n h = (((f rest n).0 h).1, ((f rest n).0 h).0)
