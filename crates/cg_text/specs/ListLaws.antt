@@ -1,10 +1,10 @@
 -- What holds of lists of ranges in order.
-use Rattle.std.proofs.Common.{◌≡◌, ℕ, zero, suc, ◌+◌, ◌-◌, ◌≤◌, ◌<◌, ◌⊎◌, ◌↔◌, inl, inr, Bool, true, false, ◌||◌, nat_eq, Option, Some, None, List, [], ◌∷◌, ◌++◌, length, refl, sym, ◌∙◌, ap, arith, append_assoc, IsTrue}
+use Rattle.std.proofs.Common.{◌≡◌, ℕ, suc, ◌+◌, ◌-◌, ◌≤◌, ◌<◌, ◌⊎◌, ◌↔◌, inl, inr, Bool, true, ◌||◌, nat_eq, Option, Some, None, List, [], ◌∷◌, ◌++◌, length, refl, sym, ◌∙◌, ap, arith, append_assoc, IsTrue}
 use Rattle.std.proofs.Math.ListN.{set}
 use Rattle.std.specs.Coded.{Unit-prop}
 use Rattle.std.proofs.Props.{props}
 use Rattle.cg_text.specs.Decimal.{AreDigits, IsDecimal}
-use Rattle.cg_text.specs.Numbers.{IsSetFrom, IsSet}
+use Rattle.cg_text.specs.Numbers.{IsSetFrom}
 use Rattle.cg_text.specs.List.{IsRangeText, AreRangeTexts, IsStrictList}
 use Rattle.cg_text.specs.RangesState.{front, LowRest, AfterRange, RangesRest, begin_of, Begun}
 use Rattle.cg_text.specs.ListState.{IsListRest, IsSound}
@@ -28,7 +28,7 @@ module _ (most n : ℕ) (P : List ℕ → ℕ → Type 0) (ended : P [] n) (one 
   list_comma P' f items new low e rest all =
       let done : front new ≡ front items ++ (begin_of low n, n) ∷ [] = ap front e ∙ front_push (front items ++ (begin_of low n, n) ∷ []) (0, 0) in
       rest_comma true most n P ended one digits P' f items new low (length_pushed (front items ++ (begin_of low n, n) ∷ []) (0, 0) new e) (λ rs. all ≡ front items ++ rs) (λ us. all ≡ front new ++ us)
-        (λ us. rw done (λ h. h ∙ append_assoc (front items) ((begin_of low n, n) ∷ []) us, λ h. h ∙ sym (append_assoc (front items) ((begin_of low n, n) ∷ []) us))) rest
+      (λ us. rw done (λ h. h ∙ append_assoc (front items) ((begin_of low n, n) ∷ []) us, λ h. h ∙ sym (append_assoc (front items) ((begin_of low n, n) ∷ []) us))) rest
 
   pub list_dash : (P' : List ℕ → ℕ → Type 0) → ((x : List ℕ) (m : ℕ) → P' x m ↔ IsDecimal (n + 1) most m x) → (items : List (ℕ × ℕ)) → (length items ≡ 0 → (m : ℕ) → P [] m → ⊥) →
       (rest : List ℕ) (all : List (ℕ × ℕ)) → IsListRest items most (Some n) P' rest all ↔ IsListRest items most None P (45 ∷ rest) all

@@ -1,7 +1,7 @@
 -- What holds of lists of ranges in any order.
-use Rattle.std.proofs.Common.{◌≡◌, ℕ, zero, suc, ◌+◌, ◌-◌, ◌≤◌, ◌<◌, ◌⊎◌, ◌↔◌, inl, inr, Bool, true, false, ◌||◌, nat_eq, Option, Some, None, List, [], ◌∷◌, ◌++◌, length, refl, sym, ◌∙◌, ap, arith, append_assoc, IsTrue}
+use Rattle.std.proofs.Common.{◌≡◌, ℕ, ◌≤◌, ◌<◌, ◌⊎◌, ◌↔◌, inl, inr, Bool, false, ◌||◌, nat_eq, Option, Some, None, List, [], ◌∷◌, ◌++◌, length, refl, sym, ◌∙◌, ap, arith, append_assoc, IsTrue}
 use Rattle.cg_text.specs.Decimal.{AreDigits, IsDecimal}
-use Rattle.cg_text.specs.Numbers.{IsSetFrom, IsSet, Has}
+use Rattle.cg_text.specs.Numbers.{IsSet, Has}
 use Rattle.cg_text.specs.NumbersLaws.{inserted, inserted_set, inserted_has, same_ranges}
 use Rattle.cg_text.specs.List.{IsLooseRangeText, AreLooseTexts, IsLooseList}
 use Rattle.cg_text.specs.RangesState.{front, LowRest, AfterRange, RangesRest, begin_of, Begun}
@@ -50,7 +50,7 @@ module _ (most n : ℕ) (P : List ℕ → ℕ → Type 0) (ended : P [] n) (one 
   list_comma P' f items new low set le e rest all =
       let done : front new ≡ inserted (begin_of low n) n (front items) = ap front e ∙ front_push (inserted (begin_of low n) n (front items)) (0, 0) in
       rest_comma false most n P ended one digits P' f items new low (length_pushed (inserted (begin_of low n) n (front items)) (0, 0) new e) (λ rs. Adds (front items) rs all) (λ us. Adds (front new) us all)
-        (λ us. rw done (added_one (front items) (begin_of low n) n us all set le)) rest
+      (λ us. rw done (added_one (front items) (begin_of low n) n us all set le)) rest
 
   pub list_dash : (P' : List ℕ → ℕ → Type 0) → ((x : List ℕ) (m : ℕ) → P' x m ↔ IsDecimal n most m x) → (items : List (ℕ × ℕ)) → (length items ≡ 0 → (m : ℕ) → P [] m → ⊥) →
       (rest : List ℕ) (all : List (ℕ × ℕ)) → IsLooseRest items most (Some n) P' rest all ↔ IsLooseRest items most None P (45 ∷ rest) all

@@ -1,12 +1,11 @@
 -- What holds of ranges in a list, be it strict or loose.
-use Rattle.std.proofs.Common.{◌≡◌, ℕ, zero, suc, ◌+◌, ◌-◌, ◌≤◌, ◌<◌, ◌⊎◌, ◌↔◌, inl, inr, Bool, true, false, ◌||◌, nat_eq, Option, Some, None, List, [], ◌∷◌, ◌++◌, length, refl, sym, ◌∙◌, ap, arith, append_assoc, eqb-true, eq-eqb, IsTrue}
+use Rattle.std.proofs.Common.{◌≡◌, ℕ, zero, suc, ◌+◌, ◌-◌, ◌≤◌, ◌<◌, ◌⊎◌, ◌↔◌, inl, inr, Bool, true, false, nat_eq, Option, Some, None, List, [], ◌∷◌, ◌++◌, length, refl, sym, ◌∙◌, ap, arith, eqb-true, eq-eqb}
 use Rattle.std.proofs.Math.ListN.{take}
 use Rattle.cg_text.specs.Token.{AreBytes}
 use Rattle.cg_text.specs.TokenLaws.{bytes_append}
-use Rattle.cg_text.specs.Decimal.{AreDigits, IsNumeral, IsDecimal}
-use Rattle.cg_text.specs.DecimalState.{IsDecimalRest, decimal_ends}
-use Rattle.cg_text.specs.DecimalLaws.{number_digits, digits_bytes, IsDecimalRest_completes, IsDecimalRest_one, decimal_ends_is}
-use Rattle.cg_text.specs.Numbers.{IsSetFrom, IsSet}
+use Rattle.cg_text.specs.Decimal.{AreDigits, IsDecimal}
+use Rattle.cg_text.specs.DecimalLaws.{number_digits, digits_bytes, IsDecimalRest_completes, IsDecimalRest_one}
+use Rattle.cg_text.specs.Numbers.{IsSet}
 use Rattle.cg_text.specs.RangesState.{front, Cut, after_dash_from, after_comma_from, LowRest, AfterRange, RangesRest, ListRest, begin_of, Begun, number_rest, IsTurn}
 use Rattle.cg_text.specs.declared.list.Turn.{Turn}
 use Rattle.cg_text.specs.declared.list.Turn.TheVariants.{Digit, Dash, Comma, Refused}
@@ -186,14 +185,22 @@ module _ (strict : Bool) (most n : ℕ) (P : List ℕ → ℕ → Type 0) (ended
   pub rest_dash : (P' : List ℕ → ℕ → Type 0) → ((x : List ℕ) (m : ℕ) → P' x m ↔ IsDecimal (after_dash_from strict n) most m x) → (items : List (ℕ × ℕ)) → (length items ≡ 0 → (m : ℕ) → P [] m → ⊥) →
       (A : List (ℕ × ℕ) → Type 0) (rest : List ℕ) → ListRest strict items most (Some n) P' A rest ↔ ListRest strict items most None P A (45 ∷ rest)
   rest_dash P' f items fresh A rest = (
-    λ h. (h.0, h.1, elim h.2 [
-      | inl k ↦ inl (ranges_dash_from h.0 rest (ranges_same strict most P' (λ x m. IsDecimal (after_dash_from strict n) most m x) (λ x m. (f x m).0) (Some n) h.0 rest k))
-      | inr k ↦ absurd (fresh k.0 n ended)
-    ]),
-    λ h. (h.0, h.1, elim h.2 [
-      | inl k ↦ inl (ranges_same strict most (λ x m. IsDecimal (after_dash_from strict n) most m x) P' (λ x m. (f x m).1) (Some n) h.0 rest (ranges_dash_to h.0 rest k))
-      | inr k ↦ absurd (let q = k.2 in cc)
-    ]),
+    λ h. (
+      h.0,
+      h.1,
+      elim h.2 [
+        | inl k ↦ inl (ranges_dash_from h.0 rest (ranges_same strict most P' (λ x m. IsDecimal (after_dash_from strict n) most m x) (λ x m. (f x m).0) (Some n) h.0 rest k))
+        | inr k ↦ absurd (fresh k.0 n ended)
+      ],
+    ),
+    λ h. (
+      h.0,
+      h.1,
+      elim h.2 [
+        | inl k ↦ inl (ranges_same strict most (λ x m. IsDecimal (after_dash_from strict n) most m x) P' (λ x m. (f x m).1) (Some n) h.0 rest (ranges_dash_to h.0 rest k))
+        | inr k ↦ absurd (let q = k.2 in cc)
+      ],
+    ),
   )
 
 -- How a byte begins a rest.

@@ -7,7 +7,6 @@ use Rattle.cg_text.specs.Token.{AreBytes}
 use Rattle.cg_text.specs.TokenLaws.{bytes_append}
 use Rattle.cg_text.specs.DecimalLaws.{digits_bytes}
 use Rattle.cg_text.specs.RangesLaws.{split_one, some_decimal, decimal_digits}
-use Rattle.cg_text.specs.Trigger.{AreTimes}
 use Rattle.cg_text.specs.TriggerState.{TimesRest, TimesBegun, IsTimesTurn, times_end, IsWithin}
 use Rattle.cg_text.specs.declared.decimal.DecimalText.{DecimalText}
 use Rattle.cg_text.specs.declared.decimal.Progress.TheVariants.{Start}
