@@ -33,6 +33,8 @@ pub mod Numbers
 pub mod NumbersLaws
 pub mod NumeralLaws
 pub mod OneTextLaws
+pub mod RangesLaws
+pub mod RangesState
 pub mod Raw
 pub mod RawLaws
 pub mod RawState

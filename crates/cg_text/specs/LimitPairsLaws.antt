@@ -6,8 +6,8 @@ use Rattle.cg_text.specs.Decimal.{AreDigits, IsDecimal}
 use Rattle.cg_text.specs.DecimalLaws.{number_digits, IsDecimalRest_completes, IsDecimalRest_one, decimal_ends_is}
 use Rattle.cg_text.specs.Limit.{IsLimit}
 use Rattle.cg_text.specs.LimitPairs.{key_text, IsLimitPair, AreLimitPairs, is_key, limit_of, HasDistinctKeys, AreLimits}
-use Rattle.cg_text.specs.ListState.{Cut, number_rest}
-use Rattle.cg_text.specs.ListLaws.{cut_taken_from, cut_taken_to, cut_begun, cut_nil, cut_bytes, heads, tails, append_nil, decimal_digits}
+use Rattle.cg_text.specs.RangesState.{Cut, number_rest}
+use Rattle.cg_text.specs.RangesLaws.{cut_taken_from, cut_taken_to, cut_begun, cut_nil, cut_bytes, heads, tails, append_nil, decimal_digits}
 use Rattle.cg_text.specs.LimitPairsState.{key_start, is_none, is_free, with_limit, with_pairs, LimitRest, limit_ends, IsNewPair, PairRest, AfterPair, PairsRest, LimitsRest, is_live, limits_end, GoesOn, IsNextPart}
 use Rattle.cg_text.specs.declared.decimal.DecimalText.{DecimalText}
 use Rattle.cg_text.specs.declared.decimal.Progress.TheVariants.{Start as Begin}

@@ -2,7 +2,7 @@
 use Rattle.std.specs.Prelude.{◌≡◌, ℕ, suc, ◌↔◌, Bool, true, false, ◌&&◌, leb, ltb, List, [], ◌∷◌, ◌++◌, Option, Some, None, codes, length, take, drop, IsTrue}
 use Rattle.cg_text.specs.Limit.{IsLimit}
 use Rattle.cg_text.specs.LimitPairs.{key_text, IsLimitPair}
-use Rattle.cg_text.specs.ListState.{Cut, number_rest}
+use Rattle.cg_text.specs.RangesState.{Cut, number_rest}
 use Rattle.cg_text.specs.DecimalState.{decimal_ends}
 use Rattle.cg_text.specs.declared.values.Limit.{Limit}
 use Rattle.cg_text.specs.declared.values.Limit.TheVariants.{Max, At}

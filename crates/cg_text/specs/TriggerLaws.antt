@@ -2,12 +2,11 @@
 use Rattle.std.proofs.Common.{◌≡◌, ℕ, ◌≤◌, ◌↔◌, inl, inr, Bool, Option, Some, None, List, [], ◌∷◌, ◌++◌, refl, sym, ◌∙◌, ap, arith, IsTrue}
 use Rattle.cg_text.specs.Decimal.{AreDigits, IsDecimal}
 use Rattle.cg_text.specs.DecimalLaws.{IsDecimalRest_completes, IsDecimalRest_one}
-use Rattle.cg_text.specs.ListState.{number_rest}
+use Rattle.cg_text.specs.RangesState.{number_rest}
 use Rattle.cg_text.specs.Token.{AreBytes}
 use Rattle.cg_text.specs.TokenLaws.{bytes_append}
 use Rattle.cg_text.specs.DecimalLaws.{digits_bytes}
-use Rattle.cg_text.specs.ListLaws.{split_one, some_decimal, decimal_digits}
-use Rattle.cg_text.specs.Trigger.{AreTimes}
+use Rattle.cg_text.specs.RangesLaws.{split_one, some_decimal, decimal_digits}
 use Rattle.cg_text.specs.TriggerState.{TimesRest, TimesBegun, IsTimesTurn, times_end, IsWithin}
 use Rattle.cg_text.specs.declared.decimal.DecimalText.{DecimalText}
 use Rattle.cg_text.specs.declared.decimal.Progress.TheVariants.{Start}
@@ -96,18 +95,6 @@ times_one None P digits one text v w h k =
     let back : h.1 ≡ k.1 = tails 32 32 h.1 k.1 s.1 in
     pair_of v w e (IsDecimalRest_one v.stall 10000000 Start h.1 v.window w.window h.4 (rw (← back, ← e) at k.4))
 times_one (Some a) P digits one text v w h k = pair_of v w (h.0 ∙ sym k.0) (one text v.window w.window h.1 k.1)
-
-pub times_new : (P : List ℕ → ℕ → Type 0) → ((x : List ℕ) (n : ℕ) → P x n ↔ IsDecimal 1 10000000 n x) → (text : List ℕ) (v : Times) → TimesRest None P text v ↔ AreTimes v text
-times_new P f text v = (
-  λ h. record { stall = h.0; window = h.1; text_is = h.2; stall_is = (f h.0 v.stall).0 h.3; window_is = h.4 },
-  λ h. (h.stall, h.window, h.text_is, (f h.stall v.stall).1 h.stall_is, h.window_is),
-)
-
-pub within_digit : (byte : ℕ) (P P' : List ℕ → ℕ → Type 0) → ((x : List ℕ) (n : ℕ) → P' x n ↔ P (byte ∷ x) n) → IsWithin P → IsWithin P'
-within_digit byte P P' f w rest n h = w (byte ∷ rest) n ((f rest n).0 h)
-
-pub within_new : (lo : ℕ) (P : List ℕ → ℕ → Type 0) → ((x : List ℕ) (n : ℕ) → P x n ↔ IsDecimal lo 10000000 n x) → IsWithin P
-within_new lo P f rest n h = ((f rest n).0 h).1
 
 pub times_bytes : (stall : Option ℕ) (P : List ℕ → ℕ → Type 0) → ((x : List ℕ) (n : ℕ) → P x n → AreDigits x) → (text : List ℕ) (v : Times) → TimesRest stall P text v → AreBytes text
 times_bytes None P f text v h = rw h.2 (bytes_append h.0 (32 ∷ h.1) (digits_bytes h.0 (f h.0 v.stall h.3)) (omega arith, digits_bytes h.1 (decimal_digits v.stall 10000000 v.window h.1 h.4)))

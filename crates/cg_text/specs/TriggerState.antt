@@ -1,7 +1,7 @@
 -- What is left of a trigger's times.
 use Rattle.std.specs.Prelude.{◌≡◌, ℕ, ◌≤◌, ◌⊎◌, ◌↔◌, Bool, false, Option, Some, None, List, [], ◌∷◌, ◌++◌}
 use Rattle.cg_text.specs.Decimal.{IsDecimal}
-use Rattle.cg_text.specs.ListState.{number_rest}
+use Rattle.cg_text.specs.RangesState.{number_rest}
 use Rattle.cg_text.specs.declared.decimal.DecimalText.{DecimalText}
 use Rattle.cg_text.specs.declared.trigger.Times.{Times}
 use Rattle.cg_text.specs.declared.trigger.TimesTurn.{TimesTurn}

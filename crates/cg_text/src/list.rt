@@ -2,7 +2,8 @@
 ghost use Rattle.std.specs.Prelude.{◌≡◌, ℕ, ◌+◌, ◌≤◌, ◌<◌, ◌↔◌, ◌||◌, true, List, [], ◌++◌, ◌∷◌, length, nat_eq, IsTrue, OnOk, OnErr, vec_len, vec_capacity, MatchOption};
 ghost use Rattle.cg_text.specs.Token.{Spells};
 ghost use Rattle.cg_text.specs.List.{IsStrictList};
-ghost use Rattle.cg_text.specs.ListState.{front, IsListRest, IsSound, IsTurn, begin_of, number_rest};
+ghost use Rattle.cg_text.specs.ListState.{IsListRest, IsSound};
+ghost use Rattle.cg_text.specs.RangesState.{front, IsTurn, after_comma_from, after_dash_from, number_rest};
 ghost use Rattle.cg_text.specs.DecimalState.{decimal_ends};
 ghost use Rattle.cg_text.specs.ListLaws.{IsSound_prop};
 
@@ -28,11 +29,67 @@ pub struct StrictListText {
 
 /// What a byte does.
 #[derive(Clone, Copy, Drop)]
-enum Turn {
+pub(crate) enum Turn {
     Digit(DecimalText),
     Comma(u64, DecimalText),
     Dash(u64, DecimalText),
     Refused,
+}
+
+/// The least number after one and a comma.
+fn after_comma_from(strict: bool, end: u64) -> u64
+    requires { end ≤ 4294967295 }
+    ensures { result ≡ after_comma_from strict end }
+{
+    if strict { end + 2 } else { 0 }
+}
+
+/// The least number after one and a dash.
+fn after_dash_from(strict: bool, end: u64) -> u64
+    requires { end ≤ 4294967295 }
+    ensures { result ≡ after_dash_from strict end }
+{
+    if strict { end + 1 } else { end }
+}
+
+/// What the byte does to a list with this number at hand. In a strict list ranges come in order, at least 2 apart, and a pair's ends differ.
+pub(crate) fn turn_of(
+    strict: bool,
+    most: u64,
+    low: Option<u32>,
+    number: DecimalText,
+    byte: u8,
+) -> Turn
+    requires small { most ≤ 4294967295 }
+    requires within { (rest : List ℕ) (n : ℕ) → number_rest number rest n → n ≤ most }
+    ensures turn { IsTurn strict most low number byte result }
+{
+    let mut next = number;
+    match next.step(byte) {
+        Ok(true) => return Turn::Digit(next),
+        Ok(false) => {}
+        Err(_) => unreachable!(),
+    }
+    if !number.can_end() {
+        return Turn::Refused;
+    }
+    let end = number.take();
+    if byte == b',' {
+        return match DecimalText::new(after_comma_from(strict, end), most) {
+            Some(next) => Turn::Comma(end, next),
+            None => Turn::Refused,
+        };
+    }
+    if byte != b'-' {
+        return Turn::Refused;
+    }
+    match low {
+        Some(_) => Turn::Refused,
+        None => match DecimalText::new(after_dash_from(strict, end), most) {
+            Some(next) => Turn::Dash(end, next),
+            None => Turn::Refused,
+        },
+    }
 }
 
 /// Sets the last range.
@@ -92,46 +149,14 @@ impl StrictListText {
             None => unreachable!(),
         }
     }
-
-    /// What the byte does.
-    fn turn(&self, byte: u8) -> Turn
-        ensures turn { IsTurn self.now.most self.now.low self.now.number byte result }
-    {
-        let mut number = self.number;
-        match number.step(byte) {
-            Ok(true) => return Turn::Digit(number),
-            Ok(false) => {}
-            Err(_) => unreachable!(),
-        }
-        if !self.number.can_end() {
-            return Turn::Refused;
-        }
-        let end = self.number.take();
-        if byte == b',' {
-            return match DecimalText::new(end + 2, self.most) {
-                Some(number) => Turn::Comma(end, number),
-                None => Turn::Refused,
-            };
-        }
-        if byte != b'-' {
-            return Turn::Refused;
-        }
-        match self.low {
-            Some(_) => Turn::Refused,
-            None => match DecimalText::new(end + 1, self.most) {
-                Some(number) => Turn::Dash(end, number),
-                None => Turn::Refused,
-            },
-        }
-    }
 }
 
 impl Token for StrictListText {
     type Out = NumberSet;
 
-    ghost use Rattle.cg_text.specs.ListLaws.{list_bytes};
+    ghost use Rattle.cg_text.specs.RangesLaws.{true_not_false, rest_bytes};
     ghost use Rattle.cg_text.specs.DecimalLaws.{IsDecimalRest_completes, IsDecimalRest_one, decimal_ends_is, number_digits};
-    ghost use Rattle.cg_text.specs.ListLaws.{list_completes, list_one, list_ends, true_not_false};
+    ghost use Rattle.cg_text.specs.ListLaws.{list_completes, list_one, list_ends};
 
     ghost means = { λ s rest all. IsListRest s.ranges.items s.most s.low (number_rest s.number) rest all };
 
@@ -144,7 +169,7 @@ impl Token for StrictListText {
     ghost grows = { true };
 
     fn step(&mut self, byte: u8) -> Result<bool, OutOfMemory> {
-        match self.turn(byte) {
+        match turn_of(true, self.most, self.low, self.number, byte) {
             Turn::Digit(number) => match open(&mut self.ranges) {
                 Ok(()) => {
                     self.number = number;
@@ -176,7 +201,7 @@ impl Token for StrictListText {
     }
 
     fn allows(&self, byte: u8) -> bool {
-        match self.turn(byte) {
+        match turn_of(true, self.most, self.low, self.number, byte) {
             Turn::Refused => false,
             _ => true,
         }
@@ -217,7 +242,7 @@ impl Token for StrictListText {
 
     ghost one_value = { λ s. list_one s.most (number_rest s.number) (number_digits s.number.lo s.number.hi s.number.progress) (IsDecimalRest_one s.number.lo s.number.hi s.number.progress) s.ranges.items s.low s.fresh };
 
-    ghost holds_bytes = { λ s. list_bytes s.ranges.items s.most s.low (number_rest s.number) (number_digits s.number.lo s.number.hi s.number.progress) };
+    ghost holds_bytes = { λ s rest all h. rest_bytes true s.ranges.items s.most s.low (number_rest s.number) (number_digits s.number.lo s.number.hi s.number.progress) (λ rs. all ≡ front s.ranges.items ++ rs) rest h };
 }
 
 #[cfg(test)]

@@ -1,16 +1,16 @@
 //! Lists of numbers and ranges in any order.
-ghost use Rattle.std.specs.Prelude.{◌≡◌, ℕ, ◌+◌, ◌≤◌, ◌<◌, ◌↔◌, ◌||◌, true, List, [], ◌++◌, ◌∷◌, length, nat_eq, IsTrue, OnOk, OnErr, vec_len, vec_capacity, MatchOption};
+ghost use Rattle.std.specs.Prelude.{◌≡◌, ℕ, ◌+◌, ◌≤◌, ◌<◌, ◌↔◌, ◌||◌, true, false, List, [], ◌++◌, ◌∷◌, length, nat_eq, IsTrue, OnOk, OnErr, vec_len, vec_capacity, MatchOption};
 ghost use Rattle.cg_text.specs.Token.{Spells};
 ghost use Rattle.cg_text.specs.List.{IsLooseList};
-ghost use Rattle.cg_text.specs.ListState.{front, begin_of, number_rest};
-ghost use Rattle.cg_text.specs.LooseState.{IsLooseRest, IsSound, IsLooseTurn};
+ghost use Rattle.cg_text.specs.RangesState.{front, number_rest};
+ghost use Rattle.cg_text.specs.LooseState.{IsLooseRest, IsSound, Adds};
 ghost use Rattle.cg_text.specs.Numbers.{IsSet};
 ghost use Rattle.cg_text.specs.NumbersLaws.{inserted};
 ghost use Rattle.cg_text.specs.DecimalState.{decimal_ends};
 ghost use Rattle.cg_text.specs.LooseSound.{set_prop, sound_prop};
 
 use crate::decimal::DecimalText;
-use crate::list::open;
+use crate::list::{Turn, open, turn_of};
 use crate::memory::OutOfMemory;
 use crate::numbers::{NumberSet, insert_into};
 use crate::token::Token;
@@ -29,15 +29,6 @@ pub struct LooseListText {
     ghost set: { IsSet (front ranges.items) } by { set_prop (front ranges.items) },
     ghost sound: { IsSound most low (number_rest number) } by { sound_prop most low (number_rest number) },
     ghost fresh: { length ranges.items ≡ 0 → (n : ℕ) → number_rest number [] n → ⊥ },
-}
-
-/// What a byte does.
-#[derive(Clone, Copy, Drop)]
-enum LooseTurn {
-    Digit(DecimalText),
-    Comma(u64, DecimalText),
-    Dash(u64, DecimalText),
-    Refused,
 }
 
 /// Adds a range in the place of the last, which is not yet known.
@@ -92,47 +83,14 @@ impl LooseListText {
             None => unreachable!(),
         }
     }
-
-    /// What the byte does.
-    fn turn(&self, byte: u8) -> LooseTurn
-        ensures turn { IsLooseTurn self.now.most self.now.low self.now.number byte result }
-    {
-        let mut number = self.number;
-        match number.step(byte) {
-            Ok(true) => return LooseTurn::Digit(number),
-            Ok(false) => {}
-            Err(_) => unreachable!(),
-        }
-        if !self.number.can_end() {
-            return LooseTurn::Refused;
-        }
-        let end = self.number.take();
-        if byte == b',' {
-            return match DecimalText::new(0, self.most) {
-                Some(number) => LooseTurn::Comma(end, number),
-                None => LooseTurn::Refused,
-            };
-        }
-        if byte != b'-' {
-            return LooseTurn::Refused;
-        }
-        match self.low {
-            Some(_) => LooseTurn::Refused,
-            None => match DecimalText::new(end, self.most) {
-                Some(number) => LooseTurn::Dash(end, number),
-                None => LooseTurn::Refused,
-            },
-        }
-    }
 }
 
 impl Token for LooseListText {
     type Out = NumberSet;
 
-    ghost use Rattle.cg_text.specs.LooseLaws.{list_bytes};
+    ghost use Rattle.cg_text.specs.RangesLaws.{true_not_false, rest_bytes};
     ghost use Rattle.cg_text.specs.DecimalLaws.{IsDecimalRest_completes, IsDecimalRest_one, decimal_ends_is, number_digits};
     ghost use Rattle.cg_text.specs.LooseLaws.{list_completes, list_one, list_ends};
-    ghost use Rattle.cg_text.specs.ListLaws.{true_not_false};
 
     ghost means = { λ s rest all. IsLooseRest s.ranges.items s.most s.low (number_rest s.number) rest all };
 
@@ -145,15 +103,15 @@ impl Token for LooseListText {
     ghost grows = { true };
 
     fn step(&mut self, byte: u8) -> Result<bool, OutOfMemory> {
-        match self.turn(byte) {
-            LooseTurn::Digit(number) => match open(&mut self.ranges) {
+        match turn_of(false, self.most, self.low, self.number, byte) {
+            Turn::Digit(number) => match open(&mut self.ranges) {
                 Ok(()) => {
                     self.number = number;
                     Ok(true)
                 }
                 Err(e) => Err(e),
             },
-            LooseTurn::Comma(end, number) => {
+            Turn::Comma(end, number) => {
                 let begin = match self.low {
                     Some(low) => low,
                     None => end as u32,
@@ -167,18 +125,18 @@ impl Token for LooseListText {
                     Err(e) => Err(e),
                 }
             }
-            LooseTurn::Dash(end, number) => {
+            Turn::Dash(end, number) => {
                 self.low = Some(end as u32);
                 self.number = number;
                 Ok(true)
             }
-            LooseTurn::Refused => Ok(false),
+            Turn::Refused => Ok(false),
         }
     }
 
     fn allows(&self, byte: u8) -> bool {
-        match self.turn(byte) {
-            LooseTurn::Refused => false,
+        match turn_of(false, self.most, self.low, self.number, byte) {
+            Turn::Refused => false,
             _ => true,
         }
     }
@@ -218,7 +176,7 @@ impl Token for LooseListText {
 
     ghost one_value = { λ s. list_one s.most (number_rest s.number) (number_digits s.number.lo s.number.hi s.number.progress) (IsDecimalRest_one s.number.lo s.number.hi s.number.progress) s.ranges.items s.low s.fresh };
 
-    ghost holds_bytes = { λ s. list_bytes s.ranges.items s.most s.low (number_rest s.number) (number_digits s.number.lo s.number.hi s.number.progress) };
+    ghost holds_bytes = { λ s rest all h. rest_bytes false s.ranges.items s.most s.low (number_rest s.number) (number_digits s.number.lo s.number.hi s.number.progress) (λ rs. Adds (front s.ranges.items) rs all) rest h };
 }
 
 #[cfg(test)]

@@ -2,7 +2,7 @@
 ghost use Rattle.std.specs.Prelude.{◌≡◌, ℕ, ◌+◌, ◌≤◌, ◌<◌, ◌↔◌, false, List, [], ◌∷◌, IsTrue, refl};
 ghost use Rattle.cg_text.specs.Token.{Spells};
 ghost use Rattle.cg_text.specs.Trigger.{AreTimes};
-ghost use Rattle.cg_text.specs.ListState.{number_rest};
+ghost use Rattle.cg_text.specs.RangesState.{number_rest};
 ghost use Rattle.cg_text.specs.TriggerState.{TimesRest, IsTimesTurn, times_end, IsWithin};
 ghost use Rattle.cg_text.specs.DecimalState.{decimal_ends};
 

@@ -1,4 +1,4 @@
-use Rattle.cg_text.specs.ListState.{number_rest}
+use Rattle.cg_text.specs.RangesState.{number_rest}
 use Rattle.cg_text.specs.ListLaws.{list_new}
 use Rattle.cg_text.proofs.list.StrictListText.new.Goals as goal
 

@@ -1,14 +1,15 @@
-use Rattle.std.proofs.Common.{refl}
-use Rattle.cg_text.specs.ListState.{number_rest}
-use Rattle.cg_text.specs.ListLaws.{turn_begins, list_begun}
+use Rattle.std.proofs.Common.{◌≡◌, ◌++◌, true, refl}
+use Rattle.cg_text.specs.RangesState.{front, number_rest}
+use Rattle.cg_text.specs.ListLaws.{begun_list}
+use Rattle.cg_text.specs.RangesLaws.{rest_begun, turn_begun}
 use Rattle.cg_text.proofs.list.StrictListTextToken.allows.Goals as goal
 
 pub returns-in-Refused : goal.returns-in-Refused
 returns-in-Refused c =
     let s = c.args.self.now in
-    (λ e. absurd (cc), λ h. absurd (c.in-Refused.ensures.turn (list_begun s.ranges.items s.most s.low (number_rest s.number) c.args.byte h.0 h.1 h.2)))
+    (λ e. absurd (cc), λ h. absurd (c.in-Refused.ensures.turn (rest_begun true s.ranges.items s.most s.low (number_rest s.number) c.args.byte (λ rs. h.1 ≡ front s.ranges.items ++ rs) h.0 h.2)))
 
 pub returns-in_default : goal.returns-in_default
 returns-in_default c =
     let s = c.args.self.now in
-    (λ e. turn_begins s.ranges.items s.most s.low s.number c.args.byte c.turn.result c.turn.ensures.turn c.in_default.not-Refused, λ h. refl)
+    (λ e. begun_list s.ranges.items s.most s.low (number_rest s.number) c.args.byte (turn_begun true s.most s.low s.number c.args.byte c.turn_of.result c.turn_of.ensures.turn c.in_default.not-Refused), λ h. refl)

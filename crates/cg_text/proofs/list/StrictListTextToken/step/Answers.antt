@@ -1,7 +1,8 @@
-use Rattle.std.proofs.Common.{◌≡◌, ◌+◌, ◌∷◌, [], ◌++◌, arith, ap, sym, ◌∙◌}
+use Rattle.std.proofs.Common.{◌≡◌, true, ◌+◌, ◌∷◌, [], ◌++◌, arith, ap, sym, ◌∙◌}
 use Rattle.cg_text.specs.DecimalLaws.{number_digits}
-use Rattle.cg_text.specs.ListState.{number_rest, begin_of, front}
-use Rattle.cg_text.specs.ListLaws.{digit_byte, list_digit, list_comma, list_dash, list_begun, sound_comma, sound_dash, fresh_new, number_one, closed_length, some_length, begin_some, begin_none}
+use Rattle.cg_text.specs.RangesState.{number_rest, begin_of, front}
+use Rattle.cg_text.specs.ListLaws.{list_digit, list_comma, list_dash, sound_comma, sound_dash, closed_length}
+use Rattle.cg_text.specs.RangesLaws.{rest_begun, digit_byte, fresh_new, number_one, some_length, begin_some, begin_none}
 use Rattle.cg_text.proofs.list.StrictListTextToken.step.Goals as goal
 use Rattle.cg_text.proofs.list.StrictListTextToken.step.Goals.{in-Some, in-None}
 
@@ -33,7 +34,7 @@ returns-in-Dash-clause-taken c =
 pub returns-in-Refused-clause-refused : goal.returns-in-Refused-clause-refused
 returns-in-Refused-clause-refused c =
     let s = c.args.self.now in
-    λ rest all h. c.in-Refused.ensures.turn (list_begun s.ranges.items s.most s.low (number_rest s.number) c.args.byte rest all h)
+    λ rest all h. c.in-Refused.ensures.turn (rest_begun true s.ranges.items s.most s.low (number_rest s.number) c.args.byte (λ rs. all ≡ front s.ranges.items ++ rs) rest h)
 
 pub returns-in-Ok-close-clause-taken : goal.returns-in-Ok-close-clause-taken
 returns-in-Ok-close-clause-taken c =
@@ -42,7 +43,7 @@ returns-in-Ok-close-clause-taken c =
     let b : c.match-self.begin ≡ begin_of s.low c.in-Comma.end = elim c.match-self.branch [ in-Some w ↦ w.begin-is ∙ sym (begin_some s.low w.in-Some.low c.in-Comma.end w.in-Some.is) | in-None w ↦ w.begin-is ∙ sym (begin_none s.low c.in-Comma.end w.in-None.is) ] in
     let e : c.close.new.ranges.items ≡ (front s.ranges.items ++ (begin_of s.low c.in-Comma.end, c.in-Comma.end) ∷ []) ++ (0, 0) ∷ [] = c.in-Ok-close.ensures.closed ∙ ap (λ z. (front s.ranges.items ++ (z, c.in-Comma.end) ∷ []) ++ (0, 0) ∷ []) b in
     λ rest all. rw t.0 (list_comma s.most c.in-Comma.end (number_rest s.number) t.1 (number_one s.number c.in-Comma.end t.1) (number_digits s.number.lo s.number.hi s.number.progress)
-    (number_rest c.in-Comma.number) t.3 s.ranges.items c.close.new.ranges.items s.low e s.fresh rest all)
+    (number_rest c.in-Comma.number) t.3 s.ranges.items c.close.new.ranges.items s.low e rest all)
 
 pub invariant_of-self-in-Ok-close : goal.invariant_of-self-in-Ok-close
 invariant_of-self-in-Ok-close c =

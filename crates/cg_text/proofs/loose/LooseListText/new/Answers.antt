@@ -1,4 +1,4 @@
-use Rattle.cg_text.specs.ListState.{number_rest}
+use Rattle.cg_text.specs.RangesState.{number_rest}
 use Rattle.cg_text.specs.LooseLaws.{list_new}
 use Rattle.cg_text.proofs.loose.LooseListText.new.Goals as goal
 

@@ -1,9 +1,10 @@
-use Rattle.std.proofs.Common.{◌≡◌, ◌∷◌, [], ◌++◌, arith, ap, sym, ◌∙◌}
+use Rattle.std.proofs.Common.{◌≡◌, false, ◌∷◌, [], ◌++◌, arith, ap, sym, ◌∙◌}
 use Rattle.cg_text.specs.DecimalLaws.{number_digits}
-use Rattle.cg_text.specs.ListState.{number_rest, begin_of, front}
-use Rattle.cg_text.specs.ListLaws.{digit_byte, fresh_new, number_one, begin_some, begin_none, front_push}
+use Rattle.cg_text.specs.RangesState.{number_rest, begin_of, front}
+use Rattle.cg_text.specs.RangesLaws.{rest_begun, digit_byte, fresh_new, number_one, begin_some, begin_none, front_push}
+use Rattle.cg_text.specs.LooseState.{Adds}
 use Rattle.cg_text.specs.NumbersLaws.{inserted, inserted_set}
-use Rattle.cg_text.specs.LooseLaws.{list_digit, list_comma, list_dash, list_begun, sound_comma}
+use Rattle.cg_text.specs.LooseLaws.{list_digit, list_comma, list_dash, sound_comma}
 use Rattle.cg_text.proofs.loose.LooseListTextToken.step.Goals as goal
 use Rattle.cg_text.proofs.loose.LooseListTextToken.step.Goals.{in-Some, in-None}
 
@@ -24,7 +25,7 @@ returns-in-Dash-clause-taken c =
 pub returns-in-Refused-clause-refused : goal.returns-in-Refused-clause-refused
 returns-in-Refused-clause-refused c =
     let s = c.args.self.now in
-    λ rest all h. c.in-Refused.ensures.turn (list_begun s.ranges.items s.most s.low (number_rest s.number) c.args.byte rest all h)
+    λ rest all h. c.in-Refused.ensures.turn (rest_begun false s.ranges.items s.most s.low (number_rest s.number) c.args.byte (λ rs. Adds (front s.ranges.items) rs all) rest h)
 
 pub returns-in-Ok-close-clause-taken : goal.returns-in-Ok-close-clause-taken
 returns-in-Ok-close-clause-taken c =
@@ -33,7 +34,7 @@ returns-in-Ok-close-clause-taken c =
     let b : c.match-self.begin ≡ begin_of s.low c.in-Comma.end = elim c.match-self.branch [ in-Some w ↦ w.begin-is ∙ sym (begin_some s.low w.in-Some.low c.in-Comma.end w.in-Some.is) | in-None w ↦ w.begin-is ∙ sym (begin_none s.low c.in-Comma.end w.in-None.is) ] in
     let e : c.close.new.ranges.items ≡ inserted (begin_of s.low c.in-Comma.end) c.in-Comma.end (front s.ranges.items) ++ (0, 0) ∷ [] = c.in-Ok-close.ensures.closed ∙ ap (λ z. inserted z c.in-Comma.end (front s.ranges.items) ++ (0, 0) ∷ []) b in
     λ rest all. rw t.0 (list_comma s.most c.in-Comma.end (number_rest s.number) t.1 (number_one s.number c.in-Comma.end t.1) (number_digits s.number.lo s.number.hi s.number.progress)
-    (number_rest c.in-Comma.number) t.2 s.ranges.items c.close.new.ranges.items s.low s.set (s.sound [] c.in-Comma.end t.1).1 e rest all)
+    (number_rest c.in-Comma.number) t.3 s.ranges.items c.close.new.ranges.items s.low s.set (s.sound [] c.in-Comma.end t.1).1 e rest all)
 
 pub invariant_of-self-in-Ok-close : goal.invariant_of-self-in-Ok-close
 invariant_of-self-in-Ok-close c =
@@ -45,8 +46,8 @@ invariant_of-self-in-Ok-close c =
     record {
       small = s.small;
       set = rw done (inserted_set 0 (begin_of s.low c.in-Comma.end) c.in-Comma.end (front s.ranges.items) (omega arith) (s.sound [] c.in-Comma.end t.1).1 s.set);
-      sound = sound_comma s.most (number_rest c.in-Comma.number) t.2;
-      fresh = λ e. fresh_new 0 s.most (number_rest c.in-Comma.number) t.2;
+      sound = sound_comma s.most (number_rest c.in-Comma.number) t.3;
+      fresh = λ e. fresh_new 0 s.most (number_rest c.in-Comma.number) t.3;
     }
 
 pub returns-in-Ok-close-clause-size : goal.returns-in-Ok-close-clause-size

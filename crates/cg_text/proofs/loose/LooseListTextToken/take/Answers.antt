@@ -1,6 +1,6 @@
 use Rattle.std.proofs.Common.{◌≡◌, length, arith, ap, sym, ◌∙◌, [], nat_eq}
-use Rattle.cg_text.specs.ListState.{number_rest, begin_of, front}
-use Rattle.cg_text.specs.ListLaws.{begin_some, begin_none, nil_set, nothing}
+use Rattle.cg_text.specs.RangesState.{number_rest, begin_of, front}
+use Rattle.cg_text.specs.RangesLaws.{begin_some, begin_none, nil_set, nothing}
 use Rattle.cg_text.specs.NumbersLaws.{inserted, inserted_set}
 use Rattle.cg_text.specs.LooseLaws.{list_value, list_no_value}
 use Rattle.cg_text.proofs.loose.LooseListTextToken.take.Goals as goal

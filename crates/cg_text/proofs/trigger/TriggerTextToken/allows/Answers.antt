@@ -1,5 +1,5 @@
 use Rattle.std.proofs.Common.{refl}
-use Rattle.cg_text.specs.ListState.{number_rest}
+use Rattle.cg_text.specs.RangesState.{number_rest}
 use Rattle.cg_text.specs.TriggerLaws.{turn_begins, times_begun}
 use Rattle.cg_text.proofs.trigger.TriggerTextToken.allows.Goals as goal
 

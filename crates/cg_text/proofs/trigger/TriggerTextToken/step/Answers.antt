@@ -1,6 +1,6 @@
 use Rattle.cg_text.specs.DecimalLaws.{number_digits}
-use Rattle.cg_text.specs.ListState.{number_rest}
-use Rattle.cg_text.specs.ListLaws.{digit_byte, number_one}
+use Rattle.cg_text.specs.RangesState.{number_rest}
+use Rattle.cg_text.specs.RangesLaws.{digit_byte, number_one}
 use Rattle.cg_text.specs.TriggerLaws.{times_digit, times_space, times_begun}
 use Rattle.cg_text.proofs.trigger.TriggerTextToken.step.Goals as goal
 
