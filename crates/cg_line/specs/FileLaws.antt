@@ -1,20 +1,10 @@
 -- What holds of the tokens over whole files.
 use Rattle.std.proofs.Common.{◌≡◌, ℕ, ◌↔◌, List, [], ◌∷◌, ◌++◌, refl, sym, ◌∙◌, ap}
-use Rattle.cg_text.specs.Decimal.{IsDecimal}
-use Rattle.cg_text.specs.Limit.{IsLimit}
-use Rattle.cg_text.specs.TextsLaws.{lacks_inside}
-use Rattle.cg_join.specs.Line.{LacksByte, IsLine}
+use Rattle.cg_join.specs.Line.{IsLine}
 use Rattle.cg_join.specs.Spelling.{IsTurned}
 use Rattle.cg_value.specs.Files.{unlines, IsOneLine, ReadLines, KindText}
-use Rattle.cg_value.specs.LineLaws.{decimal_lacks, limit_lacks}
 use Rattle.cg_value.specs.declared.kind.ReadForm.{ReadForm}
 use Rattle.cg_value.specs.declared.value.Value.{Value}
-
-pub decimal_lacks_newline : (lo hi : ℕ) → LacksByte (λ line n. IsDecimal lo hi n line) 10
-decimal_lacks_newline lo hi front more n h = lacks_inside 10 front more (decimal_lacks lo hi n (front ++ 10 ∷ more) h)
-
-pub limit_lacks_newline : (lo hi : ℕ) → LacksByte (λ line l. IsLimit lo hi l line) 10
-limit_lacks_newline lo hi front more l h = lacks_inside 10 front more (limit_lacks lo hi l (front ++ 10 ∷ more) h)
 
 -- A line by P and its newline, turned into a value, are a file of a kind whose value is one such line.
 pub one_is : {X : Type 0} (kind : ReadForm) (P : X → List ℕ → Type 0) (make : X → Value) →

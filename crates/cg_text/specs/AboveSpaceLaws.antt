@@ -1,5 +1,5 @@
 -- The texts of values have no space, newline or other byte below.
-use Rattle.std.proofs.Common.{◌≡◌, ℕ, ◌<◌, inl, inr, List, [], ◌∷◌, ◌++◌, codes, arith}
+use Rattle.std.proofs.Common.{◌≡◌, ℕ, ◌<◌, ◌≤◌, inl, inr, List, [], ◌∷◌, ◌++◌, codes, arith}
 use Rattle.cg_text.specs.AboveSpace.{AreAboveSpace}
 use Rattle.cg_text.specs.Amount.{IsAmount}
 use Rattle.cg_text.specs.Clamp.{IsClamp}
@@ -7,6 +7,7 @@ use Rattle.cg_text.specs.Decimal.{AreDigits, IsNumeral}
 use Rattle.cg_text.specs.Device.{IsDevice}
 use Rattle.cg_text.specs.Hundredths.{IsHundredths, HasTwoDigits, HasDigits}
 use Rattle.cg_text.specs.Limit.{IsLimit}
+use Rattle.cg_text.specs.Texts.{Lacks}
 use Rattle.cg_text.specs.declared.hundredths.Form.{Form}
 use Rattle.cg_text.specs.declared.hundredths.Form.TheVariants.{Read, Written}
 use Rattle.cg_text.specs.declared.values.Amount.{Amount}
@@ -26,6 +27,11 @@ above_append (x ∷ xs) ys h k = (h.0, above_append xs ys h.1 k)
 pub above_inside : (b : ℕ) (front more : List ℕ) → AreAboveSpace (front ++ b ∷ more) → 32 < b
 above_inside b [] more h = h.0
 above_inside b (x ∷ front) more h = above_inside b front more h.1
+
+-- No byte up to the space is there.
+pub above_lacks_byte : (b : ℕ) (text : List ℕ) → b ≤ 32 → AreAboveSpace text → Lacks b text
+above_lacks_byte b [] low h = tt
+above_lacks_byte b (c ∷ cs) low h = ((λ e. omega (arith, h.0, e)), above_lacks_byte b cs low h.1)
 
 digits_above : (cs : List ℕ) → AreDigits cs → AreAboveSpace cs
 digits_above [] h = tt

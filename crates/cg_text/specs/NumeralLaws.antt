@@ -8,7 +8,6 @@ use native.Mathlib.Decide.{dec_lt}
 use Prim.{yes, no}
 use Rattle.cg_text.specs.Decimal.{AreDigits, read_on, IsNumeral, IsDecimal}
 use Rattle.cg_text.specs.DecimalLaws.{read_on_low, read_on_high, read_on_push, AreDigits_push, digits_bytes}
-use Rattle.cg_text.specs.Texts.{Lacks}
 use Rattle.cg_text.specs.Token.{AreBytes}
 use Rattle.cg_text.specs.Signed.{IsSignedNumeral, IsSigned}
 use Rattle.cg_text.specs.Size.{IsSize}
@@ -93,10 +92,7 @@ numeral_one_text n (c ∷ cs) (d ∷ ds) (inl h) (inr k) = absurd (omega (arith,
 numeral_one_text n (c ∷ cs) (d ∷ ds) (inr h) (inl k) = absurd (omega (arith, k.2, h.3, above_zero (c - 48) cs (omega (arith, h.0))))
 numeral_one_text n (c ∷ cs) (d ∷ ds) (inr h) (inr k) = one_long n c d cs ds h.0 h.1 h.2 h.3 k.0 k.1 k.2 k.3
 
--- A number of a range has one text; a signed number too.
-pub decimal_one_text : (lo hi n : ℕ) (t u : List ℕ) → IsDecimal lo hi n t → IsDecimal lo hi n u → t ≡ u
-decimal_one_text lo hi n t u h k = numeral_one_text n t u h.2 k.2
-
+-- A signed number has one text.
 pub signed_one_text : (z : ℤ) (t u : List ℕ) → IsSignedNumeral z t → IsSignedNumeral z u → t ≡ u
 signed_one_text (pos n) t u h k = numeral_one_text n t u h k
 signed_one_text (negsuc n) t u h k = h.1 ∙ ap (λ x. 45 ∷ x) (numeral_one_text (suc n) h.0 k.0 h.2 k.2) ∙ sym k.1
@@ -104,16 +100,6 @@ signed_one_text (negsuc n) t u h k = h.1 ∙ ap (λ x. 45 ∷ x) (numeral_one_te
 -- A text of a number is what is printed of it.
 pub numeral_is_decimal : (n : ℕ) (text : List ℕ) → n < 2 ^ 64 → IsNumeral n text → text ≡ decimal n
 numeral_is_decimal n text small h = numeral_one_text n text (decimal n) h (decimal_numeral n small)
-
-digits_lack : (b : ℕ) (cs : List ℕ) → b < 48 → AreDigits cs → Lacks b cs
-digits_lack b [] small h = tt
-digits_lack b (c ∷ cs) small h = ((λ e. omega (arith, h.0, e)), digits_lack b cs small h.2)
-
--- A text of a number has no byte below the digits.
-pub numeral_lacks : (b n : ℕ) (text : List ℕ) → b < 48 → IsNumeral n text → Lacks b text
-numeral_lacks b n [] small h = absurd h
-numeral_lacks b n (c ∷ cs) small (inl h) = ((λ e. omega (arith, h.0, e)), rw h.1 tt)
-numeral_lacks b n (c ∷ cs) small (inr h) = ((λ e. omega (arith, h.0, e)), digits_lack b cs small h.2)
 
 -- A text of a number holds bytes.
 pub numeral_bytes : (n : ℕ) (text : List ℕ) → IsNumeral n text → AreBytes text

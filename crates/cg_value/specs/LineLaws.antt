@@ -4,7 +4,8 @@ use Rattle.cg_text.specs.Decimal.{IsDecimal}
 use Rattle.cg_text.specs.Limit.{IsLimit}
 use Rattle.cg_text.specs.Token.{AreBytes}
 use Rattle.cg_text.specs.TokenLaws.{bytes_append}
-use Rattle.cg_text.specs.NumeralLaws.{numeral_lacks, numeral_bytes}
+use Rattle.cg_text.specs.NumeralLaws.{numeral_bytes}
+use Rattle.cg_text.specs.AboveSpaceLaws.{above_lacks_byte, numeral_above, limit_above}
 use Rattle.cg_text.specs.Texts.{Lacks, TextOf, Viable}
 use Rattle.cg_text.specs.TextsLaws.{only_at_end}
 use Rattle.cg_text.specs.declared.values.Limit.{Limit}
@@ -14,12 +15,11 @@ use Rattle.cg_value.specs.declared.kind.ReadForm.{ReadForm}
 use Rattle.cg_value.specs.declared.kind.ReadForm.TheVariants.{Number as NumberForm, Limit as LimitForm}
 use Rattle.cg_value.specs.declared.value.Value.{Value}
 
-pub decimal_lacks : (lo hi n : ℕ) (line : List ℕ) → IsDecimal lo hi n line → Lacks 10 line
-decimal_lacks lo hi n line h = numeral_lacks 10 n line (omega arith) h.2
+decimal_lacks : (lo hi n : ℕ) (line : List ℕ) → IsDecimal lo hi n line → Lacks 10 line
+decimal_lacks lo hi n line h = above_lacks_byte 10 line (omega arith) (numeral_above n line h.2)
 
-pub limit_lacks : (lo hi : ℕ) (l : Limit) (line : List ℕ) → IsLimit lo hi l line → Lacks 10 line
-limit_lacks lo hi Max line h = rw h ((λ e. omega (arith, e)), ((λ e. omega (arith, e)), ((λ e. omega (arith, e)), tt)))
-limit_lacks lo hi (At n) line h = decimal_lacks lo hi n line h
+limit_lacks : (lo hi : ℕ) (l : Limit) (line : List ℕ) → IsLimit lo hi l line → Lacks 10 line
+limit_lacks lo hi l line h = above_lacks_byte 10 line (omega arith) (limit_above lo hi l line h)
 
 -- The text is one line.
 pub record IsOneLineText (text : List ℕ) : Type 0 where
