@@ -63,11 +63,11 @@ pub low_digits : ℕ → ℕ → List ℕ
 low_digits zero n = []
 low_digits (suc k) n = low_digits k (n / 10) ++ (48 + n % 10) ∷ []
 
-read_on_push : (n : ℕ) (ds : List ℕ) (d : ℕ) → read_on n (ds ++ d ∷ []) ≡ 10 * read_on n ds + (d - 48)
+pub read_on_push : (n : ℕ) (ds : List ℕ) (d : ℕ) → read_on n (ds ++ d ∷ []) ≡ 10 * read_on n ds + (d - 48)
 read_on_push n [] d = refl
 read_on_push n (x ∷ ds) d = read_on_push (10 * n + (x - 48)) ds d
 
-AreDigits_push : (ds : List ℕ) (d : ℕ) → AreDigits ds → 48 ≤ d → d ≤ 57 → AreDigits (ds ++ d ∷ [])
+pub AreDigits_push : (ds : List ℕ) (d : ℕ) → AreDigits ds → 48 ≤ d → d ≤ 57 → AreDigits (ds ++ d ∷ [])
 AreDigits_push [] d h low high = (low, high, tt)
 AreDigits_push (x ∷ ds) d h low high = (h.0, h.1, AreDigits_push ds d h.2 low high)
 
@@ -143,7 +143,7 @@ IsDecimalRest_completes lo hi (Number m) le h =
     let done = completion lo hi m le (Reaches_from_true lo hi m (and_parts _ _ h).1) in
     (done.0, done.1, (done.2, done.3, done.4, done.5))
 
-IsNumeral_one : (m n : ℕ) (text : List ℕ) → IsNumeral m text → IsNumeral n text → m ≡ n
+pub IsNumeral_one : (m n : ℕ) (text : List ℕ) → IsNumeral m text → IsNumeral n text → m ≡ n
 IsNumeral_one m n [] h k = absurd h
 IsNumeral_one m n (c ∷ cs) (inl h) (inl k) = h.2 ∙ sym k.2
 IsNumeral_one m n (c ∷ cs) (inl h) (inr k) = absurd (omega (arith, h.0, k.0))

@@ -1,10 +1,14 @@
 -- What holds of words.
-use Rattle.std.proofs.lemmas.List.{take_more}
-use Rattle.std.proofs.Common.{zero, suc, take, get_or, ◌≡◌, ℕ, ◌+◌, ◌≤◌, ◌<◌, ◌↔◌, Bool, true, false, cond, List, [], ◌∷◌, ◌++◌, length, refl, sym, ◌∙◌, ap, arith, append_assoc, length-append, IsTrue, nat_lt, ltb-true, lt-ltb}
+use Rattle.std.proofs.lemmas.List.{take_more, append-nil}
+use Rattle.std.proofs.Common.{zero, suc, take, get_or, ◌≡◌, ℕ, ◌+◌, ◌≤◌, ◌<◌, ◌↔◌, ◌&&◌, Bool, true, false, cond, List, [], ◌∷◌, ◌++◌, length, refl, sym, ◌∙◌, ap, arith, append_assoc, length-append, IsTrue, nat_lt, nat_eq, ltb-true, lt-ltb, eqb-true, eq-eqb}
 use Rattle.std.specs.Coded.{×_prop, Unit-prop}
 use Rattle.std.proofs.Props.{props}
 use Rattle.cg_text.specs.Token.{AreBytes}
-use Rattle.cg_text.specs.Word.{AreWordBytes, IsWordByte, IsWord}
+use Rattle.std.proofs.lemmas.Bool.{and_from, and_parts}
+use Rattle.std.proofs.lemmas.Cmp.{nat_list_eq_equiv}
+use Rattle.std.specs.Cmp.Lexicographic.{pointwise}
+use Rattle.cg_text.specs.Word.{AreWordBytes, IsWordByte, IsNoSign, IsWord, IsControllerWord, IsWordText}
+use Rattle.cg_text.specs.WordState.{IsWordFront, Lengthens, IsWordRest, is_taken}
 
 IsWordByte_prop : (c : ℕ) → IsProp (IsWordByte c)
 IsWordByte_prop c = hlevel props
@@ -16,11 +20,6 @@ AreWordBytes_prop (c ∷ cs) = ×_prop (IsWordByte_prop c) (AreWordBytes_prop cs
 pub AreWordBytes_push : (xs : List ℕ) (c : ℕ) → AreWordBytes xs → IsWordByte c → AreWordBytes (xs ++ c ∷ [])
 AreWordBytes_push [] c h k = (k, tt)
 AreWordBytes_push (x ∷ xs) c h k = (h.0, AreWordBytes_push xs c h.1 k)
-
--- What a push that may fail leaves.
-pub AreWordBytes_pushed : (b : Bool) (xs ys : List ℕ) (c : ℕ) → ys ≡ cond b (xs ++ c ∷ []) xs → AreWordBytes xs → IsWordByte c → AreWordBytes ys
-AreWordBytes_pushed true xs ys c e h k = rw e (AreWordBytes_push xs c h k)
-AreWordBytes_pushed false xs ys c e h k = rw e h
 
 pub true_not_false : true ≡ false → ⊥
 true_not_false e = cc
@@ -38,3 +37,148 @@ word_byte_at (x ∷ xs) (suc k) h w = word_byte_at xs k (omega arith) w.1
 -- One more byte of a word.
 pub word_bytes_more : (xs : List ℕ) (k : ℕ) → k < length xs → AreWordBytes (take k xs) → IsWordByte (get_or xs k 0) → AreWordBytes (take (k + 1) xs)
 word_bytes_more xs k h w b = rw (take_more xs k 0 h) (AreWordBytes_push (take k xs) (get_or xs k 0) w b)
+
+AreWordBytes_append : (xs ys : List ℕ) → AreWordBytes xs → AreWordBytes ys → AreWordBytes (xs ++ ys)
+AreWordBytes_append [] ys h k = k
+AreWordBytes_append (x ∷ xs) ys h k = (h.0, AreWordBytes_append xs ys h.1 k)
+
+AreWordBytes_after : (xs ys : List ℕ) → AreWordBytes (xs ++ ys) → AreWordBytes ys
+AreWordBytes_after [] ys h = h
+AreWordBytes_after (x ∷ xs) ys h = AreWordBytes_after xs ys h.1
+
+-- A controller's word is a word.
+pub text_word : (controller : Bool) (text : List ℕ) → IsWordText controller text → IsWord text
+text_word false text h = h
+text_word true [] h = absurd h
+text_word true (c ∷ cs) h = h.1
+
+no_sign : (c : ℕ) (cs : List ℕ) (controller : Bool) → IsTrue controller → IsWordText controller (c ∷ cs) → IsNoSign c
+no_sign c cs false e h = absurd (cc)
+no_sign c cs true e h = h.0
+
+IsNoSign_prop : (c : ℕ) → IsProp (IsNoSign c)
+IsNoSign_prop c = hlevel props
+
+IsWord_prop : (xs : List ℕ) → IsProp (IsWord xs)
+IsWord_prop xs = ×_prop (hlevel props) (AreWordBytes_prop xs)
+
+pub IsWordFront_prop : (controller : Bool) (xs : List ℕ) → IsProp (IsWordFront controller xs)
+IsWordFront_prop controller [] = Unit-prop
+IsWordFront_prop false (c ∷ cs) = IsWord_prop (c ∷ cs)
+IsWordFront_prop true (c ∷ cs) = ×_prop (IsNoSign_prop c) (IsWord_prop (c ∷ cs))
+
+pub front_text : (controller : Bool) (xs : List ℕ) → 0 < length xs → IsWordFront controller xs → IsWordText controller xs
+front_text controller [] some h = absurd (omega arith)
+front_text controller (c ∷ cs) some h = h
+
+text_front : (controller : Bool) (xs : List ℕ) → IsWordText controller xs → IsWordFront controller xs
+text_front controller [] h = tt
+text_front controller (c ∷ cs) h = h
+
+text_append : (controller : Bool) (xs ys : List ℕ) → IsWordText controller xs → AreWordBytes ys → IsWordText controller (xs ++ ys)
+text_append false xs ys h k = (omega (arith, h.0, length-append xs ys), AreWordBytes_append xs ys h.1 k)
+text_append true [] ys h k = absurd h
+text_append true (c ∷ cs) ys h k = (h.0, (omega arith, AreWordBytes_append (c ∷ cs) ys h.1.1 k))
+
+-- A byte that may follow makes a word.
+pub text_push : (controller : Bool) (taken : List ℕ) (c : ℕ) → IsWordFront controller taken → Lengthens controller taken c → IsWordText controller (taken ++ c ∷ [])
+text_push false [] c f l = (omega arith, (l.0, tt))
+text_push true [] c f l = (l.1 refl refl, (omega arith, (l.0, tt)))
+text_push controller (x ∷ xs) c f l = text_append controller (x ∷ xs) (c ∷ []) f (l.0, tt)
+
+-- What a push that may fail leaves.
+pub front_pushed : (controller b : Bool) (xs ys : List ℕ) (c : ℕ) → ys ≡ cond b (xs ++ c ∷ []) xs → IsWordFront controller xs → Lengthens controller xs c → IsWordFront controller ys
+front_pushed controller true xs ys c e h l = rw e (text_front controller (xs ++ c ∷ []) (text_push controller xs c h l))
+front_pushed controller false xs ys c e h l = rw e h
+
+lengthens_at : (controller : Bool) (taken : List ℕ) (c : ℕ) (rest : List ℕ) → IsWordText controller (taken ++ c ∷ rest) → Lengthens controller taken c
+lengthens_at controller [] c rest h = ((text_word controller (c ∷ rest) h).1.0, λ e _. no_sign c rest controller e h)
+lengthens_at controller (x ∷ xs) c rest h = ((AreWordBytes_after (x ∷ xs) (c ∷ rest) (text_word controller (x ∷ (xs ++ c ∷ rest)) h).1).0, λ _ e. absurd (omega (arith, e)))
+
+-- The test of a byte, for bytes of which the number is known.
+pub lengthens_is : (controller first : Bool) (taken : List ℕ) (n c : ℕ) → n ≡ length taken → first ≡ nat_eq n 0 →
+    (IsWordByte c × (IsTrue controller → IsTrue first → IsNoSign c)) ↔ Lengthens controller taken c
+lengthens_is controller first taken n c e f = (
+  λ h. (h.0, λ t empty. h.1 t (f ∙ eq-eqb n 0 (e ∙ empty))),
+  λ h. (h.0, λ t g. h.1 t (sym e ∙ eqb-true n 0 (sym f ∙ g))),
+)
+
+-- A byte begins a rest exactly where it may follow.
+pub word_lengthens : (controller : Bool) (taken : List ℕ) (c : ℕ) (rest word : List ℕ) → IsWordRest controller taken (c ∷ rest) word → Lengthens controller taken c
+word_lengthens controller taken c rest word h = lengthens_at controller taken c rest (rw h.whole at h.is_word)
+
+pub word_begins : (controller : Bool) (taken : List ℕ) (c : ℕ) → IsWordFront controller taken → Lengthens controller taken c → (rest : List ℕ) × (word : List ℕ) × IsWordRest controller taken (c ∷ rest) word
+word_begins controller taken c f l = ([], taken ++ c ∷ [], record { whole = refl; is_word = text_push controller taken c f l })
+
+letter : IsWordByte 97
+letter = (omega arith, omega arith, λ e. absurd (omega (arith, e)))
+
+pub word_completes : (controller : Bool) (taken : List ℕ) → IsWordFront controller taken → (rest : List ℕ) × (word : List ℕ) × IsWordRest controller taken rest word
+word_completes controller taken f =
+    let b = word_begins controller taken 97 f (letter, λ _ _. ((λ e. absurd (omega (arith, e))), λ e. absurd (omega (arith, e)))) in
+    (97 ∷ b.0, b.1, b.2)
+
+pub word_one : (controller : Bool) (taken rest v w : List ℕ) → IsWordRest controller taken rest v → IsWordRest controller taken rest w → v ≡ w
+word_one controller taken rest v w h k = h.whole ∙ sym k.whole
+
+-- Nothing need follow exactly where there is a byte.
+pub word_ends_is : (controller : Bool) (taken : List ℕ) → IsWordFront controller taken → IsTrue (nat_lt 0 (length taken)) ↔ ((word : List ℕ) × IsWordRest controller taken [] word)
+word_ends_is controller taken f = (
+  λ e. (taken, record { whole = sym (append-nil taken); is_word = front_text controller taken (ltb-true 0 (length taken) e) f }),
+  λ h. (let w = text_word controller h.0 h.1.is_word in lt-ltb 0 (length taken) (omega (arith, ap length h.1.whole, length-append taken [], w.0))),
+)
+
+-- A rest holds bytes.
+pub word_bytes : (controller : Bool) (taken rest word : List ℕ) → IsWordRest controller taken rest word → AreBytes rest
+word_bytes controller taken rest word h =
+    let w = text_word controller word h.is_word in
+    words_bytes rest (AreWordBytes_after taken rest (rw h.whole at w.1))
+
+letters_of : ℕ → List ℕ
+letters_of zero = []
+letters_of (suc n) = 97 ∷ letters_of n
+
+letters : (n : ℕ) → AreWordBytes (letters_of n)
+unfolding letters_of
+letters zero = tt
+letters (suc n) = (letter, letters n)
+
+length_letters : (n : ℕ) → length (letters_of n) ≡ n
+unfolding letters_of
+length_letters zero = refl
+length_letters (suc n) = omega (arith, length_letters n)
+
+-- What begins a rest can be completed to a word that is longer than n.
+pub word_longer : (controller : Bool) (taken front : List ℕ) → ((rest : List ℕ) × (word : List ℕ) × IsWordRest controller taken (front ++ rest) word) →
+    (n : ℕ) → (rest : List ℕ) × (word : List ℕ) × IsWordRest controller taken (front ++ rest) word × (n < length word)
+word_longer controller taken front (rest, word, h) n =
+    let more : List ℕ = letters_of (suc n) in
+    let whole : word ++ more ≡ taken ++ (front ++ (rest ++ more)) = rw h.whole (append_assoc taken (front ++ rest) more ∙ ap (λ x. taken ++ x) (append_assoc front rest more)) in
+    (rest ++ more, word ++ more, record { whole = whole; is_word = text_append controller word more h.is_word (letters (suc n)) }, omega (arith, length-append word more, length_letters (suc n)))
+
+-- A word that is longer than n.
+pub word_above : (controller : Bool) (n : ℕ) → (text : List ℕ) × IsWordText controller text × (n < length text)
+word_above controller n =
+    let w = word_longer controller [] [] (word_completes controller [] tt) n in
+    (w.1, w.2.is_word, w.3)
+
+same_words : (xs ys : List ℕ) → pointwise nat_eq xs ys ≡ true → xs ≡ ys
+same_words [] [] e = refl
+same_words [] (y ∷ ys) e = absurd (cc)
+same_words (x ∷ xs) [] e = absurd (cc)
+same_words (x ∷ xs) (y ∷ ys) e =
+    let both = and_parts (nat_eq x y) (pointwise nat_eq xs ys) e in
+    let head : x ≡ y = eqb-true x y both.0 in
+    let tail : xs ≡ ys = same_words xs ys both.1 in
+    cc
+
+-- A word was taken exactly where it is a value of the empty rest.
+pub is_taken_is : (controller : Bool) (taken word : List ℕ) → IsWordFront controller taken → IsTrue (is_taken taken word) ↔ IsWordRest controller taken [] word
+is_taken_is controller taken word f = (
+  λ e. (let both = and_parts (nat_lt 0 (length taken)) (pointwise nat_eq taken word) e in
+      let same : word ≡ taken = sym (same_words taken word both.1) in
+      record { whole = same ∙ sym (append-nil taken); is_word = rw same (front_text controller taken (ltb-true 0 (length taken) both.0) f) }),
+  λ h. (let some : nat_lt 0 (length taken) ≡ true = (word_ends_is controller taken f).1 (word, h) in
+      let same : word ≡ taken = h.whole ∙ append-nil taken in
+      and_from (nat_lt 0 (length taken)) (pointwise nat_eq taken word) some (rw same (nat_list_eq_equiv.refl taken))),
+)

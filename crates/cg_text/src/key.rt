@@ -67,6 +67,14 @@ impl Key {
         }
     }
 
+    /// The key of these bytes, which are a word.
+    pub(crate) fn of(bytes: Vec<u8>) -> Key
+        requires { IsWord bytes.items }
+        ensures { result ≡ bytes.items }
+    {
+        Key { bytes }
+    }
+
     /// The bytes of the key, which are a word.
     pub fn bytes(&self) -> &[u8]
         ensures bytes { result.now ≡ self.now }

@@ -4,6 +4,7 @@
 pub mod byte;
 pub mod bytes;
 pub mod decimal;
+mod digit;
 pub mod fixed;
 pub mod hundredths;
 pub mod items;
@@ -11,9 +12,16 @@ pub mod key;
 pub mod memory;
 pub mod numbers;
 pub mod pairs;
+pub mod raw;
+pub mod reason;
+pub mod signed;
+pub mod size;
 pub mod token;
 pub mod trigger;
+#[cfg(test)]
+mod trial;
 pub mod values;
+pub mod word;
 
 pub use byte::ByteText;
 pub use bytes::ByteSet;
@@ -25,6 +33,11 @@ pub use key::{Key, KeyFault};
 pub use memory::OutOfMemory;
 pub use numbers::NumberSet;
 pub use pairs::{LimitKey, LimitPairs};
+pub use raw::RawText;
+pub use reason::ReasonText;
+pub use signed::SignedText;
+pub use size::SizeText;
 pub use token::Token;
 pub use trigger::Times;
 pub use values::{Amount, Clamp, Device, Hundredths, Limit};
+pub use word::WordText;

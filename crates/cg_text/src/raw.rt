@@ -1,0 +1,116 @@
+//! Raw lines.
+ghost use Rattle.std.specs.Prelude.{◌≡◌, ℕ, ◌≤◌, ◌<◌, ◌↔◌, true, List, [], IsTrue, length};
+ghost use Rattle.cg_text.specs.Raw.{IsRawLine};
+ghost use Rattle.cg_text.specs.RawState.{IsRawByte, IsRawRest};
+ghost use Rattle.cg_text.specs.Token.{Spells};
+
+use crate::items::Items;
+use crate::memory::OutOfMemory;
+use crate::token::Token;
+use std::alloc::Global;
+
+/// Any bytes 1 to 255 but newlines, also none.
+#[derive(Drop)]
+pub struct RawText {
+    bytes: Vec<u8>,
+}
+
+/// Whether raw lines have this byte.
+pub(crate) fn is_raw_byte(byte: u8) -> bool
+    ensures { IsTrue result ↔ IsRawByte byte }
+{
+    byte != 0 && byte != b'\n'
+}
+
+impl RawText {
+    /// A token of raw lines.
+    pub fn new(alloc: Global) -> RawText
+        ensures spells { Spells ⟦<RawText as Token>⟧.means result (λ rest line. (line ≡ rest) × IsRawLine rest) }
+        ensures size { ⟦<RawText as Token>⟧.size result ≡ 0 }
+    {
+        RawText {
+            bytes: Vec::new(alloc),
+        }
+    }
+}
+
+impl Token for RawText {
+    type Out = Items<u8>;
+
+    ghost use Rattle.cg_text.specs.RawLaws.{raw_completes, raw_one, raw_ends_is, raw_bytes};
+    ghost use Rattle.cg_text.specs.WordLaws.{true_not_false};
+
+    ghost means = { λ s rest line. IsRawRest s.bytes.items rest line };
+
+    ghost size = { λ s. length s.bytes.items };
+
+    ghost weight = { length };
+
+    ghost ends = { λ _. true };
+
+    ghost grows = { true };
+
+    fn step(&mut self, byte: u8) -> Result<bool, OutOfMemory> {
+        if !is_raw_byte(byte) {
+            return Ok(false);
+        }
+        match self.bytes.push(byte) {
+            Ok(()) => Ok(true),
+            Err(_) => Err(OutOfMemory),
+        }
+    }
+
+    fn allows(&self, byte: u8) -> bool {
+        is_raw_byte(byte)
+    }
+
+    fn can_end(&self) -> bool {
+        true
+    }
+
+    fn held(&self) -> u64 {
+        self.bytes.len() as u64
+    }
+
+    fn take(self) -> Items<u8> {
+        Items::of(self.bytes)
+    }
+
+    fn weight_of(value: &Items<u8>) -> u64 {
+        value.as_slice().len() as u64
+    }
+
+    ghost completes = { λ s. raw_completes s.bytes.items };
+
+    ghost no_size = { λ e _. absurd (true_not_false e) };
+
+    ghost ends_is = { λ s. raw_ends_is s.bytes.items };
+
+    ghost one_value = { λ s. raw_one s.bytes.items };
+
+    ghost holds_bytes = { λ s rest v h. raw_bytes rest h.raw };
+}
+
+#[cfg(test)]
+mod tests {
+    use super::*;
+    use crate::trial::read;
+
+    #[test]
+    fn reads_raw_lines(rt: HostRuntime) {
+        let rows: [(&[u8], usize, bool); 4] = [
+            (b"", 0, true),
+            (b"any = thing\xff", 12, true),
+            (b"a\nb", 1, false),
+            (b"a\0b", 1, false),
+        ];
+        for (text, taken, whole) in rows {
+            let (at, line) = read(RawText::new(rt.alloc()), text);
+            assert_eq!(rt; at, taken);
+            match line {
+                Some(line) => assert!(rt; whole && line.as_slice() == text),
+                None => assert!(rt; !whole),
+            }
+        }
+    }
+}

@@ -1,0 +1,146 @@
+//! Words.
+ghost use Rattle.std.specs.Prelude.{◌≡◌, ℕ, ◌≤◌, ◌<◌, ◌↔◌, true, List, [], IsTrue, length, nat_lt};
+ghost use Rattle.cg_text.specs.Word.{IsWordText, IsWordByte, IsNoSign};
+ghost use Rattle.cg_text.specs.WordState.{IsWordFront, IsWordRest, is_taken};
+ghost use Rattle.cg_text.specs.WordLaws.{IsWordFront_prop};
+ghost use Rattle.cg_text.specs.Token.{Spells};
+
+use crate::key::{Key, is_word_byte};
+use crate::memory::OutOfMemory;
+use crate::token::Token;
+use std::alloc::Global;
+
+/// A word, or a controller's word, which begins with no sign.
+#[derive(Drop)]
+pub struct WordText {
+    controller: bool,
+    bytes: Vec<u8>,
+    ghost sound: { IsWordFront controller bytes.items } by { IsWordFront_prop controller bytes.items },
+}
+
+/// Whether the byte may stand in a word, in one of a controller, at its beginning.
+fn may_stand(controller: bool, first: bool, byte: u8) -> bool
+    ensures { IsTrue result ↔ (IsWordByte byte × (IsTrue controller → IsTrue first → IsNoSign byte)) }
+{
+    if controller && first && (byte == b'+' || byte == b'-') {
+        return false;
+    }
+    is_word_byte(byte)
+}
+
+impl WordText {
+    /// A token of words, or of a controller's words.
+    pub fn new(alloc: Global, controller: bool) -> WordText
+        ensures spells { Spells ⟦<WordText as Token>⟧.means result (λ rest word. (word ≡ rest) × IsWordText controller rest) }
+        ensures size { ⟦<WordText as Token>⟧.size result ≡ 0 }
+    {
+        WordText {
+            controller,
+            bytes: Vec::new(alloc),
+        }
+    }
+
+    /// Whether what was taken is this key.
+    pub fn is(&self, key: &Key) -> bool
+        ensures { result ≡ is_taken self.now.bytes.items key.now }
+    {
+        !self.bytes.is_empty() && self.bytes.as_slice() == key.bytes()
+    }
+}
+
+impl Token for WordText {
+    type Out = Key;
+
+    ghost use Rattle.cg_text.specs.WordLaws.{word_completes, word_one, word_ends_is, word_bytes, true_not_false};
+
+    ghost means = { λ s rest word. IsWordRest s.controller s.bytes.items rest word };
+
+    ghost size = { λ s. length s.bytes.items };
+
+    ghost weight = { length };
+
+    ghost ends = { λ s. nat_lt 0 (length s.bytes.items) };
+
+    ghost grows = { true };
+
+    fn step(&mut self, byte: u8) -> Result<bool, OutOfMemory> {
+        if !may_stand(self.controller, self.bytes.is_empty(), byte) {
+            return Ok(false);
+        }
+        match self.bytes.push(byte) {
+            Ok(()) => Ok(true),
+            Err(_) => Err(OutOfMemory),
+        }
+    }
+
+    fn allows(&self, byte: u8) -> bool {
+        may_stand(self.controller, self.bytes.is_empty(), byte)
+    }
+
+    fn can_end(&self) -> bool {
+        !self.bytes.is_empty()
+    }
+
+    fn held(&self) -> u64 {
+        self.bytes.len() as u64
+    }
+
+    fn take(self) -> Key {
+        Key::of(self.bytes)
+    }
+
+    fn weight_of(value: &Key) -> u64 {
+        value.bytes().len() as u64
+    }
+
+    ghost completes = { λ s. word_completes s.controller s.bytes.items s.sound };
+
+    ghost no_size = { λ e _. absurd (true_not_false e) };
+
+    ghost ends_is = { λ s. word_ends_is s.controller s.bytes.items s.sound };
+
+    ghost one_value = { λ s. word_one s.controller s.bytes.items };
+
+    ghost holds_bytes = { λ s rest v h. word_bytes s.controller s.bytes.items rest v h };
+}
+
+#[cfg(test)]
+mod tests {
+    use super::*;
+    use crate::key::KeyFault;
+    use crate::trial::read;
+
+    #[test]
+    fn reads_words(rt: HostRuntime) {
+        let rows: [(bool, &[u8], usize, bool); 8] = [
+            (false, b"cpu", 3, true),
+            (true, b"cpu", 3, true),
+            (true, b"c-+u", 4, true),
+            (true, b"+cpu", 0, false),
+            (true, b"-cpu", 0, false),
+            (false, b"+cpu", 4, true),
+            (false, b"a=b", 1, false),
+            (false, b"", 0, false),
+        ];
+        for (controller, text, taken, whole) in rows {
+            let (at, word) = read(WordText::new(rt.alloc(), controller), text);
+            assert_eq!(rt; at, taken);
+            match word {
+                Some(key) => assert!(rt; whole && key.bytes() == text),
+                None => assert!(rt; !whole),
+            }
+        }
+    }
+
+    #[test]
+    fn knows_its_word(rt: HostRuntime) -> Result<(), KeyFault> {
+        let key = Key::new(rt.alloc(), b"cp")?;
+        let mut token = WordText::new(rt.alloc(), true);
+        for (byte, is) in [(b'c', false), (b'p', true), (b'u', false)] {
+            assert!(rt; matches!(token.step(byte), Ok(true)));
+            assert_eq!(rt; token.is(&key), is);
+        }
+        assert_eq!(rt; token.held(), 3);
+        Ok(())
+    }
+}
