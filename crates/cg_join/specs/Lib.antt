@@ -18,3 +18,4 @@ pub mod Repeat
 pub mod RepeatLaws
 pub mod SequenceLaws
 pub mod Spelling
+pub mod StartLaws

@@ -13,7 +13,10 @@ pub mod reading;
 pub mod repeat;
 pub mod sequence;
 pub mod start;
+pub mod starts;
 mod store;
+#[cfg(test)]
+mod tests;
 
 pub use choice::{Choice, Either};
 pub use distinct::Distinct;
@@ -27,3 +30,4 @@ pub use reading::{Found, read};
 pub use repeat::Repeat;
 pub use sequence::Sequence;
 pub use start::Start;
+pub use starts::NumberStart;

@@ -28,7 +28,8 @@ pub enum Stage {
 }
 
 /// Any number of pairs, also none, each a separator, a word, a mark and a value. No word comes twice:
-/// one may be followed by the mark, which no word has, only where it is new.
+/// one may be followed by the mark, which no word has, only where it is new. A pair that is begun is counted
+/// among the held elements from its separator on.
 #[derive(Drop)]
 pub struct DistinctPairs<K: Peek, V: Token, A: StartNew<K>, B: Start<V>, F: Pairing<K, V>> {
     words: A,
