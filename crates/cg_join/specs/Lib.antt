@@ -19,3 +19,4 @@ pub mod RepeatLaws
 pub mod SequenceLaws
 pub mod Spelling
 pub mod StartLaws
+pub mod WordStartLaws

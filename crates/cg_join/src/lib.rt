@@ -17,6 +17,9 @@ pub mod starts;
 mod store;
 #[cfg(test)]
 mod tests;
+#[cfg(test)]
+mod word_tests;
+pub mod words;
 
 pub use choice::{Choice, Either};
 pub use distinct::Distinct;
@@ -31,3 +34,4 @@ pub use repeat::Repeat;
 pub use sequence::Sequence;
 pub use start::Start;
 pub use starts::NumberStart;
+pub use words::WordStart;
