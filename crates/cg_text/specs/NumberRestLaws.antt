@@ -1,8 +1,8 @@
 -- What holds of what is left of a decimal text.
-use Rattle.std.proofs.Common.{◌≡◌, ℕ, ◌≤◌, ◌↔◌, Bool, true, false, Option, Some, None, List, [], ◌∷◌, IsTrue, arith}
+use Rattle.std.proofs.Common.{◌≡◌, ℕ, ◌≤◌, ◌↔◌, Option, Some, None, List, [], ◌∷◌, IsTrue}
 use Rattle.cg_text.specs.Decimal.{AreDigits}
 use Rattle.cg_text.specs.DecimalLaws.{IsDecimalRest_completes, IsDecimalRest_one, decimal_ends_is, number_digits}
-use Rattle.cg_text.specs.NumberRest.{number_rest, number_ends, maybe_rest, maybe_ends}
+use Rattle.cg_text.specs.NumberRest.{number_rest, maybe_rest, maybe_ends}
 use Rattle.cg_text.specs.declared.decimal.DecimalText.{DecimalText}
 
 -- A number can be completed.

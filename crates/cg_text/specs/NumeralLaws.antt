@@ -1,5 +1,5 @@
 -- The one text of a number, which is what is printed.
-use Rattle.std.proofs.Common.{◌≡◌, ℕ, zero, suc, ◌+◌, ◌-◌, ◌*◌, ◌/◌, ◌%◌, ◌^◌, ◌≤◌, ◌<◌, ◌⊎◌, inl, inr, ℤ, pos, negsuc, ◌≤ℤ◌, List, [], ◌∷◌, ◌++◌, length, refl, sym, ◌∙◌, ap, arith, w64}
+use Rattle.std.proofs.Common.{◌≡◌, ℕ, zero, suc, ◌+◌, ◌-◌, ◌*◌, ◌/◌, ◌%◌, ◌^◌, ◌≤◌, ◌<◌, inl, inr, ℤ, pos, negsuc, ◌≤ℤ◌, List, [], ◌∷◌, ◌++◌, length, refl, sym, ◌∙◌, ap, arith, w64}
 use Rattle.std.proofs.Math.Nat.{pow-succ', pow-le-pow_right, one-le-pow, mul-le-mul_right}
 use Rattle.std.proofs.lemmas.Fmt.{decimal_by_steps}
 use Rattle.std.specs.Fmt.{decimal, signed_decimal}
@@ -7,7 +7,7 @@ use Rattle.std.specs.Prelude.{FitsSigned}
 use native.Mathlib.Decide.{dec_lt}
 use Prim.{yes, no}
 use Rattle.cg_text.specs.Decimal.{AreDigits, read_on, IsNumeral, IsDecimal}
-use Rattle.cg_text.specs.DecimalLaws.{read_on_low, read_on_high, read_on_push, AreDigits_push, IsNumeral_one}
+use Rattle.cg_text.specs.DecimalLaws.{read_on_low, read_on_high, read_on_push, AreDigits_push}
 use Rattle.cg_text.specs.Signed.{IsSignedNumeral, IsSigned}
 use Rattle.cg_text.specs.Size.{IsSize}
 
@@ -73,10 +73,10 @@ one_long n c d cs ds low high h e low' high' k f =
     let less : length cs < length ds → c ∷ cs ≡ d ∷ ds = λ fewer. absurd (omega (arith, e, f, fewer_less (c - 48) (d - 48) cs ds (omega arith) (omega arith) h fewer)) in
     let more : length ds < length cs → c ∷ cs ≡ d ∷ ds = λ fewer. absurd (omega (arith, e, f, fewer_less (d - 48) (c - 48) ds cs (omega arith) (omega arith) k fewer)) in
     let same : length cs ≡ length ds → c ∷ cs ≡ d ∷ ds = λ as_many. (
-      let both = same_digits (c - 48) (d - 48) cs ds h k as_many (sym e ∙ f) in
-      let head : c ≡ d = omega (arith, both.0, low, low') in
-      let tail : cs ≡ ds = both.1 in
-      cc) in
+    let both = same_digits (c - 48) (d - 48) cs ds h k as_many (sym e ∙ f) in
+    let head : c ≡ d = omega (arith, both.0, low, low') in
+    let tail : cs ≡ ds = both.1 in
+    cc) in
     elim (dec_lt (length cs) (length ds)) [
       | yes l ↦ less l
       | no l ↦ elim (dec_lt (length ds) (length cs)) [ yes m ↦ more m | no m ↦ same (omega arith) ]

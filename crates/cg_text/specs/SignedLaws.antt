@@ -1,14 +1,12 @@
 -- What holds of what is left of a signed number.
-use Rattle.std.proofs.Common.{◌≡◌, ℕ, suc, zero, ◌≤◌, ◌↔◌, ◌⊎◌, ℤ, pos, negsuc, Bool, true, false, Option, Some, None, List, [], ◌∷◌, IsTrue, arith, refl, sym, ◌∙◌, ap}
+use Rattle.std.proofs.Common.{◌≡◌, ℕ, suc, zero, ◌↔◌, ℤ, pos, negsuc, Option, Some, None, List, [], ◌∷◌, IsTrue, arith, refl, sym, ◌∙◌, ap}
 use Rattle.std.proofs.Props.{props}
-use Rattle.cg_text.specs.Decimal.{IsNumeral}
-use Rattle.cg_text.specs.Signed.{IsSigned}
 use Rattle.cg_text.specs.DecimalLaws.{IsDecimalRest_one, decimal_ends_is, number_digits, digits_bytes}
-use Rattle.cg_text.specs.Token.{AreBytes, Follows, NoneBegins}
-use Rattle.cg_text.specs.ListFacts.{heads, tails}
-use Rattle.cg_text.specs.NumberRest.{number_rest, number_ends, maybe_rest, maybe_ends}
+use Rattle.cg_text.specs.Token.{AreBytes, Follows}
+use Rattle.cg_text.specs.ListFacts.{tails}
+use Rattle.cg_text.specs.NumberRest.{number_rest, maybe_rest}
 use Rattle.cg_text.specs.NumberRestLaws.{number_completes, maybe_digits, digit_begins, maybe_one, maybe_ends_is}
-use Rattle.cg_text.specs.SignedState.{IsMagnitude, LacksPlain, LacksNegative, SignedRest, AreWithin, IsBounded, is_live, signed_ends}
+use Rattle.cg_text.specs.SignedState.{SignedRest, AreWithin, IsBounded, is_live, signed_ends}
 use Rattle.cg_text.specs.declared.decimal.DecimalText.{DecimalText}
 use Rattle.cg_text.specs.declared.signed.Taken.{Taken}
 use Rattle.cg_text.specs.declared.signed.Taken.TheVariants.{Plain, Negative}

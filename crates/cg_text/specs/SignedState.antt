@@ -1,5 +1,5 @@
 -- What is left of a signed number.
-use Rattle.std.specs.Prelude.{◌≡◌, ℕ, suc, zero, ◌^◌, ◌≤◌, ◌<◌, ℤ, pos, negsuc, ◌≤ℤ◌, Bool, true, false, ◌||◌, is_some, Option, Some, List, ◌∷◌}
+use Rattle.std.specs.Prelude.{◌≡◌, ℕ, suc, zero, ◌≤◌, ℤ, pos, negsuc, ◌≤ℤ◌, Bool, true, ◌||◌, is_some, List, ◌∷◌}
 use Rattle.cg_text.specs.Decimal.{IsNumeral}
 use Rattle.cg_text.specs.NumberRest.{number_rest, number_ends, maybe_rest, maybe_ends}
 use Rattle.cg_text.specs.declared.signed.Taken.{Taken}

@@ -1,11 +1,10 @@
 -- What holds of what is left of a size.
-use Rattle.std.proofs.Common.{◌≡◌, ℕ, suc, zero, ◌*◌, ◌^◌, ◌≤◌, ◌<◌, ◌↔◌, ◌⊎◌, inl, inr, Bool, true, false, cond, ◌||◌, eqb, Option, Some, None, List, [], ◌∷◌, ◌++◌, IsTrue, arith, refl, sym, ◌∙◌, ap}
+use Rattle.std.proofs.Common.{◌≡◌, ℕ, ◌*◌, ◌^◌, ◌≤◌, ◌<◌, ◌↔◌, inl, inr, cond, ◌||◌, eqb, Option, Some, None, List, [], ◌∷◌, ◌++◌, IsTrue, arith, refl, sym, ◌∙◌, ap}
 use Rattle.std.specs.Prelude.{SomeIff, MatchOption}
 use Rattle.std.proofs.Props.{props}
 use Rattle.std.specs.Coded.{Unit-prop}
-use Rattle.std.proofs.Math.Nat.{mul-le-mul_left}
-use Rattle.cg_text.specs.Decimal.{IsNumeral, IsDecimal, AreDigits}
-use Rattle.cg_text.specs.Size.{HasFactor, HasSize, IsSize}
+use Rattle.cg_text.specs.Decimal.{AreDigits}
+use Rattle.cg_text.specs.Size.{HasFactor}
 use Rattle.cg_text.specs.DecimalLaws.{IsDecimalRest_one, decimal_ends_is, number_digits, digits_bytes}
 use Rattle.cg_text.specs.Token.{AreBytes, Follows, NoneBegins}
 use Rattle.cg_text.specs.TokenLaws.{bytes_append}
@@ -127,7 +126,8 @@ module _ (d new : DecimalText) (byte : ℕ) (digit : byte ≤ 57) (f : Follows n
   digit_follows_at : Follows SizeRest (Count d) byte (Count new)
   digit_follows_at rest n = (
     λ h. record { count = h.count; factor = h.factor; product = h.product; fits = h.fits; spelled = digit_to rest h.count h.factor h.spelled },
-    λ h. record { count = h.count; factor = h.factor; product = h.product; fits = h.fits; spelled = digit_from rest h.count h.factor h.spelled })
+    λ h. record { count = h.count; factor = h.factor; product = h.product; fits = h.fits; spelled = digit_from rest h.count h.factor h.spelled },
+  )
 
 pub size_digit : (d new : DecimalText) (byte : ℕ) → Follows number_rest d byte new → Follows SizeRest (Count d) byte (Count new)
 size_digit d new byte f =
@@ -150,9 +150,10 @@ module _ (d : DecimalText) (byte : ℕ) (none : NoneBegins number_rest d byte) w
   size_suffix size s rest n = (
     λ h. record { count = s.count; factor = s.factor; product = h.1 ∙ s.product; fits = rw h.1 s.fits; spelled = inr ([], byte, ap (λ x. byte ∷ x) h.0, s.counted, s.suffix_is) },
     λ h. (let e = suffix_of rest h.count h.factor h.spelled in
-      let same : h.count ≡ s.count = IsDecimalRest_one d.lo d.hi d.progress [] h.count s.count e.1 s.counted in
-      let one : h.factor ≡ s.factor = factor_one byte h.factor s.factor e.2 s.suffix_is in
-      (e.0, h.product ∙ rw (same, one) (sym s.product))))
+        let same : h.count ≡ s.count = IsDecimalRest_one d.lo d.hi d.progress [] h.count s.count e.1 s.counted in
+        let one : h.factor ≡ s.factor = factor_one byte h.factor s.factor e.2 s.suffix_is in
+        (e.0, h.product ∙ rw (same, one) (sym s.product))),
+  )
 
   pub no_suffix : ((size : ℕ) → EndsSize (number_rest d) byte size → ⊥) → NoneBegins SizeRest (Count d) byte
   no_suffix f rest n h =

@@ -2,7 +2,6 @@
 use Rattle.std.specs.Prelude.{◌≡◌, ℕ, ◌*◌, ◌≤◌, ◌⊎◌, Bool, true, List, [], ◌∷◌, ◌++◌}
 use Rattle.cg_text.specs.Size.{HasFactor}
 use Rattle.cg_text.specs.NumberRest.{number_rest, number_ends}
-use Rattle.cg_text.specs.declared.decimal.DecimalText.{DecimalText}
 use Rattle.cg_text.specs.declared.size.Taken.{Taken}
 use Rattle.cg_text.specs.declared.size.Taken.TheVariants.{Count, Whole}
 

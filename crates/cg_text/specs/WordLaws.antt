@@ -1,13 +1,13 @@
 -- What holds of words.
 use Rattle.std.proofs.lemmas.List.{take_more, append-nil}
-use Rattle.std.proofs.Common.{zero, suc, take, get_or, ◌≡◌, ℕ, ◌+◌, ◌≤◌, ◌<◌, ◌↔◌, ◌&&◌, Bool, true, false, cond, List, [], ◌∷◌, ◌++◌, length, refl, sym, ◌∙◌, ap, arith, append_assoc, length-append, IsTrue, nat_lt, nat_eq, ltb-true, lt-ltb, eqb-true, eq-eqb}
+use Rattle.std.proofs.Common.{zero, suc, take, get_or, ◌≡◌, ℕ, ◌+◌, ◌<◌, ◌↔◌, Bool, true, false, cond, List, [], ◌∷◌, ◌++◌, length, refl, sym, ◌∙◌, ap, arith, append_assoc, length-append, IsTrue, nat_lt, nat_eq, ltb-true, lt-ltb, eqb-true, eq-eqb}
 use Rattle.std.specs.Coded.{×_prop, Unit-prop}
 use Rattle.std.proofs.Props.{props}
 use Rattle.cg_text.specs.Token.{AreBytes}
 use Rattle.std.proofs.lemmas.Bool.{and_from, and_parts}
 use Rattle.std.proofs.lemmas.Cmp.{nat_list_eq_equiv}
 use Rattle.std.specs.Cmp.Lexicographic.{pointwise}
-use Rattle.cg_text.specs.Word.{AreWordBytes, IsWordByte, IsNoSign, IsWord, IsControllerWord, IsWordText}
+use Rattle.cg_text.specs.Word.{AreWordBytes, IsWordByte, IsNoSign, IsWord, IsWordText}
 use Rattle.cg_text.specs.WordState.{IsWordFront, Lengthens, IsWordRest, is_taken}
 
 IsWordByte_prop : (c : ℕ) → IsProp (IsWordByte c)
@@ -155,6 +155,11 @@ word_longer controller taken front (rest, word, h) n =
     let more : List ℕ = letters_of (suc n) in
     let whole : word ++ more ≡ taken ++ (front ++ (rest ++ more)) = rw h.whole (append_assoc taken (front ++ rest) more ∙ ap (λ x. taken ++ x) (append_assoc front rest more)) in
     (rest ++ more, word ++ more, record { whole = whole; is_word = text_append controller word more h.is_word (letters (suc n)) }, omega (arith, length-append word more, length_letters (suc n)))
+
+-- The sum of the lengths of words: a word that is longer is none of them.
+abbrev pub total_length : List (List ℕ) → ℕ
+total_length [] = 0
+total_length (word ∷ words) = length word + total_length words
 
 -- A word that is longer than n.
 pub word_above : (controller : Bool) (n : ℕ) → (text : List ℕ) × IsWordText controller text × (n < length text)

@@ -17,9 +17,9 @@ pub mod reason;
 pub mod signed;
 pub mod size;
 pub mod token;
-pub mod trigger;
 #[cfg(test)]
 mod trial;
+pub mod trigger;
 pub mod values;
 pub mod word;
 

@@ -195,8 +195,20 @@ mod tests {
     #[test]
     fn reads_the_ends_of_the_range(rt: HostRuntime) {
         let rows: [(i64, i64, &[u8], usize, Option<i64>); 5] = [
-            (i64::MIN, i64::MAX, b"-9223372036854775808", 20, Some(i64::MIN)),
-            (i64::MIN, i64::MAX, b"9223372036854775807", 19, Some(i64::MAX)),
+            (
+                i64::MIN,
+                i64::MAX,
+                b"-9223372036854775808",
+                20,
+                Some(i64::MIN),
+            ),
+            (
+                i64::MIN,
+                i64::MAX,
+                b"9223372036854775807",
+                19,
+                Some(i64::MAX),
+            ),
             (i64::MIN, i64::MAX, b"9223372036854775808", 18, None),
             (3, 5, b"-3", 0, None),
             (-5, -3, b"-4", 2, Some(-4)),

@@ -1,4 +1,3 @@
-use Rattle.std.proofs.Common.{Some, None}
 use Rattle.cg_text.specs.SignedLaws.{within_follows, within_none}
 use Rattle.cg_text.proofs.signed.after.Goals as goal
 

@@ -6,9 +6,9 @@ pub returns-then-not-is_raw_byte-clause-refused : goal.returns-then-not-is_raw_b
 returns-then-not-is_raw_byte-clause-refused c =
     let s = c.args.self.now in
     λ rest reason h. (
-      let taken : c.is_raw_byte.result ≡ true = c.is_raw_byte.ensures.1 (reason_byte_of s.bytes.items rest reason c.args.byte h) in
-      let refused = c.if-not-is_raw_byte.true in
-      cc)
+    let taken : c.is_raw_byte.result ≡ true = c.is_raw_byte.ensures.1 (reason_byte_of s.bytes.items rest reason c.args.byte h) in
+    let refused = c.if-not-is_raw_byte.true in
+    cc)
 
 pub invariant_of-self : goal.invariant_of-self
 invariant_of-self c =

@@ -8,9 +8,9 @@ returns-then-not-may_stand-clause-refused c =
     let count : vec_len s.bytes ≡ length s.bytes.items = omega (arith, s.bytes.ok.0) in
     let is = lengthens_is s.controller c.is_empty.result s.bytes.items (vec_len s.bytes) c.args.byte count c.is_empty.ensures in
     λ rest word h. (
-      let taken : c.may_stand.result ≡ true = c.may_stand.ensures.1 (is.1 (word_lengthens s.controller s.bytes.items c.args.byte rest word h)) in
-      let refused = c.if-not-may_stand.true in
-      cc)
+    let taken : c.may_stand.result ≡ true = c.may_stand.ensures.1 (is.1 (word_lengthens s.controller s.bytes.items c.args.byte rest word h)) in
+    let refused = c.if-not-may_stand.true in
+    cc)
 
 pub invariant_of-self : goal.invariant_of-self
 invariant_of-self c =
