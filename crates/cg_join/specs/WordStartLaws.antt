@@ -3,7 +3,7 @@ use Rattle.std.proofs.Common.{◌≡◌, ℕ, ◌+◌, ◌<◌, Bool, List, [], 
 use Rattle.cg_text.specs.Token.{AreBytes, HasOneText}
 use Rattle.cg_text.specs.Word.{AreWordBytes, IsWordByte, IsWordText}
 use Rattle.cg_text.specs.WordState.{IsWordRest}
-use Rattle.cg_text.specs.WordLaws.{text_word, word_above, word_longer, words_bytes}
+use Rattle.cg_text.specs.WordLaws.{text_word, total_length, word_above, word_longer, words_bytes}
 use Rattle.cg_join.specs.Distinct.{LacksValue}
 use Rattle.cg_join.specs.Line.{LacksByte}
 use Rattle.cg_join.specs.Repeat.{LacksEmpty}
@@ -21,23 +21,17 @@ one_word controller text v w h k = h.0 ∙ sym k.0
 pub word_text_bytes : (controller : Bool) (text word : List ℕ) → SpellsWord controller text word → AreBytes text
 word_text_bytes controller text word h = words_bytes text (text_word controller text h.1).1
 
--- The sum of the lengths of words.
-sum_lengths : List (List ℕ) → ℕ
-sum_lengths [] = 0
-sum_lengths (w ∷ words) = length w + sum_lengths words
-
 -- A word that is longer than all others is none of them.
-long_lacks : (word : List ℕ) (words : List (List ℕ)) → sum_lengths words < length word → LacksValue word words
-unfolding sum_lengths
+long_lacks : (word : List ℕ) (words : List (List ℕ)) → total_length words < length word → LacksValue word words
 long_lacks word [] h = tt
 long_lacks word (w ∷ words) h = ((λ e. absurd (omega (arith, h, ap length e))), long_lacks word words (omega (arith, h)))
 
 pub new_word_text : (controller : Bool) (words : List (List ℕ)) → (text : List ℕ) × (word : List ℕ) × SpellsWord controller text word × LacksValue word words
-new_word_text controller words = let w = word_above controller (sum_lengths words) in (w.0, w.0, (refl, w.1), long_lacks w.0 words w.2)
+new_word_text controller words = let w = word_above controller (total_length words) in (w.0, w.0, (refl, w.1), long_lacks w.0 words w.2)
 
 pub word_new : (controller : Bool) (taken front : List ℕ) → ((rest : List ℕ) × (word : List ℕ) × IsWordRest controller taken (front ++ rest) word) →
     (words : List (List ℕ)) → (rest : List ℕ) × (word : List ℕ) × IsWordRest controller taken (front ++ rest) word × LacksValue word words
-word_new controller taken front h words = let k = word_longer controller taken front h (sum_lengths words) in (k.0, k.1, k.2, long_lacks k.1 words k.3)
+word_new controller taken front h words = let k = word_longer controller taken front h (total_length words) in (k.0, k.1, k.2, long_lacks k.1 words k.3)
 
 word_byte_inside : (front more : List ℕ) (b : ℕ) → AreWordBytes (front ++ b ∷ more) → IsWordByte b
 word_byte_inside [] more b h = h.0
