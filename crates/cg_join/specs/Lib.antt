@@ -30,3 +30,4 @@ pub mod RepeatLaws
 pub mod SequenceLaws
 pub mod Spelling
 pub mod StartLaws
+pub mod WordStartLaws

@@ -19,6 +19,7 @@ pub mod sequence;
 pub mod start;
 pub mod starts;
 mod store;
+pub mod words;
 
 pub use amount::AmountText;
 pub use choice::{Choice, Either};
@@ -37,8 +38,11 @@ pub use repeat::Repeat;
 pub use sequence::Sequence;
 pub use start::Start;
 pub use starts::NumberStart;
+pub use words::WordStart;
 
 #[cfg(test)]
 mod composite_tests;
 #[cfg(test)]
 mod tests;
+#[cfg(test)]
+mod word_tests;

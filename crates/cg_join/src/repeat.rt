@@ -64,7 +64,11 @@ impl<T: Token, S: Start<T>> Token for Repeat<T, S> {
         // The last value is put into the vector by `take`, which takes no memory.
         match make_room(&mut self.items) {
             Ok(()) => {}
-            Err(e) => return Err(e),
+            Err(e) => {
+                // A byte that is refused is refused without memory too.
+                let allowed = self.allows(byte);
+                return if allowed { Err(e) } else { Ok(false) };
+            }
         }
         match self.current.step(byte) {
             Ok(true) => return Ok(true),
