@@ -98,3 +98,10 @@ returns-clause-size g c =
     let fresh : size c.replace-done.new.dest ≡ 0 = ap size c.replace-done.ensures.after ∙ c.start-next.ensures.size in
     let done : size c.replace-done.result ≡ size old.current = ap size c.replace-done.ensures.value ∙ same in
     omega (arith, weight_pushed f c.put.new.items.items old.items.items v items, fresh, done, c.take-value.ensures.weight)
+
+pub returns-else-allowed-clause-refused : goal.returns-else-allowed-clause-refused
+returns-else-allowed-clause-refused g c rest v h =
+    let same = c.in-Err.ensures.items in
+    let allowed : c.allows-allowed.result ≡ true = c.allows-allowed.ensures.1 (rest, v, rw same h) in
+    let differs = c.if-allowed.false in
+    absurd {A = ⊥} (cc)
