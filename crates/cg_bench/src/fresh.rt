@@ -1,0 +1,54 @@
+//! New tokens of the values that cgroup files hold.
+use cg_join::{LimitText, Lines, NumberStart, Repeat};
+use cg_text::{DecimalText, SignedText};
+use std::alloc::Global;
+
+/// A number of `memory.stat`.
+pub fn decimal() -> DecimalText {
+    match DecimalText::new(0, u64::MAX) {
+        Some(token) => token,
+        None => unreachable!(),
+    }
+}
+
+/// A number of `cpu.weight`.
+pub fn weight() -> DecimalText {
+    match DecimalText::new(1, 10000) {
+        Some(token) => token,
+        None => unreachable!(),
+    }
+}
+
+/// The number of `cpu.weight.nice`.
+pub fn niceness() -> SignedText {
+    match SignedText::new(-20, 19) {
+        Some(token) => token,
+        None => unreachable!(),
+    }
+}
+
+/// The number of `memory.high`.
+pub fn limit() -> LimitText {
+    match LimitText::new(0, u64::MAX) {
+        Some(token) => token,
+        None => unreachable!(),
+    }
+}
+
+/// The quota of `cpu.max`.
+pub fn quota() -> LimitText {
+    match LimitText::new(1000, u64::MAX) {
+        Some(token) => token,
+        None => unreachable!(),
+    }
+}
+
+/// Numbers with commas between.
+pub fn joined(alloc: Global) -> Repeat<DecimalText, NumberStart> {
+    Repeat::new(alloc, NumberStart::new(0, 4095), b',')
+}
+
+/// Numbers, one a line, as in `cgroup.procs`.
+pub fn lines(alloc: Global) -> Lines<DecimalText, NumberStart> {
+    Lines::new(alloc, NumberStart::new(1, 4194304), b'\n')
+}
