@@ -48,3 +48,5 @@ pub use word::WordText;
 
 #[cfg(test)]
 mod spelled;
+#[cfg(test)]
+mod tests;
