@@ -63,7 +63,13 @@ type Stats = DistinctPairs<WordText, DecimalText, WordStart, NumberStart, StatPa
 
 /// Words and numbers, a space before each, no word twice.
 fn stats(alloc: Global) -> Stats {
-    DistinctPairs::new(alloc, WordStart::new(alloc, false), NumberStart::new(0, u64::MAX), b' ', b'=')
+    DistinctPairs::new(
+        alloc,
+        WordStart::new(alloc, false),
+        NumberStart::new(0, u64::MAX),
+        b' ',
+        b'=',
+    )
 }
 
 /// The bytes of keys, each with a slash after it.
@@ -95,10 +101,22 @@ fn are_keys(alloc: Global, found: Option<Items<Key>>, wanted: &[u8]) -> bool {
 
 #[test]
 fn distinct_words(rt: HostRuntime) {
-    assert!(rt; are_keys(rt.alloc(), value(spaced_words(rt.alloc()), b"cpuset cpu io"), b"cpuset/cpu/io/"));
+    assert!(rt;
+        are_keys(
+            rt.alloc(),
+            value(spaced_words(rt.alloc()), b"cpuset cpu io"),
+            b"cpuset/cpu/io/"
+        )
+    );
     assert!(rt; is_cut(spaced_words(rt.alloc()), b"cpu cpu"));
     assert!(rt; is_cut(spaced_words(rt.alloc()), b"cpu "));
-    assert!(rt; are_keys(rt.alloc(), value(spaced_words(rt.alloc()), b"cpu cpuset"), b"cpu/cpuset/"));
+    assert!(rt;
+        are_keys(
+            rt.alloc(),
+            value(spaced_words(rt.alloc()), b"cpu cpuset"),
+            b"cpu/cpuset/"
+        )
+    );
     assert_eq!(rt; refused(spaced_words(rt.alloc()), b"cpu cpu io"), Some(7));
     assert_eq!(rt; refused(spaced_words(rt.alloc()), b" cpu"), Some(0));
     assert_eq!(rt; held(spaced_words(rt.alloc()), b"cpu io"), Some(6));

@@ -1,4 +1,4 @@
--- What becomes of bytes that are to be a key.
+-- What becomes of bytes that are to be a key (cgroup-v2.rst, "Format": the KEY of flat and nested keyed files).
 use Rattle.std.specs.Prelude.{◌≡◌, ℕ, List, Ok, Err}
 use Rattle.std.specs.declared.result.Result.{Result}
 use Rattle.cg_text.specs.Word.{IsWord}

@@ -379,6 +379,11 @@ mod tests {
         for (text, end, whole) in rows {
             assert_eq!(rt; reach(LimitPairsText::new(), text), (end, whole));
         }
+        Ok(())
+    }
+
+    #[test]
+    fn limit_pairs_values(rt: HostRuntime) -> Result<(), Fail> {
         assert_eq!(rt;
             value(LimitPairsText::new(), b"wbps=7 rbps=max".as_slice()),
             Some(LimitPairs {
