@@ -6,7 +6,7 @@ ghost use Rattle.cg_text.specs.Amount.{IsAmount};
 use crate::choice::{Choice, Either};
 use crate::mapped::{Mapped, Turn};
 use cg_text::{
-    Amount, DecimalText, Keyword, KeywordText, Form, Hundredths, HundredthsText, OutOfMemory, Token,
+    Amount, DecimalText, Form, Hundredths, HundredthsText, Keyword, KeywordText, OutOfMemory, Token,
 };
 
 /// The amount of a choice.
@@ -79,6 +79,7 @@ impl Token for AmountText {
 
     ghost grows = { false };
 
+    #[inline(always)]
     fn step(&mut self, byte: u8) -> Result<bool, OutOfMemory> {
         self.parts.step(byte)
     }

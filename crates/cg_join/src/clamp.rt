@@ -5,7 +5,7 @@ ghost use Rattle.cg_text.specs.Clamp.{IsClamp};
 
 use crate::choice::{Choice, Either};
 use crate::mapped::{Mapped, Turn};
-use cg_text::{Clamp, Keyword, KeywordText, Form, Hundredths, HundredthsText, OutOfMemory, Token};
+use cg_text::{Clamp, Form, Hundredths, HundredthsText, Keyword, KeywordText, OutOfMemory, Token};
 
 /// The clamp of a choice.
 #[derive(Clone, Copy)]
@@ -74,6 +74,7 @@ impl Token for ClampText {
 
     ghost grows = { false };
 
+    #[inline(always)]
     fn step(&mut self, byte: u8) -> Result<bool, OutOfMemory> {
         self.parts.step(byte)
     }
