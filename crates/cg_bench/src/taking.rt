@@ -2,7 +2,6 @@
 use crate::work::Work;
 use cg_text::Token;
 use std::alloc::{AllocError, Global};
-use std::mem;
 
 /// The byte that ends each text, and stands in none.
 const END: u8 = b'|';
@@ -38,11 +37,11 @@ pub fn take_all<T: Token, F: Fn() -> T>(fresh: F, text: &[u8], count: &mut Count
     let mut token = fresh();
     for byte in text {
         if *byte == END {
-            let done = mem::replace(&mut token, fresh());
-            if done.can_end() {
-                let _value = done.take();
+            if token.can_end() {
+                let _value = token.take();
                 values = values.wrapping_add(1);
             }
+            token = fresh();
         } else {
             match token.step(*byte) {
                 Ok(true) => bytes = bytes.wrapping_add(1),

@@ -79,6 +79,7 @@ impl Token for AmountText {
 
     ghost grows = { false };
 
+    #[inline(always)]
     fn step(&mut self, byte: u8) -> Result<bool, OutOfMemory> {
         self.parts.step(byte)
     }

@@ -53,6 +53,7 @@ impl Token for DeviceText {
 
     ghost grows = { false };
 
+    #[inline(always)]
     fn step(&mut self, byte: u8) -> Result<bool, OutOfMemory> {
         match self.parts.step(byte) {
             Ok(true) => Ok(true),

@@ -74,6 +74,7 @@ impl Token for LimitText {
 
     ghost grows = { false };
 
+    #[inline(always)]
     fn step(&mut self, byte: u8) -> Result<bool, OutOfMemory> {
         self.parts.step(byte)
     }

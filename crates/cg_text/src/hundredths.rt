@@ -93,6 +93,7 @@ fn whole_part(most: u64, progress: Progress) -> u64
 }
 
 /// The state after one more byte, where some rest begins with it.
+#[inline(always)]
 fn after(form: Form, most: u64, part: Part, byte: u8) -> Option<Part>
     requires { IsWithin most part }
     ensures follows { MatchOption result (NoneBegins (HundredthsRest form most) part byte) (Follows (HundredthsRest form most) part byte) }
@@ -153,6 +154,7 @@ impl Token for HundredthsText {
 
     ghost grows = { false };
 
+    #[inline(always)]
     fn step(&mut self, byte: u8) -> Result<bool, OutOfMemory> {
         match after(self.form, self.most, self.part, byte) {
             Some(part) => {
