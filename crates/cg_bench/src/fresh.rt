@@ -4,7 +4,7 @@ use cg_text::{DecimalText, SignedText};
 use std::alloc::Global;
 
 /// A number of `memory.stat`.
-pub fn decimal() -> DecimalText {
+pub(crate) fn decimal() -> DecimalText {
     match DecimalText::new(0, u64::MAX) {
         Some(token) => token,
         None => unreachable!(),
@@ -12,7 +12,7 @@ pub fn decimal() -> DecimalText {
 }
 
 /// A number of `cpu.weight`.
-pub fn weight() -> DecimalText {
+pub(crate) fn weight() -> DecimalText {
     match DecimalText::new(1, 10000) {
         Some(token) => token,
         None => unreachable!(),
@@ -20,7 +20,7 @@ pub fn weight() -> DecimalText {
 }
 
 /// The number of `cpu.weight.nice`.
-pub fn niceness() -> SignedText {
+pub(crate) fn niceness() -> SignedText {
     match SignedText::new(-20, 19) {
         Some(token) => token,
         None => unreachable!(),
@@ -28,7 +28,7 @@ pub fn niceness() -> SignedText {
 }
 
 /// The number of `memory.high`.
-pub fn limit() -> LimitText {
+pub(crate) fn limit() -> LimitText {
     match LimitText::new(0, u64::MAX) {
         Some(token) => token,
         None => unreachable!(),
@@ -36,7 +36,7 @@ pub fn limit() -> LimitText {
 }
 
 /// The quota of `cpu.max`.
-pub fn quota() -> LimitText {
+pub(crate) fn quota() -> LimitText {
     match LimitText::new(1000, u64::MAX) {
         Some(token) => token,
         None => unreachable!(),
@@ -44,11 +44,11 @@ pub fn quota() -> LimitText {
 }
 
 /// Numbers with commas between.
-pub fn joined(alloc: Global) -> Repeat<DecimalText, NumberStart> {
+pub(crate) fn joined(alloc: Global) -> Repeat<DecimalText, NumberStart> {
     Repeat::new(alloc, NumberStart::new(0, 4095), b',')
 }
 
 /// Numbers, one a line, as in `cgroup.procs`.
-pub fn lines(alloc: Global) -> Lines<DecimalText, NumberStart> {
+pub(crate) fn lines(alloc: Global) -> Lines<DecimalText, NumberStart> {
     Lines::new(alloc, NumberStart::new(1, 4194304), b'\n')
 }

@@ -11,13 +11,13 @@ const LENGTH: usize = 1048576;
 
 /// What was taken.
 #[derive(Clone, Copy, Drop)]
-pub struct Count {
+pub(crate) struct Count {
     pub bytes: u64,
     pub values: u64,
 }
 
 /// The sample's texts, again and again.
-pub fn laid(alloc: Global, sample: &[u8]) -> Result<Vec<u8>, AllocError> {
+pub(crate) fn laid(alloc: Global, sample: &[u8]) -> Result<Vec<u8>, AllocError> {
     let mut text = Vec::new(alloc);
     for _ in 0..LENGTH {
         if text.len() >= LENGTH {
@@ -29,7 +29,7 @@ pub fn laid(alloc: Global, sample: &[u8]) -> Result<Vec<u8>, AllocError> {
 }
 
 /// Takes each text with a new token, and adds to the count.
-pub fn take_all<T: Token, F: Fn() -> T>(fresh: F, text: &[u8], count: &mut Count)
+pub(crate) fn take_all<T: Token, F: Fn() -> T>(fresh: F, text: &[u8], count: &mut Count)
     requires { F.IsAlwaysCallable fresh }
 {
     let mut bytes = count.bytes;
@@ -54,7 +54,7 @@ pub fn take_all<T: Token, F: Fn() -> T>(fresh: F, text: &[u8], count: &mut Count
 }
 
 /// Takes all texts so often.
-pub fn take_often(alloc: Global, work: Work, text: &[u8], times: u64) -> Count {
+pub(crate) fn take_often(alloc: Global, work: Work, text: &[u8], times: u64) -> Count {
     let mut count = Count {
         bytes: 0,
         values: 0,

@@ -10,7 +10,7 @@ use std::alloc::Global;
 
 /// The token whose texts are taken.
 #[derive(Clone, Copy)]
-pub enum Work {
+pub(crate) enum Work {
     Decimal,
     Weight,
     Signed,
@@ -63,7 +63,7 @@ pub const WORKS: [Work; 22] = [
 
 impl Work {
     /// The word that names the work.
-    pub fn name(self) -> &'static str {
+    pub(crate) fn name(self) -> &'static str {
         match self {
             Work::Decimal => "decimal",
             Work::Weight => "weight",
@@ -91,7 +91,7 @@ impl Work {
     }
 
     /// Texts of the token, each with a bar behind it.
-    pub fn sample(self) -> &'static [u8] {
+    pub(crate) fn sample(self) -> &'static [u8] {
         match self {
             Work::Decimal => {
                 b"0|4096|33554432|1073741824|18446744073709551615|512|1733184512|98304|7|254803968|"
@@ -123,7 +123,7 @@ impl Work {
     }
 
     /// Takes the texts, and adds to the count.
-    pub fn take(self, alloc: Global, text: &[u8], count: &mut Count) {
+    pub(crate) fn take(self, alloc: Global, text: &[u8], count: &mut Count) {
         match self {
             Work::Decimal => take_all(|| fresh::decimal(), text, count),
             Work::Weight => take_all(|| fresh::weight(), text, count),
