@@ -37,11 +37,15 @@ impl Pairing<WordText, DecimalText> for StatPairing {
 
     ghost paired = { λ word number. record { key = word; number = number } };
 
-    fn pair(word: Key, value: u64) -> Stat {
+    fn begin(word: Key) -> Stat {
         Stat {
             key: word,
-            number: value,
+            number: 0,
         }
+    }
+
+    fn complete(pair: &mut Stat, value: u64) {
+        pair.number = value;
     }
 
     fn word(pair: &Stat) -> &Key {
@@ -63,7 +67,13 @@ type Stats = DistinctPairs<WordText, DecimalText, WordStart, NumberStart, StatPa
 
 /// Words and numbers, a space before each, no word twice.
 fn stats(alloc: Global) -> Stats {
-    DistinctPairs::new(alloc, WordStart::new(alloc, false), NumberStart::new(0, u64::MAX), b' ', b'=')
+    DistinctPairs::new(
+        alloc,
+        WordStart::new(alloc, false),
+        NumberStart::new(0, u64::MAX),
+        b' ',
+        b'=',
+    )
 }
 
 /// The bytes of keys, each with a slash after it.
@@ -95,10 +105,22 @@ fn are_keys(alloc: Global, found: Option<Items<Key>>, wanted: &[u8]) -> bool {
 
 #[test]
 fn distinct_words(rt: HostRuntime) {
-    assert!(rt; are_keys(rt.alloc(), value(spaced_words(rt.alloc()), b"cpuset cpu io"), b"cpuset/cpu/io/"));
+    assert!(rt;
+        are_keys(
+            rt.alloc(),
+            value(spaced_words(rt.alloc()), b"cpuset cpu io"),
+            b"cpuset/cpu/io/"
+        )
+    );
     assert!(rt; is_cut(spaced_words(rt.alloc()), b"cpu cpu"));
     assert!(rt; is_cut(spaced_words(rt.alloc()), b"cpu "));
-    assert!(rt; are_keys(rt.alloc(), value(spaced_words(rt.alloc()), b"cpu cpuset"), b"cpu/cpuset/"));
+    assert!(rt;
+        are_keys(
+            rt.alloc(),
+            value(spaced_words(rt.alloc()), b"cpu cpuset"),
+            b"cpu/cpuset/"
+        )
+    );
     assert_eq!(rt; refused(spaced_words(rt.alloc()), b"cpu cpu io"), Some(7));
     assert_eq!(rt; refused(spaced_words(rt.alloc()), b" cpu"), Some(0));
     assert_eq!(rt; held(spaced_words(rt.alloc()), b"cpu io"), Some(6));
@@ -123,5 +145,16 @@ fn pairs(rt: HostRuntime) {
     assert_eq!(rt; refused(stats(rt.alloc()), b" N0=1 N0=2"), Some(8));
     assert_eq!(rt; refused(stats(rt.alloc()), b" N0=1  N1=2"), Some(6));
     assert_eq!(rt; refused(stats(rt.alloc()), b" =1"), Some(1));
+}
+
+#[test]
+fn held_by_pairs(rt: HostRuntime) {
+    assert_eq!(rt; held(stats(rt.alloc()), b""), Some(0));
+    assert_eq!(rt; held(stats(rt.alloc()), b" "), Some(0));
+    assert_eq!(rt; held(stats(rt.alloc()), b" N0"), Some(2));
+    assert_eq!(rt; held(stats(rt.alloc()), b" N0="), Some(3));
+    assert_eq!(rt; held(stats(rt.alloc()), b" N0=17"), Some(3));
+    assert_eq!(rt; held(stats(rt.alloc()), b" N0=17 "), Some(3));
+    assert_eq!(rt; held(stats(rt.alloc()), b" N0=17 N"), Some(4));
     assert_eq!(rt; held(stats(rt.alloc()), b" N0=1 N1=2"), Some(6));
 }
