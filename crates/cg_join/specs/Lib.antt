@@ -23,6 +23,8 @@ pub mod MappedLaws
 pub mod MaxLaws
 pub mod Pairs
 pub mod PairsLaws
+pub mod PairsState
+pub mod PairsStateLaws
 pub mod Reading
 pub mod ReadingLaws
 pub mod Repeat

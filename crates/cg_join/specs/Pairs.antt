@@ -46,9 +46,3 @@ ArePairsAfter word stage items P R separator rest all = AreLedAfter stage items 
 -- The vectors in a pair.
 abbrev pub pair_weight : {V W X : Type 0} → (X → V) → (X → W) → (V → ℕ) → (W → ℕ) → X → ℕ
 pair_weight word value f g p = f (word p) + g (value p)
-
--- The place of a pair that is begun.
-abbrev pub stage_place : Stage → ℕ
-stage_place Before = 0
-stage_place InWord = 1
-stage_place InValue = 1

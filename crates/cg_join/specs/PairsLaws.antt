@@ -106,17 +106,6 @@ module _ {V W X : Type 0} (word : X → V) (value : X → W) (K : List ℕ → V
   pub value_stops : (D : List ℕ → W → Type 0) (separator : ℕ) → Stops D separator → Stops (PairRest word value K D InValue mark) separator
   value_stops D separator stops front more p q h k = stops front more (value p) (value q) h.1 k.1
 
-  -- Whatever the stage is.
-  pub rest_stops : (D : List ℕ → W → Type 0) (stage : Stage) (separator : ℕ) → LacksByte K mark → Stops D separator → Stops (PairRest word value K D stage mark) separator
-  rest_stops D Before separator lacks stops = pair_stops word value mark K D separator lacks stops
-  rest_stops D InWord separator lacks stops = pair_stops word value mark K D separator lacks stops
-  rest_stops D InValue separator lacks stops = value_stops D separator stops
-
-  pub rest_bytes : (D : List ℕ → W → Type 0) (stage : Stage) → mark < 256 → ((text : List ℕ) (v : V) → K text v → AreBytes text) → ((text : List ℕ) (w : W) → D text w → AreBytes text) → (text : List ℕ) (p : X) → PairRest word value K D stage mark text p → AreBytes text
-  rest_bytes D Before small f g text p h = pair_bytes word value mark K D small f g text p h
-  rest_bytes D InWord small f g text p h = pair_bytes word value mark K D small f g text p h
-  rest_bytes D InValue small f g text p h = g text (value p) h.1
-
   module _ (paired : V → W → X) (whole : (p : X) → paired (word p) (value p) ≡ p) where
     pub same_pair : (p q : X) → word p ≡ word q → value p ≡ value q → p ≡ q
     same_pair p q e f = sym (whole p) ∙ (ap (λ v. paired v (value p)) e ∙ ap (λ w. paired (word q) w) f) ∙ whole q
@@ -126,10 +115,8 @@ module _ {V W X : Type 0} (word : X → V) (value : X → W) (K : List ℕ → V
         let s = pair_cut word value mark K D D lacks text p q h k in
         same_pair p q (one k.front (word p) (word q) (rw (← s.0) h.begins) k.begins) (two k.back (value p) (value q) (rw (← s.1) h.ends) k.ends)
 
-    pub rest_one : (D : List ℕ → W → Type 0) (stage : Stage) → LacksByte K mark → HasOneText K → HasOneText D → HasOneText (PairRest word value K D stage mark)
-    rest_one D Before lacks one two = pair_one D lacks one two
-    rest_one D InWord lacks one two = pair_one D lacks one two
-    rest_one D InValue lacks one two = λ text p q h k. same_pair p q (one [] (word p) (word q) h.0 k.0) (two text (value p) (value q) h.1 k.1)
+    pub value_one : (D : List ℕ → W → Type 0) → ((v u : V) → K [] v → K [] u → v ≡ u) → HasOneText D → HasOneText (PairRest word value K D InValue mark)
+    value_one D one two = λ text p q h k. same_pair p q (one (word p) (word q) h.0 k.0) (two text (value p) (value q) h.1 k.1)
 
 -- Texts with a separator before each.
 module _ {X : Type 0} (separator : ℕ) where
@@ -335,10 +322,11 @@ module _ {V W X : Type 0} (word : X → V) (value : X → W) (mark separator : �
     pub old_word_refused : (rest : List ℕ) (all : List X) → ArePairsAfter word InWord items (IsPairText word value K D mark) R separator (mark ∷ rest) all → ⊥
     old_word_refused rest all h = old_list rest h.0.0 h.0.2 (rw h.0.1 at h.1)
 
-  -- The mark, where the word ends.
-  pub mark_step : LacksByte K mark → Stops D separator → ((more : List ℕ) × (p : X) × PairRest word value K D InValue mark more p) → (rest : List ℕ) (all : List X) →
-      ArePairsAfter word InValue items (PairRest word value K D InValue mark) R separator rest all ↔ ArePairsAfter word InWord items (IsPairText word value K D mark) R separator (mark ∷ rest) all
-  mark_step lacks stops c rest all = with_distinct (list_taken separator (IsPairText word value K D mark) (PairRest word value K D InValue mark) R mark (pair_stops word value mark K D separator lacks stops) c (mark_taken word value mark K D lacks) items rest all)
+  -- The mark, where the word ends. K' is of the word alone.
+  pub mark_step : (K' : List ℕ → V → Type 0) → ((v : V) → K' [] v ↔ K [] v) → LacksByte K mark → Stops D separator → ((more : List ℕ) × (p : X) × PairRest word value K' D InValue mark more p) → (rest : List ℕ) (all : List X) →
+      ArePairsAfter word InValue items (PairRest word value K' D InValue mark) R separator rest all ↔ ArePairsAfter word InWord items (IsPairText word value K D mark) R separator (mark ∷ rest) all
+  mark_step K' same lacks stops c rest all = with_distinct (list_taken separator (IsPairText word value K D mark) (PairRest word value K' D InValue mark) R mark (pair_stops word value mark K D separator lacks stops) c
+      (λ t p. (λ h. (mark_taken word value mark K D lacks t p).0 ((same (word p)).0 h.0, h.1), λ h. (let k = (mark_taken word value mark K D lacks t p).1 h in ((same (word p)).1 k.0, k.1)))) items rest all)
 
   -- A byte of the value.
   pub value_step : (D' : List ℕ → W → Type 0) (b : ℕ) → Stops D separator → ((more : List ℕ) × (p : X) × PairRest word value K D' InValue mark more p) → ((rest : List ℕ) (w : W) → D' rest w ↔ D (b ∷ rest) w) → (rest : List ℕ) (all : List X) →
@@ -359,8 +347,8 @@ module _ {V W X : Type 0} (word : X → V) (value : X → W) (mark separator : �
   pair_step F p k d one none f rest all = with_distinct (list_next separator (PairRest word value K D InValue mark) F R p (k, d) one (λ t q h. none t (value q) h.1) f items rest all)
 
   -- The pairs at the end of a text.
-  pub pairs_value : (p : X) (all : List X) → all ≡ items ++ p ∷ [] → K [] (word p) → D [] (value p) → AreDistinct (map word items) → LacksValue (word p) (map word items) → ArePairsAfter word InValue items (PairRest word value K D InValue mark) R separator [] all
-  pairs_value p all e k d distinct lacks = ((p ∷ [], e, (k, d)), words_pushed word items all p e distinct lacks)
+  pub pairs_value : (p : X) (all : List X) → all ≡ items ++ p ∷ [] → K [] (word p) → D [] (value p) → AreDistinct (map word all) → ArePairsAfter word InValue items (PairRest word value K D InValue mark) R separator [] all
+  pairs_value p all e k d distinct = ((p ∷ [], e, (k, d)), distinct)
 
 -- Which bytes come next.
 module _ {V W X : Type 0} (word : X → V) (value : X → W) (paired : V → W → X) (has_word : (v : V) (w : W) → word (paired v w) ≡ v) (has_value : (v : V) (w : W) → value (paired v w) ≡ w)

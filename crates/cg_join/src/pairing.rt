@@ -1,9 +1,10 @@
 //! Pairs of a word and a value.
-ghost use Rattle.std.specs.Prelude.{◌≡◌, ℕ, ◌+◌, ◌≤◌, ◌<◌, Bool, List, [], ◌++◌, ◌∷◌, IsTrue, map, vec_len, vec_capacity, not, ◌&&◌};
+ghost use Rattle.std.specs.Prelude.{◌≡◌, ℕ, ◌+◌, ◌≤◌, ◌<◌, Bool, List, [], ◌++◌, ◌∷◌, IsTrue, map, length, vec_len, vec_capacity, not, ◌&&◌};
 ghost use Rattle.cg_text.specs.Token.{Spells, told};
 ghost use Rattle.cg_join.specs.Repeat.{items_weight};
 ghost use Rattle.cg_join.specs.Distinct.{any_value};
 ghost use Rattle.cg_join.specs.Pairs.{pair_weight};
+ghost use Rattle.cg_join.specs.PairsState.{IsCompleted};
 
 use crate::peek::Peek;
 use crate::start::Start;
@@ -24,9 +25,15 @@ pub trait Pairing<K: Token, V: Token> {
     /// The pair of the two.
     ghost paired: { K.Out → V.Out → Self.Pair };
 
-    /// Makes the pair. It takes no memory.
-    fn pair(word: K::Out, value: V::Out) -> Self::Pair
-        ensures { result ≡ paired word value };
+    /// A pair of the word, its value still to come. What stands in the value's place has no element in a vector.
+    /// It takes no memory.
+    fn begin(word: K::Out) -> Self::Pair
+        ensures word { word_of result ≡ word }
+        ensures weight { V.weight (value_of result) ≡ 0 };
+
+    /// Gives the pair its value. It takes no memory.
+    fn complete(pair: &mut Self::Pair, value: V::Out)
+        ensures { pair.new ≡ paired (word_of pair.old) value };
 
     /// The word of a pair.
     fn word(pair: &Self::Pair) -> &K::Out
@@ -56,6 +63,24 @@ pub(crate) fn is_new_word<K: Peek, V: Token, F: Pairing<K, V>>(items: &[F::Pair]
         }
     }
     true
+}
+
+/// Gives the last pair its value.
+pub(crate) fn complete_last<K: Token, V: Token, F: Pairing<K, V>>(
+    items: &mut Vec<F::Pair>,
+    value: V::Out,
+)
+    requires { 0 < length items.old.items }
+    ensures { IsCompleted F.word_of F.value_of items.old.items value items.new.items }
+{
+    match items.pop() {
+        Some(last) => {
+            let mut pair = last;
+            F::complete(&mut pair, value);
+            put(items, pair);
+        }
+        None => unreachable!(),
+    }
 }
 
 /// The sum of the lengths of the vectors in pairs, and a place for each.

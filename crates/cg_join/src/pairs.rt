@@ -1,14 +1,15 @@
 //! Any number of pairs of a word and a value, the words all different.
-ghost use Rattle.std.specs.Prelude.{◌≡◌, ℕ, ◌+◌, ◌≤◌, ◌<◌, ◌↔◌, Bool, true, false, not, ◌&&◌, List, [], ◌++◌, ◌∷◌, IsTrue, IsFalse, map, vec_len, vec_capacity};
-ghost use Rattle.cg_text.specs.Token.{Spells, told};
+ghost use Rattle.std.specs.Prelude.{◌≡◌, ℕ, ◌+◌, ◌≤◌, ◌<◌, ◌↔◌, Bool, true, false, List, [], ◌++◌, ◌∷◌, IsTrue, map, length};
+ghost use Rattle.cg_text.specs.Token.{Follows, IfRefused, IfTaken, NoneBegins, Same, Spells, UnlessTaken, told};
 ghost use Rattle.cg_join.specs.Repeat.{Stops, items_weight};
 ghost use Rattle.cg_join.specs.Line.{LacksByte};
-ghost use Rattle.cg_join.specs.Distinct.{AreDistinct, any_value};
+ghost use Rattle.cg_join.specs.Distinct.{AreDistinct};
 ghost use Rattle.cg_join.specs.DistinctLaws.{AreDistinct_prop};
-ghost use Rattle.cg_join.specs.Pairs.{IsPairText, PairRest, ArePairs, ArePairsAfter, pair_weight, stage_place};
+ghost use Rattle.cg_join.specs.Pairs.{IsPairText, PairRest, ArePairs, ArePairsAfter, pair_weight};
+ghost use Rattle.cg_join.specs.PairsState.{WordAtHand, last_weight, whole_pairs};
 ghost use Rattle.cg_join.specs.declared.pairs.Stage.TheVariants.{Before, InWord, InValue};
 
-use crate::pairing::{Pairing, is_new_word, renew, weight_of_pairs};
+use crate::pairing::{Pairing, complete_last, is_new_word, renew, weight_of_pairs};
 use crate::peek::{Peek, StartNew};
 use crate::start::Start;
 use crate::store::{make_room, put};
@@ -28,14 +29,14 @@ pub enum Stage {
 }
 
 /// Any number of pairs, also none, each a separator, a word, a mark and a value. No word comes twice:
-/// one may be followed by the mark, which no word has, only where it is new. A pair that is begun is counted
-/// among the held elements from its separator on.
+/// one may be followed by the mark, which no word has, only where it is new.
 #[derive(Drop)]
 pub struct DistinctPairs<K: Peek, V: Token, A: StartNew<K>, B: Start<V>, F: Pairing<K, V>> {
     words: A,
     values: B,
     separator: u8,
     mark: u8,
+    /// In a value, the last pair is that of the value.
     items: Vec<F::Pair>,
     stage: Stage,
     word: K,
@@ -49,9 +50,8 @@ pub struct DistinctPairs<K: Peek, V: Token, A: StartNew<K>, B: Start<V>, F: Pair
     ghost values_stop: { Stops (B.texts values) separator },
     ghost small_separator: { separator < 256 },
     ghost small_mark: { mark < 256 },
-    ghost ended: { stage ≡ InValue → IsTrue (K.ends word) },
-    ghost fresh: { stage ≡ InValue → IsFalse (any_value (K.is_value word) (map F.word_of items.items)) },
-    ghost room: { stage ≡ InValue → vec_len items < vec_capacity items },
+    ghost begun: { stage ≡ InValue → 0 < length items.items },
+    ghost awaits: { stage ≡ InValue → last_weight (λ p. V.weight (F.value_of p)) items.items ≡ 0 },
     ghost distinct: { AreDistinct (map F.word_of items.items) } by { AreDistinct_prop (map F.word_of items.items) },
 }
 
@@ -90,6 +90,65 @@ impl<K: Peek, V: Token, A: StartNew<K>, B: Start<V>, F: Pairing<K, V>> DistinctP
             pairing: PhantomData,
         }
     }
+    /// Takes a byte of a word, or the mark after it.
+    fn step_word(&mut self, byte: u8) -> Result<bool, OutOfMemory>
+        requires { self.old.stage ≡ InWord }
+        ensures taken { IfTaken result (Follows ⟦<DistinctPairs<K, V, A, B, F> as Token>⟧.means self.old byte self.new) }
+        ensures refused { IfRefused result (NoneBegins ⟦<DistinctPairs<K, V, A, B, F> as Token>⟧.means self.old byte) }
+        ensures same { UnlessTaken result (Same ⟦<DistinctPairs<K, V, A, B, F> as Token>⟧.means self.old self.new) }
+        ensures same_size { UnlessTaken result (⟦<DistinctPairs<K, V, A, B, F> as Token>⟧.size self.new ≡ ⟦<DistinctPairs<K, V, A, B, F> as Token>⟧.size self.old) }
+        ensures size { ⟦<DistinctPairs<K, V, A, B, F> as Token>⟧.size self.new ≤ ⟦<DistinctPairs<K, V, A, B, F> as Token>⟧.size self.old + 1 }
+    {
+        if byte != self.mark {
+            return self.word.step(byte);
+        }
+        if !self.word.can_end() {
+            return Ok(false);
+        }
+        if !is_new_word::<K, V, F>(self.items.as_slice(), &self.word) {
+            return Ok(false);
+        }
+        match make_room(&mut self.items) {
+            Ok(()) => {}
+            Err(e) => return Err(e),
+        }
+        let word = renew(&mut self.word, &self.words);
+        let weight = K::weight_of(&word);
+        put(&mut self.items, F::begin(word));
+        self.kept = self.kept.saturating_add(1).saturating_add(weight);
+        self.stage = Stage::InValue;
+        Ok(true)
+    }
+
+    /// Takes a byte of a value, or the separator after it.
+    fn step_value(&mut self, byte: u8) -> Result<bool, OutOfMemory>
+        requires { self.old.stage ≡ InValue }
+        ensures taken { IfTaken result (Follows ⟦<DistinctPairs<K, V, A, B, F> as Token>⟧.means self.old byte self.new) }
+        ensures refused { IfRefused result (NoneBegins ⟦<DistinctPairs<K, V, A, B, F> as Token>⟧.means self.old byte) }
+        ensures same { UnlessTaken result (Same ⟦<DistinctPairs<K, V, A, B, F> as Token>⟧.means self.old self.new) }
+        ensures same_size { UnlessTaken result (⟦<DistinctPairs<K, V, A, B, F> as Token>⟧.size self.new ≡ ⟦<DistinctPairs<K, V, A, B, F> as Token>⟧.size self.old) }
+        ensures size { ⟦<DistinctPairs<K, V, A, B, F> as Token>⟧.size self.new ≤ ⟦<DistinctPairs<K, V, A, B, F> as Token>⟧.size self.old + 1 }
+    {
+        match self.value.step(byte) {
+            Ok(true) => return Ok(true),
+            Ok(false) => {}
+            Err(e) => return Err(e),
+        }
+        if byte != self.separator {
+            return Ok(false);
+        }
+        if !self.value.can_end() {
+            return Ok(false);
+        }
+        let value = renew(&mut self.value, &self.values);
+        let weight = V::weight_of(&value);
+        complete_last::<K, V, F>(&mut self.items, value);
+        self.kept = self.kept.saturating_add(weight);
+        // The token is as new, but what it takes is known only of one that is made here.
+        self.word = self.words.start();
+        self.stage = Stage::InWord;
+        Ok(true)
+    }
 }
 
 impl<K: Peek, V: Token, A: StartNew<K>, B: Start<V>, F: Pairing<K, V>> Token
@@ -97,11 +156,12 @@ impl<K: Peek, V: Token, A: StartNew<K>, B: Start<V>, F: Pairing<K, V>> Token
     type Out = Items<F::Pair>;
 
     ghost use Rattle.cg_join.specs.RepeatLaws.{true_not_false};
-    ghost use Rattle.cg_join.specs.PairsLaws.{ends_at, led_after_bytes, led_after_one, new_word, pair_bytes, pair_one, pair_stops, pairs_completes, pairs_ends, rest_bytes, rest_one, rest_stops};
+    ghost use Rattle.cg_join.specs.PairsLaws.{ends_at, led_after_bytes, led_after_one, pair_bytes, pair_one, pair_stops};
+    ghost use Rattle.cg_join.specs.PairsStateLaws.{state_bytes, state_completes, state_ends, state_one, state_stops};
 
-    ghost means = { λ s rest all. ArePairsAfter F.word_of s.stage s.items.items (PairRest F.word_of F.value_of (K.means s.word) (V.means s.value) s.stage s.mark) (IsPairText F.word_of F.value_of (A.texts s.words) (B.texts s.values) s.mark) s.separator rest all };
+    ghost means = { λ s rest all. ArePairsAfter F.word_of s.stage (whole_pairs s.stage s.items.items) (PairRest F.word_of F.value_of (WordAtHand F.word_of s.stage s.items.items (K.means s.word)) (V.means s.value) s.stage s.mark) (IsPairText F.word_of F.value_of (A.texts s.words) (B.texts s.values) s.mark) s.separator rest all };
 
-    ghost size = { λ s. items_weight (pair_weight F.word_of F.value_of K.weight V.weight) s.items.items + (stage_place s.stage + (K.size s.word + V.size s.value)) };
+    ghost size = { λ s. items_weight (pair_weight F.word_of F.value_of K.weight V.weight) s.items.items + (K.size s.word + V.size s.value) };
 
     ghost weight = { items_weight (pair_weight F.word_of F.value_of K.weight V.weight) };
 
@@ -118,43 +178,8 @@ impl<K: Peek, V: Token, A: StartNew<K>, B: Start<V>, F: Pairing<K, V>> Token
                 self.stage = Stage::InWord;
                 Ok(true)
             }
-            Stage::InWord => {
-                if byte != self.mark {
-                    return self.word.step(byte);
-                }
-                if !self.word.can_end() {
-                    return Ok(false);
-                }
-                if !is_new_word::<K, V, F>(self.items.as_slice(), &self.word) {
-                    return Ok(false);
-                }
-                match make_room(&mut self.items) {
-                    Ok(()) => {}
-                    Err(e) => return Err(e),
-                }
-                self.stage = Stage::InValue;
-                Ok(true)
-            }
-            Stage::InValue => {
-                match self.value.step(byte) {
-                    Ok(true) => return Ok(true),
-                    Ok(false) => {}
-                    Err(e) => return Err(e),
-                }
-                if byte != self.separator {
-                    return Ok(false);
-                }
-                if !self.value.can_end() {
-                    return Ok(false);
-                }
-                let word = renew(&mut self.word, &self.words);
-                let value = renew(&mut self.value, &self.values);
-                let weight = K::weight_of(&word).saturating_add(V::weight_of(&value));
-                put(&mut self.items, F::pair(word, value));
-                self.kept = self.kept.saturating_add(1).saturating_add(weight);
-                self.stage = Stage::InWord;
-                Ok(true)
-            }
+            Stage::InWord => self.step_word(byte),
+            Stage::InValue => self.step_value(byte),
         }
     }
 
@@ -187,23 +212,18 @@ impl<K: Peek, V: Token, A: StartNew<K>, B: Start<V>, F: Pairing<K, V>> Token
     }
 
     fn held(&self) -> u64 {
-        let begun = match self.stage {
-            Stage::Before => 0,
-            Stage::InWord | Stage::InValue => 1,
-        };
         let at_hand = self.word.held().saturating_add(self.value.held());
-        self.kept.saturating_add(begun).saturating_add(at_hand)
+        self.kept.saturating_add(at_hand)
     }
 
     fn take(self) -> Items<F::Pair> {
         let mut items = self.items;
-        let word = self.word;
         let value = self.value;
         match self.stage {
             Stage::Before => Items::of(items),
             Stage::InWord => unreachable!(),
             Stage::InValue => {
-                put(&mut items, F::pair(word.take(), value.take()));
+                complete_last::<K, V, F>(&mut items, value.take());
                 Items::of(items)
             }
         }
@@ -213,24 +233,22 @@ impl<K: Peek, V: Token, A: StartNew<K>, B: Start<V>, F: Pairing<K, V>> Token
         weight_of_pairs::<K, V, F>(value.as_slice())
     }
 
-    ghost completes = { λ s. pairs_completes F.word_of F.value_of F.paired F.has_word F.has_value s.items.items (IsPairText F.word_of F.value_of (A.texts s.words) (B.texts s.values) s.mark) s.separator s.mark (K.means s.word) (V.means s.value) s.distinct s.stage
-        (K.longer s.word [] (K.completes s.word) (map F.word_of s.items.items)) (V.completes s.value)
-        (λ e. new_word (K.means s.word) (K.is_value s.word) (K.is_value_is s.word) (map F.word_of s.items.items) (s.fresh e) ((K.ends_is s.word).0 (s.ended e))) };
+    ghost completes = { λ s. state_completes F.word_of F.value_of F.paired F.has_word F.has_value s.items.items (IsPairText F.word_of F.value_of (A.texts s.words) (B.texts s.values) s.mark) s.separator s.mark (K.means s.word) (V.means s.value) s.distinct s.stage
+        (K.longer s.word [] (K.completes s.word) (map F.word_of s.items.items)) (V.completes s.value) s.begun };
 
     ghost no_size = { λ e s. absurd (true_not_false e) };
 
-    ghost ends_is = { λ s. pairs_ends F.word_of F.value_of F.paired F.has_word F.has_value s.items.items (IsPairText F.word_of F.value_of (A.texts s.words) (B.texts s.values) s.mark) s.separator s.mark (K.means s.word) (V.means s.value) s.distinct s.stage (V.ends s.value) (V.ends_is s.value)
-        (λ e. new_word (K.means s.word) (K.is_value s.word) (K.is_value_is s.word) (map F.word_of s.items.items) (s.fresh e) ((K.ends_is s.word).0 (s.ended e))) };
+    ghost ends_is = { λ s. state_ends F.word_of F.value_of F.paired F.has_word F.has_value s.items.items (IsPairText F.word_of F.value_of (A.texts s.words) (B.texts s.values) s.mark) s.separator s.mark (K.means s.word) (V.means s.value) s.distinct s.stage (V.ends s.value) (V.ends_is s.value) s.begun };
 
-    ghost one_value = { λ s rest v w h k. led_after_one s.separator s.stage s.items.items (PairRest F.word_of F.value_of (K.means s.word) (V.means s.value) s.stage s.mark) (IsPairText F.word_of F.value_of (A.texts s.words) (B.texts s.values) s.mark)
-        (rest_stops F.word_of F.value_of (K.means s.word) s.mark (V.means s.value) s.stage s.separator s.lacks s.stops)
+    ghost one_value = { λ s rest v w h k. led_after_one s.separator s.stage (whole_pairs s.stage s.items.items) (PairRest F.word_of F.value_of (WordAtHand F.word_of s.stage s.items.items (K.means s.word)) (V.means s.value) s.stage s.mark) (IsPairText F.word_of F.value_of (A.texts s.words) (B.texts s.values) s.mark)
+        (state_stops F.word_of F.value_of (K.means s.word) s.mark s.items.items (V.means s.value) s.stage s.separator s.lacks s.stops)
         (pair_stops F.word_of F.value_of s.mark (A.texts s.words) (B.texts s.values) s.separator s.words_lack s.values_stop)
-        (rest_one F.word_of F.value_of (K.means s.word) s.mark F.paired F.whole (V.means s.value) s.stage s.lacks (K.one_value s.word) (V.one_value s.value))
+        (state_one F.word_of F.value_of (K.means s.word) s.mark s.items.items F.paired F.whole (V.means s.value) s.stage s.lacks (K.one_value s.word) (V.one_value s.value))
         (pair_one F.word_of F.value_of (A.texts s.words) s.mark F.paired F.whole (B.texts s.values) s.words_lack (A.one_text s.words) (B.one_text s.values))
         rest v w h.0 k.0 };
 
-    ghost holds_bytes = { λ s rest all h. led_after_bytes s.separator s.stage s.items.items (PairRest F.word_of F.value_of (K.means s.word) (V.means s.value) s.stage s.mark) (IsPairText F.word_of F.value_of (A.texts s.words) (B.texts s.values) s.mark) s.small_separator
-        (rest_bytes F.word_of F.value_of (K.means s.word) s.mark (V.means s.value) s.stage s.small_mark (K.holds_bytes s.word) (V.holds_bytes s.value))
+    ghost holds_bytes = { λ s rest all h. led_after_bytes s.separator s.stage (whole_pairs s.stage s.items.items) (PairRest F.word_of F.value_of (WordAtHand F.word_of s.stage s.items.items (K.means s.word)) (V.means s.value) s.stage s.mark) (IsPairText F.word_of F.value_of (A.texts s.words) (B.texts s.values) s.mark) s.small_separator
+        (state_bytes F.word_of F.value_of (K.means s.word) s.mark s.items.items (V.means s.value) s.stage s.small_mark (K.holds_bytes s.word) (V.holds_bytes s.value))
         (pair_bytes F.word_of F.value_of s.mark (A.texts s.words) (B.texts s.values) s.small_mark (A.text_bytes s.words) (B.text_bytes s.values))
         rest all h.0 };
 }

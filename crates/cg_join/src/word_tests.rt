@@ -37,11 +37,15 @@ impl Pairing<WordText, DecimalText> for StatPairing {
 
     ghost paired = { λ word number. record { key = word; number = number } };
 
-    fn pair(word: Key, value: u64) -> Stat {
+    fn begin(word: Key) -> Stat {
         Stat {
             key: word,
-            number: value,
+            number: 0,
         }
+    }
+
+    fn complete(pair: &mut Stat, value: u64) {
+        pair.number = value;
     }
 
     fn word(pair: &Stat) -> &Key {
@@ -141,5 +145,16 @@ fn pairs(rt: HostRuntime) {
     assert_eq!(rt; refused(stats(rt.alloc()), b" N0=1 N0=2"), Some(8));
     assert_eq!(rt; refused(stats(rt.alloc()), b" N0=1  N1=2"), Some(6));
     assert_eq!(rt; refused(stats(rt.alloc()), b" =1"), Some(1));
+}
+
+#[test]
+fn held_by_pairs(rt: HostRuntime) {
+    assert_eq!(rt; held(stats(rt.alloc()), b""), Some(0));
+    assert_eq!(rt; held(stats(rt.alloc()), b" "), Some(0));
+    assert_eq!(rt; held(stats(rt.alloc()), b" N0"), Some(2));
+    assert_eq!(rt; held(stats(rt.alloc()), b" N0="), Some(3));
+    assert_eq!(rt; held(stats(rt.alloc()), b" N0=17"), Some(3));
+    assert_eq!(rt; held(stats(rt.alloc()), b" N0=17 "), Some(3));
+    assert_eq!(rt; held(stats(rt.alloc()), b" N0=17 N"), Some(4));
     assert_eq!(rt; held(stats(rt.alloc()), b" N0=1 N1=2"), Some(6));
 }

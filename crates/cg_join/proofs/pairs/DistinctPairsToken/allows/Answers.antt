@@ -1,7 +1,10 @@
 use Rattle.std.proofs.Common.{◌≡◌, not, [], ◌∷◌, map, sym, ◌∙◌, ap, eq-eqb, eqb-true, eqb}
 use Rattle.cg_join.specs.Distinct.{any_value}
 use Rattle.cg_join.specs.Pairs.{IsPairText}
-use Rattle.cg_join.specs.PairsLaws.{first_begins, mark_begins, new_pair, new_word, value_begins, word_begins}
+use Rattle.cg_join.specs.PairsLaws.{first_begins, mark_begins, new_pair, value_begins, word_begins}
+use Rattle.cg_join.specs.PairsState.{WordAtHand, before_last}
+use Rattle.cg_join.specs.PairsStateLaws.{distinct_before, last_word}
+use Rattle.cg_join.specs.declared.pairs.Stage.TheVariants.{InValue}
 use Rattle.cg_join.proofs.pairs.DistinctPairsToken.allows.Goals as goal
 
 pub returns-in-Before : goal.returns-in-Before
@@ -61,13 +64,13 @@ returns-in-InValue g c =
     let paired = g.F.Pairing.paired in
     let hw = g.met.F.Pairing.has_word in
     let hv = g.met.F.Pairing.has_value in
-    let K = g.K.Token.means old.word in
+    let K = WordAtHand w InValue old.items.items (g.K.Token.means old.word) in
     let D = g.V.Token.means old.value in
     let R = IsPairText w v (g.A.Start.texts old.words) (g.B.Start.texts old.values) old.mark in
     let ends = g.met.V.Token.ends_is old.value in
     rw c.in-InValue.is
-    (value_begins w v paired hw hv old.mark old.separator old.items.items R K D old.distinct c.args.byte c.allows-more.result (eqb c.args.byte old.separator) c.can_end-ended-in-InValue.result c.allows-more.ensures
+    (value_begins w v paired hw hv old.mark old.separator (before_last old.items.items) R K D (distinct_before w old.items.items old.distinct) c.args.byte c.allows-more.result (eqb c.args.byte old.separator) c.can_end-ended-in-InValue.result c.allows-more.ensures
     (λ e. eqb-true c.args.byte old.separator e, λ e. eq-eqb c.args.byte old.separator e)
     (λ e. ends.0 (sym c.can_end-ended-in-InValue.ensures ∙ e), λ h. c.can_end-ended-in-InValue.ensures ∙ ends.1 h)
-    (new_word K (g.K.Peek.is_value old.word) (g.met.K.Peek.is_value_is old.word) (map w old.items.items) (old.fresh c.in-InValue.is) ((g.met.K.Token.ends_is old.word).0 (old.ended c.in-InValue.is)))
+    (last_word w old.items.items (old.begun c.in-InValue.is) old.distinct)
     (new_pair w v paired hw hv old.mark (g.A.Start.texts old.words) (g.B.Start.texts old.values) (g.met.A.StartNew.new_text old.words) (g.met.B.Start.some_text old.values)))

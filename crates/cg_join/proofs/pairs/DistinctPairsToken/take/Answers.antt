@@ -1,8 +1,9 @@
-use Rattle.std.proofs.Common.{◌≡◌, [], ◌∷◌, ◌++◌, ◌+◌, map, ◌∙◌, ap, arith}
-use Rattle.cg_join.specs.RepeatLaws.{weight_pushed}
-use Rattle.cg_join.specs.DistinctLaws.{lacks_value}
-use Rattle.cg_join.specs.Pairs.{IsPairText, pair_weight}
+use Rattle.std.proofs.Common.{arith}
+use Rattle.cg_join.specs.Pairs.{IsPairText}
+use Rattle.cg_join.specs.PairsState.{IsCompleted, WordAtHand, before_last}
 use Rattle.cg_join.specs.PairsLaws.{pairs_value}
+use Rattle.cg_join.specs.PairsStateLaws.{completed_distinct, completed_weight}
+use Rattle.cg_join.specs.declared.pairs.Stage.TheVariants.{InValue}
 use Rattle.cg_join.proofs.pairs.DistinctPairsToken.take.Goals as goal
 
 pub returns-clause-value : goal.returns-clause-value
@@ -10,37 +11,21 @@ returns-clause-value g c =
     let old = c.args.self in
     let w = g.F.Pairing.word_of in
     let v = g.F.Pairing.value_of in
-    let paired = g.F.Pairing.paired in
-    let hw = g.met.F.Pairing.has_word in
-    let hv = g.met.F.Pairing.has_value in
-    let K = g.K.Token.means old.word in
+    let K = WordAtHand w InValue old.items.items (g.K.Token.means old.word) in
     let D = g.V.Token.means old.value in
     let R = IsPairText w v (g.A.Start.texts old.words) (g.B.Start.texts old.values) old.mark in
-    let x = c.take.result in
-    let y = c.take-in-InValue.result in
-    let p = c.pair.result in
-    let items : c.of-in-InValue.result ≡ old.items.items ++ p ∷ [] = c.of-in-InValue.ensures ∙ c.put.ensures in
-    let is_word : w p ≡ x = ap w c.pair.ensures ∙ hw x y in
-    let is_value : v p ≡ y = ap v c.pair.ensures ∙ hv x y in
-    let k = c.take.ensures.value in
-    let is = g.met.K.Peek.is_value_is old.word in
+    let y = c.take.result in
+    let done : IsCompleted w v old.items.items y c.of-in-InValue.result = rw c.of-in-InValue.ensures c.complete_last.ensures in
     rw c.in-InValue.is
-    (pairs_value w v old.mark old.separator old.items.items R K D p c.of-in-InValue.result items (rw is_word k) (rw is_value c.take-in-InValue.ensures.value) old.distinct
-    (rw is_word (lacks_value (g.K.Peek.is_value old.word) (map w old.items.items) x (old.fresh c.in-InValue.is) ((is x).1 k) (λ z e. (is z).1 (rw e k)))))
+    (pairs_value w v old.mark old.separator (before_last old.items.items) R K D done.pair c.of-in-InValue.result done.items done.has_word (rw done.has_value c.take.ensures.value)
+    (completed_distinct w v old.items.items c.of-in-InValue.result y done old.distinct))
 
 pub returns-clause-weight : goal.returns-clause-weight
 returns-clause-weight g c =
     let old = c.args.self in
     let w = g.F.Pairing.word_of in
     let v = g.F.Pairing.value_of in
-    let hw = g.met.F.Pairing.has_word in
-    let hv = g.met.F.Pairing.has_value in
-    let x = c.take.result in
-    let y = c.take-in-InValue.result in
-    let p = c.pair.result in
-    let items : c.of-in-InValue.result ≡ old.items.items ++ p ∷ [] = c.of-in-InValue.ensures ∙ c.put.ensures in
-    let is_word : w p ≡ x = ap w c.pair.ensures ∙ hw x y in
-    let is_value : v p ≡ y = ap v c.pair.ensures ∙ hv x y in
-    let f = pair_weight w v g.K.Token.weight g.V.Token.weight in
-    let one : f p ≡ g.K.Token.weight x + g.V.Token.weight y = ap (λ z. g.K.Token.weight z + g.V.Token.weight (v p)) is_word ∙ ap (λ z. g.K.Token.weight x + g.V.Token.weight z) is_value in
-    rw c.in-InValue.is (omega (arith, weight_pushed f c.of-in-InValue.result old.items.items p items, one, c.take.ensures.weight, c.take-in-InValue.ensures.weight))
+    let y = c.take.result in
+    let done : IsCompleted w v old.items.items y c.of-in-InValue.result = rw c.of-in-InValue.ensures c.complete_last.ensures in
+    let weight = completed_weight w v g.K.Token.weight g.V.Token.weight old.items.items c.of-in-InValue.result y done (old.awaits c.in-InValue.is) in
+    omega (arith, weight, c.take.ensures.weight)
