@@ -1,5 +1,5 @@
 //! A sink over a fixed array, for tests.
-ghost use Rattle.std.specs.Prelude.{◌≡◌, false, []};
+ghost use Rattle.std.specs.Prelude.{◌≡◌, false, [], max};
 
 use crate::sink::{Failed, Sink};
 use std::marker::Model;
@@ -21,9 +21,9 @@ pub struct CutSink {
 impl Model for CutSink {
     ghost use Rattle.std.specs.Prelude.{List, ℕ, Bool, take, ◌≤◌, ◌<◌};
 
-    ghost Value = { List ℕ × Bool };
+    ghost Value = { List ℕ × Bool × ℕ × ℕ };
 
-    ghost view = { λ s. (take s.len s.held, s.failed) };
+    ghost view = { λ s. (take s.len s.held, s.failed, s.budget, s.step) };
 
     ghost invariant = { λ s. (s.len ≤ 4096) × (0 < s.step) };
 }
@@ -32,7 +32,7 @@ impl CutSink {
     /// The empty sink that fails after `budget` bytes, and takes at most `step` bytes in one call,
     /// but at least 1.
     pub fn new(budget: usize, step: usize) -> CutSink
-        ensures { result ≡ ([], false) }
+        ensures { result ≡ ([], false, budget, max step 1) }
     {
         CutSink {
             held: [0; 4096],

@@ -1,5 +1,5 @@
 //! A source over an array that is lent, for tests.
-ghost use Rattle.std.specs.Prelude.{◌≡◌, ◌<◌, false};
+ghost use Rattle.std.specs.Prelude.{◌≡◌, ◌<◌, false, max};
 
 use crate::source::Source;
 use cg_print::Failed;
@@ -24,6 +24,8 @@ impl<'a> CutSource<'a> {
         ensures rest { result.rest ≡ rest.entry }
         ensures fresh { result.failed ≡ false }
         ensures asks { result.asks ≡ 0 }
+        ensures budget { result.budget ≡ budget }
+        ensures step { result.step ≡ max step 1 }
     {
         CutSource {
             rest,
