@@ -1,6 +1,7 @@
 //! New tokens of the values that cgroup files hold.
-use cg_join::{LimitText, Lines, NumberStart, Repeat};
-use cg_text::{DecimalText, SignedText};
+use crate::stat::StatPairing;
+use cg_join::{Distinct, DistinctPairs, LimitText, Lines, NumberStart, Repeat, WordStart};
+use cg_text::{DecimalText, SignedText, WordText};
 use std::alloc::Global;
 
 /// A number of `memory.stat`.
@@ -51,4 +52,22 @@ pub(crate) fn joined(alloc: Global) -> Repeat<DecimalText, NumberStart> {
 /// Numbers, one a line, as in `cgroup.procs`.
 pub(crate) fn lines(alloc: Global) -> Lines<DecimalText, NumberStart> {
     Lines::new(alloc, NumberStart::new(1, 4194304), b'\n')
+}
+
+/// The controllers of `cgroup.controllers`, which are all different.
+pub(crate) fn controllers(alloc: Global) -> Distinct<WordText, WordStart> {
+    Distinct::new(alloc, WordStart::new(alloc, true), b' ')
+}
+
+/// The pairs of `io.stat` behind the device, each a word and a whole number, the words all different.
+pub(crate) fn stats(
+    alloc: Global,
+) -> DistinctPairs<WordText, DecimalText, WordStart, NumberStart, StatPairing> {
+    DistinctPairs::new(
+        alloc,
+        WordStart::new(alloc, false),
+        NumberStart::new(0, u64::MAX),
+        b' ',
+        b'=',
+    )
 }

@@ -2,6 +2,7 @@
 #![tactic(auto)]
 
 mod fresh;
+mod stat;
 mod taking;
 mod work;
 

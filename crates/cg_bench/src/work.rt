@@ -33,10 +33,12 @@ pub(crate) enum Work {
     Reason,
     Repeat,
     Lines,
+    Distinct,
+    Stats,
 }
 
 /// Each work once.
-pub const WORKS: [Work; 22] = [
+pub const WORKS: [Work; 24] = [
     Work::Decimal,
     Work::Weight,
     Work::Signed,
@@ -59,6 +61,8 @@ pub const WORKS: [Work; 22] = [
     Work::Reason,
     Work::Repeat,
     Work::Lines,
+    Work::Distinct,
+    Work::Stats,
 ];
 
 impl Work {
@@ -87,6 +91,8 @@ impl Work {
             Work::Reason => "reason",
             Work::Repeat => "repeat",
             Work::Lines => "lines",
+            Work::Distinct => "distinct",
+            Work::Stats => "stats",
         }
     }
 
@@ -119,6 +125,12 @@ impl Work {
             Work::Reason => b"Cpu list empty)|Invalid cpu list in cpuset.cpus.exclusive)|a (b))|",
             Work::Repeat => b"1,2,3,4|0|4095,17,256,1024,88,9|12,34,56,78,90,12,34,56,78,90|",
             Work::Lines => b"1\n|4321\n4322\n4330\n10234\n|812\n1044\n27311\n4194304\n77\n|",
+            Work::Distinct => b"cpuset cpu io memory hugetlb pids rdma misc|",
+            Work::Stats => {
+                b" rbytes=1459200 wbytes=314773504 rios=192 wios=353 dbytes=50331648 dios=3021 \
+                use_delay=0 delay_nsec=0 cost.usage=1733184 cost.wait=25480 cost.indebt=0 \
+                cost.indelay=4096|"
+            }
         }
     }
 
@@ -147,6 +159,8 @@ impl Work {
             Work::Reason => take_all(|| ReasonText::new(alloc), text, count),
             Work::Repeat => take_all(|| fresh::joined(alloc), text, count),
             Work::Lines => take_all(|| fresh::lines(alloc), text, count),
+            Work::Distinct => take_all(|| fresh::controllers(alloc), text, count),
+            Work::Stats => take_all(|| fresh::stats(alloc), text, count),
         }
     }
 }

@@ -1,16 +1,7 @@
 -- Lists of values that are all different.
 use Rattle.std.specs.Prelude.{◌≡◌, ℕ, Bool, false, ◌||◌, List, [], ◌∷◌}
 use Rattle.cg_join.specs.Repeat.{AreJoined, IsListAfter}
-
--- No member is the value.
-abbrev pub LacksValue : {V : Type 0} → V → List V → Type 0
-LacksValue v [] = Unit {0}
-LacksValue v (w ∷ ws) = (v ≡ w → ⊥) × LacksValue v ws
-
--- No two members are one.
-abbrev pub AreDistinct : {V : Type 0} → List V → Type 0
-AreDistinct [] = Unit {0}
-AreDistinct (v ∷ vs) = LacksValue v vs × AreDistinct vs
+pub use Rattle.cg_text.specs.Distinct.{LacksValue, AreDistinct}
 
 -- One or more texts of the relation with a separator between, each with its value, all different.
 abbrev pub AreDistinctJoined : {V : Type 0} → (List ℕ → V → Type 0) → ℕ → List ℕ → List V → Type 0

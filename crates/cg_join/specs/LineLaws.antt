@@ -21,7 +21,7 @@ module _ {S V : Type 0} (A : S → List ℕ → V → Type 0) (s : S) where
     λ h. record { front = h.front; back = 10 ∷ []; whole = h.whole; begins = h.spells; ends = refl },
   )
 
-  self_spells : Spells A s (A s)
+  pub self_spells : Spells A s (A s)
   self_spells = record { is = λ rest v. (λ h. h, λ h. h) }
 
   pub line_spells : {T X Y W : Type 0} {B : T → List ℕ → Unit {0} → Type 0} {t : T} {M : X → List ℕ → V × Unit {0} → Type 0} {x : X} {N : Y → List ℕ → W → Type 0} {y : Y} (f : V × Unit {0} → W) →

@@ -20,7 +20,7 @@ one_decimal lo hi text m n h k = IsDecimalRest_one lo hi Start text m n h k
 pub decimal_bytes : (lo hi : ℕ) (text : List ℕ) (n : ℕ) → IsDecimal lo hi n text → AreBytes text
 decimal_bytes lo hi text n h = digits_bytes text (number_digits lo hi Start text n h)
 
-digit_inside : (front more : List ℕ) (b : ℕ) → AreDigits (front ++ b ∷ more) → (48 ≤ b) × (b ≤ 57)
+pub digit_inside : (front more : List ℕ) (b : ℕ) → AreDigits (front ++ b ∷ more) → (48 ≤ b) × (b ≤ 57)
 digit_inside [] more b h = (h.0, h.1)
 digit_inside (x ∷ front) more b h = digit_inside front more b h.2
 

@@ -24,6 +24,7 @@ pub struct Lines<T: Token, S: Start<T>> {
     ghost lacks: { LacksByte (T.means current) end },
     ghost starts: { LacksByte (S.texts start) end },
     ghost small: { end < 256 },
+    ghost fresh: { IsFalse begun → T.size current ≡ 0 },
 }
 
 impl<T: Token, S: Start<T>> Lines<T, S> {

@@ -5,6 +5,7 @@ ghost use Rattle.cg_join.specs.Repeat.{Stops, items_weight};
 ghost use Rattle.cg_join.specs.Line.{LacksByte};
 ghost use Rattle.cg_join.specs.Distinct.{AreDistinct};
 ghost use Rattle.cg_join.specs.DistinctLaws.{AreDistinct_prop};
+ghost use Rattle.cg_join.specs.JoinedPairs.{AreJoinedPairs};
 ghost use Rattle.cg_join.specs.Pairs.{IsPairText, PairRest, ArePairs, ArePairsAfter, pair_weight};
 ghost use Rattle.cg_join.specs.PairsState.{WordAtHand, last_weight, whole_pairs};
 ghost use Rattle.cg_join.specs.declared.pairs.Stage.TheVariants.{Before, InWord, InValue};
@@ -90,6 +91,35 @@ impl<K: Peek, V: Token, A: StartNew<K>, B: Start<V>, F: Pairing<K, V>> DistinctP
             pairing: PhantomData,
         }
     }
+    /// One or more pairs of a word and a value, with a separator between them but none before the first.
+    pub fn joined(
+        alloc: Global,
+        words: A,
+        values: B,
+        separator: u8,
+        mark: u8,
+    ) -> DistinctPairs<K, V, A, B, F>
+        requires lacks { LacksByte (A.texts words) mark }
+        requires stops { Stops (B.texts values) separator }
+        ensures spells { Spells ⟦<DistinctPairs<K, V, A, B, F> as Token>⟧.means result (AreJoinedPairs F.word_of (IsPairText F.word_of F.value_of (A.texts words) (B.texts values) mark) separator) }
+        ensures size { ⟦<DistinctPairs<K, V, A, B, F> as Token>⟧.size result ≡ 0 }
+    {
+        let word = words.start();
+        let value = values.start();
+        DistinctPairs {
+            words,
+            values,
+            separator,
+            mark,
+            items: Vec::new(alloc),
+            stage: Stage::InWord,
+            word,
+            value,
+            kept: 0,
+            pairing: PhantomData,
+        }
+    }
+
     /// Takes a byte of a word, or the mark after it.
     fn step_word(&mut self, byte: u8) -> Result<bool, OutOfMemory>
         requires { self.old.stage ≡ InWord }

@@ -18,13 +18,13 @@ fn spaced_words(alloc: Global) -> Distinct<WordText, WordStart>
 
 /// A word and a number.
 #[derive(Drop)]
-struct Stat {
-    key: Key,
-    number: u64,
+pub(crate) struct Stat {
+    pub(crate) key: Key,
+    pub(crate) number: u64,
 }
 
 /// Makes it.
-struct StatPairing;
+pub(crate) struct StatPairing;
 
 impl Pairing<WordText, DecimalText> for StatPairing {
     type Pair = Stat;

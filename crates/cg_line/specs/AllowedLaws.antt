@@ -1,30 +1,29 @@
 -- How the set of allowed bytes grows.
-use Rattle.std.proofs.Common.{◌≡◌, ℕ, ◌+◌, ◌<◌, ◌≤◌, ◌⊎◌, inl, inr, ◌↔◌, Bool, List, [], ◌∷◌, ◌++◌, arith, sym, append_assoc}
+use Rattle.std.proofs.Common.{◌≡◌, cond, zero, suc, true, false, IsTrue, refl, ℕ, ◌+◌, ◌<◌, ◌≤◌, ◌⊎◌, inl, inr, ◌↔◌, Bool, List, [], ◌∷◌, ◌++◌, arith, sym, append_assoc}
+use Rattle.std.proofs.lemmas.List.Sums.{sum_by-cons}
 use native.Mathlib.Decide.{dec_lt}
 use Prim.{yes, no}
-use Rattle.cg_text.specs.Bytes.{HasByte}
+use Rattle.cg_text.specs.Bytes.{HasByte, count_of}
 use Rattle.cg_text.specs.Texts.{Viable, Next}
+use Rattle.cg_text.specs.Token.{AreBytes}
 use Rattle.cg_text.specs.TokenLaws.{bytes_inside}
-use Rattle.cg_value.specs.Files.{KindFile}
-use Rattle.cg_value.specs.LineLaws.{file_bytes}
-use Rattle.cg_value.specs.declared.kind.ReadForm.{ReadForm}
 
 -- The set has the bytes below n that may come next.
-abbrev pub IsAllowedBelow : List Bool → ReadForm → List ℕ → ℕ → Type 0
-IsAllowedBelow set kind taken n = (b : ℕ) → HasByte set b ↔ ((b < n) × Next (KindFile kind) taken b)
+abbrev pub IsAllowedBelow : List Bool → (List ℕ → Type 0) → List ℕ → ℕ → Type 0
+IsAllowedBelow set L taken n = (b : ℕ) → HasByte set b ↔ ((b < n) × Next L taken b)
 
-module _ (kind : ReadForm) (taken : List ℕ) where
+module _ (L : List ℕ → Type 0) (taken : List ℕ) where
   -- The byte n may come next.
-  pub allowed_more : (old new : List Bool) (n : ℕ) → IsAllowedBelow old kind taken n → ((other : ℕ) → HasByte new other ↔ (HasByte old other ⊎ (other ≡ n))) → Next (KindFile kind) taken n → IsAllowedBelow new kind taken (n + 1)
+  pub allowed_more : (old new : List Bool) (n : ℕ) → IsAllowedBelow old L taken n → ((other : ℕ) → HasByte new other ↔ (HasByte old other ⊎ (other ≡ n))) → Next L taken n → IsAllowedBelow new L taken (n + 1)
   allowed_more old new n h added next b =
-      let to : (HasByte old b ⊎ (b ≡ n)) → (b < n + 1) × Next (KindFile kind) taken b =
+      let to : (HasByte old b ⊎ (b ≡ n)) → (b < n + 1) × Next L taken b =
       elim [ inl k ↦ (let m = (h b).0 k in (omega (arith, m.0), m.1)) | inr e ↦ (omega (arith, e), rw e next) ] in (
         λ k. to ((added b).0 k),
         λ k. (added b).1 (elim (dec_lt b n) [ yes lt ↦ inl ((h b).1 (lt, k.1)) | no ge ↦ inr (omega (arith, ge, k.0)) ]),
       )
 
   -- It may not.
-  pub allowed_same : (old : List Bool) (n : ℕ) → IsAllowedBelow old kind taken n → (Next (KindFile kind) taken n → ⊥) → IsAllowedBelow old kind taken (n + 1)
+  pub allowed_same : (old : List Bool) (n : ℕ) → IsAllowedBelow old L taken n → (Next L taken n → ⊥) → IsAllowedBelow old L taken (n + 1)
   allowed_same old n h none b = (
     λ k. (let m = (h b).0 k in (omega (arith, m.0), m.1)),
     λ k. elim (dec_lt b n) [
@@ -33,9 +32,24 @@ module _ (kind : ReadForm) (taken : List ℕ) where
     ],
   )
 
--- What may come next is a byte.
-pub next_is_byte : (kind : ReadForm) (taken : List ℕ) (b : ℕ) → Next (KindFile kind) taken b → b < 256
-next_is_byte kind taken b h = bytes_inside taken h.rest b (rw (append_assoc taken (b ∷ []) h.rest) at (file_bytes kind _ h.whole))
+  -- What may come next is a byte, where texts are of bytes.
+  pub next_is_byte : ((text : List ℕ) → L text → AreBytes text) → (b : ℕ) → Next L taken b → b < 256
+  next_is_byte bytes b h = bytes_inside taken h.rest b (rw (append_assoc taken (b ∷ []) h.rest) at (bytes _ h.whole))
 
-pub allowed_all : (set : List Bool) (kind : ReadForm) (taken : List ℕ) (n : ℕ) → 256 ≤ n → IsAllowedBelow set kind taken n → (b : ℕ) → HasByte set b ↔ Next (KindFile kind) taken b
-allowed_all set kind taken n all h b = (λ k. ((h b).0 k).1, λ next. (h b).1 (omega (arith, next_is_byte kind taken b next), next))
+  pub allowed_all : ((text : List ℕ) → L text → AreBytes text) → (set : List Bool) (n : ℕ) → 256 ≤ n → IsAllowedBelow set L taken n → (b : ℕ) → HasByte set b ↔ Next L taken b
+  allowed_all bytes set n all h b = (λ k. ((h b).0 k).1, λ next. (h b).1 (omega (arith, next_is_byte bytes b next), next))
+
+-- A set of some bytes has one.
+pub some_marked : (marks : List Bool) → 0 < count_of marks → (b : ℕ) × HasByte marks b
+some_marked [] h = absurd (omega (arith, h))
+some_marked (true ∷ marks) h = (0, refl)
+some_marked (false ∷ marks) h = let more = some_marked marks h in (suc more.0, more.1)
+
+false_not_true : false ≡ true → ⊥
+false_not_true e = cc
+
+pub marked_counts : (marks : List Bool) (b : ℕ) → HasByte marks b → 0 < count_of marks
+marked_counts [] b h = absurd (false_not_true h)
+marked_counts (true ∷ marks) b h = omega (arith, sum_by-cons (λ (mark : Bool). cond mark 1 0) true marks)
+marked_counts (false ∷ marks) zero h = absurd (false_not_true h)
+marked_counts (false ∷ marks) (suc b) h = marked_counts marks b h

@@ -6,6 +6,7 @@ use Rattle.cg_value.specs.Table.{read_form_of}
 use Rattle.cg_value.specs.declared.profile.Profile.{Profile}
 use Rattle.cg_value.specs.declared.kind.ReadForm.{ReadForm}
 use Rattle.cg_value.specs.declared.value.Value.{Value}
+use Rattle.cg_line.specs.Built.{read_now}
 use Rattle.cg_line.specs.declared.decode.FileFault.{FileFault}
 use Rattle.cg_line.specs.declared.decode.FileFault.TheVariants.{NotReadable, Refused, Cut, OutOfMemory}
 
@@ -26,7 +27,7 @@ IsReadWhole kind bytes (Err OutOfMemory) = Unit {0}
 -- The same by the file's name, which may be that of a file that can't be read.
 abbrev pub IsDecoded : Profile → List ℕ → List ℕ → Result Value FileFault → Type 0
 IsDecoded profile name bytes (Ok v) = FileText profile name v bytes
-IsDecoded profile name bytes (Err NotReadable) = read_form_of profile name ≡ None
+IsDecoded profile name bytes (Err NotReadable) = read_now profile name ≡ None
 IsDecoded profile name bytes (Err (Refused at)) = FirstBad (File profile name) bytes at
 IsDecoded profile name bytes (Err (Cut at)) = IsCut (File profile name) bytes at
 IsDecoded profile name bytes (Err OutOfMemory) = (kind : ReadForm) × (read_form_of profile name ≡ Some kind)

@@ -2,7 +2,8 @@
 use Rattle.std.proofs.Common.{◌≡◌, ℕ, ◌↔◌, List, [], ◌∷◌, ◌++◌, refl, sym, ◌∙◌, ap}
 use Rattle.cg_join.specs.Line.{IsLine}
 use Rattle.cg_join.specs.Spelling.{IsTurned}
-use Rattle.cg_value.specs.Files.{unlines, IsOneLine, ReadLines, KindText}
+use Rattle.cg_value.specs.Files.{ReadLines, KindText}
+use Rattle.cg_value.specs.Lines.{unlines, IsOneLine}
 use Rattle.cg_value.specs.declared.kind.ReadForm.{ReadForm}
 use Rattle.cg_value.specs.declared.value.Value.{Value}
 

@@ -1,11 +1,13 @@
 -- What holds of the places of readers.
+use Rattle.std.specs.List.{AllByRecursion}
 use Rattle.std.proofs.Common.{◌≡◌, ◌≢◌, ℕ, ◌⊎◌, inl, inr, ◌↔◌, List, [], ◌∷◌, ◌++◌, refl, sym, ◌∙◌, ap, append_assoc, append-nil}
-use Rattle.cg_text.specs.Texts.{Lacks, Viable}
+use Rattle.cg_text.specs.Texts.{Lacks, Viable, Next}
 use Rattle.cg_text.specs.TextsLaws.{only_at_end}
 use Rattle.cg_value.specs.Files.{KindText, KindFile}
-use Rattle.cg_value.specs.LineLaws.{IsOneLineText, one_line_text}
+use Rattle.cg_value.specs.Lines.{unlines}
+use Rattle.cg_value.specs.LineLaws.{plain_lines}
 use Rattle.cg_value.specs.declared.kind.ReadForm.{ReadForm}
-use Rattle.cg_line.specs.Place.{IsPlace, TakesLine}
+use Rattle.cg_line.specs.Place.{IsPlace, AtLineStart, TakesLine}
 use Rattle.cg_line.specs.declared.place.Place.{Place}
 use Rattle.cg_line.specs.declared.place.Place.TheVariants.{Start, InLine, LineEnd}
 
@@ -19,35 +21,88 @@ last_same [] (y ∷ other) b c e = absurd (not_empty other c (cc))
 last_same (x ∷ front) [] b c e = absurd (not_empty front b (cc))
 last_same (x ∷ front) (y ∷ other) b c e = last_same front other b c (cc)
 
-not_more : (line rest : List ℕ) → line ++ 10 ∷ rest ≡ [] → ⊥
-not_more [] rest e = cc
-not_more (x ∷ line) rest e = cc
+-- A byte more that goes on a text of lines, at the start of a line, begins a whole line.
+pub record Begins (byte : ℕ) (rest : List ℕ) : Type 0 where
+  pub line : List ℕ
+  pub others : List ℕ
+  pub plain : Lacks 10 line
+  pub is : byte ∷ rest ≡ line ++ 10 ∷ others
 
--- After a whole line of a file of one line no further line comes.
-one_line_only : (kind : ReadForm) (front line : List ℕ) → Viable (KindFile kind) ((front ++ 10 ∷ []) ++ (line ++ 10 ∷ [])) → ⊥
-one_line_only kind front line h =
-    let one = one_line_text kind _ h.whole in
-    let shape : ((front ++ 10 ∷ []) ++ (line ++ 10 ∷ [])) ++ h.rest ≡ front ++ 10 ∷ (line ++ 10 ∷ h.rest) =
-    append_assoc (front ++ 10 ∷ []) (line ++ 10 ∷ []) h.rest ∙ append_assoc front (10 ∷ []) ((line ++ 10 ∷ []) ++ h.rest) ∙ ap (λ t. front ++ 10 ∷ t) (append_assoc line (10 ∷ []) h.rest) in
-    not_more line h.rest (only_at_end 10 one.line front (line ++ 10 ∷ h.rest) one.plain (sym one.text_is ∙ shape))
+first_line : (lines : List (List ℕ)) (byte : ℕ) (rest : List ℕ) → AllByRecursion (Lacks 10) lines → byte ∷ rest ≡ unlines lines → Begins byte rest
+first_line [] byte rest p e = absurd (cc)
+first_line (line ∷ lines) byte rest p e = record { line = line; others = unlines lines; plain = p.0; is = e }
 
--- A file of one line takes its line at its start, and nowhere else.
-pub takes_first : (kind : ReadForm) (taken : List ℕ) → taken ≡ [] → Viable (KindFile kind) taken → TakesLine kind taken
-takes_first kind [] e h =
-    let one = one_line_text kind _ h.whole in
-    let whole : KindFile kind ((one.line ++ 10 ∷ []) ++ []) = rw append-nil (rw one.text_is at h.whole) in
-    record { not_begun = inl refl; line = one.line; plain = one.plain; goes = record { rest = []; whole = whole } }
-takes_first kind (x ∷ taken) e h = absurd (cc)
+-- What is left of a front that ends with the newline of a line.
+drop_line : (line front more others : List ℕ) → Lacks 10 line → front ++ 10 ∷ more ≡ line ++ 10 ∷ others →
+    ((front ≡ line) × (more ≡ others)) ⊎ ((f : List ℕ) × (front ≡ line ++ 10 ∷ f) × (f ++ 10 ∷ more ≡ others))
+drop_line [] [] more others p e = inl (refl, (cc))
+drop_line [] (x ∷ front) more others p e = let h : x ≡ 10 = cc in inr (front, rw h refl, (cc))
+drop_line (y ∷ line) [] more others p e = absurd (p.0 (cc))
+drop_line (y ∷ line) (x ∷ front) more others p e =
+    let head : x ≡ y = cc in
+    elim (drop_line line front more others p.1 (cc)) [
+      | inl h ↦ inl (rw (head, h.0) refl, h.1)
+      | inr h ↦ inr (h.0, rw (head, h.1) refl, h.2)
+    ]
 
-pub takes_none : (kind : ReadForm) (place : Place) (taken : List ℕ) → IsPlace place taken → TakesLine kind taken → place ≡ Start
-takes_none kind Start taken p h = refl
-takes_none kind InLine taken p h = absurd (begun h.not_begun)
-  where
-    begun : ((taken ≡ []) ⊎ ((front : List ℕ) × (taken ≡ front ++ 10 ∷ []))) → ⊥
-    begun (inl e) = not_empty p.0 p.1 (sym p.2 ∙ e)
-    begun (inr e) = p.3 (last_same p.0 e.0 p.1 10 (sym p.2 ∙ e.1))
-takes_none kind LineEnd taken p h = absurd (one_line_only kind p.0 h.line (rw p.1 at h.goes))
+after_lines : (lines : List (List ℕ)) (front : List ℕ) (byte : ℕ) (rest : List ℕ) → AllByRecursion (Lacks 10) lines → front ++ 10 ∷ byte ∷ rest ≡ unlines lines → Begins byte rest
+after_lines [] [] byte rest p e = absurd (cc)
+after_lines [] (x ∷ front) byte rest p e = absurd (cc)
+after_lines (line ∷ lines) front byte rest p e = elim (drop_line line front (byte ∷ rest) (unlines lines) p.0 e) [
+  | inl h ↦ first_line lines byte rest p.1 h.1
+  | inr h ↦ after_lines lines h.0 byte rest p.1 h.2
+]
 
--- The place is the start exactly where a line may come.
-pub takes_line_is : (kind : ReadForm) (place : Place) (taken : List ℕ) → IsPlace place taken → Viable (KindFile kind) taken → (place ≡ Start) ↔ TakesLine kind taken
-takes_line_is kind place taken p h = (λ e. takes_first kind taken (rw e at p) h, λ k. takes_none kind place taken p k)
+begins_line : (kind : ReadForm) (taken : List ℕ) (byte : ℕ) (rest : List ℕ) → AtLineStart taken → KindFile kind (taken ++ byte ∷ rest) → Begins byte rest
+begins_line kind taken byte rest (inl e) h =
+    let plain = plain_lines kind h.0 h.1.lines h.1.spelled in
+    first_line h.1.lines byte rest plain (rw e at h.1.text_is)
+begins_line kind taken byte rest (inr f) h =
+    let plain = plain_lines kind h.0 h.1.lines h.1.spelled in
+    let text : f.0 ++ 10 ∷ byte ∷ rest ≡ unlines h.1.lines = sym (append_assoc f.0 (10 ∷ []) (byte ∷ rest)) ∙ rw f.1 at h.1.text_is in
+    after_lines h.1.lines f.0 byte rest plain text
+
+-- Where no line is begun and some byte may come, a line may.
+pub takes_where_next : (kind : ReadForm) (taken : List ℕ) (byte : ℕ) → AtLineStart taken → Next (KindFile kind) taken byte → TakesLine kind taken
+takes_where_next kind taken byte at h =
+    let whole : KindFile kind (taken ++ byte ∷ h.rest) = rw (append_assoc taken (byte ∷ []) h.rest) at h.whole in
+    let begins = begins_line kind taken byte h.rest at whole in
+    record {
+      not_begun = at;
+      line = begins.line;
+      plain = begins.plain;
+      goes = record {
+        rest = begins.others;
+        whole = rw (append_assoc taken (begins.line ++ 10 ∷ []) begins.others, append_assoc begins.line (10 ∷ []) begins.others, ← begins.is) whole;
+      };
+    }
+
+-- Where a line may come, some byte may.
+pub record SomeNext (kind : ReadForm) (taken : List ℕ) : Type 0 where
+  pub byte : ℕ
+  pub next : Next (KindFile kind) taken byte
+
+next_of : (kind : ReadForm) (taken line : List ℕ) → Viable (KindFile kind) (taken ++ (line ++ 10 ∷ [])) → SomeNext kind taken
+next_of kind taken [] h = record { byte = 10; next = h }
+next_of kind taken (b ∷ line) h = record {
+  byte = b;
+  next = record {
+    rest = (line ++ 10 ∷ []) ++ h.rest;
+    whole = rw (append_assoc taken (b ∷ []) ((line ++ 10 ∷ []) ++ h.rest), ← append_assoc taken (b ∷ (line ++ 10 ∷ [])) h.rest) h.whole;
+  };
+}
+
+pub next_where_takes : (kind : ReadForm) (taken : List ℕ) → TakesLine kind taken → SomeNext kind taken
+next_where_takes kind taken h = next_of kind taken h.line h.goes
+
+-- By the place no line is begun, or one is.
+pub at_line_start : (place : Place) (taken : List ℕ) → IsPlace place taken → place ≢ InLine → AtLineStart taken
+at_line_start Start taken p n = inl p
+at_line_start InLine taken p n = absurd (n refl)
+at_line_start LineEnd taken p n = inr p
+
+pub not_in_line : (place : Place) (taken : List ℕ) → IsPlace place taken → AtLineStart taken → place ≢ InLine
+not_in_line Start taken p at e = cc
+not_in_line InLine taken p (inl f) e = not_empty p.0 p.1 (sym p.2 ∙ f)
+not_in_line InLine taken p (inr f) e = p.3 (last_same p.0 f.0 p.1 10 (sym p.2 ∙ f.1))
+not_in_line LineEnd taken p at e = cc

@@ -1,21 +1,26 @@
 -- What a reader took.
-use Rattle.std.specs.Prelude.{◌≡◌, ℕ, List, ◌∷◌, ◌++◌, [], Result, Ok, Err}
-use Rattle.cg_text.specs.Texts.{Viable, Next}
-use Rattle.cg_value.specs.Files.{KindText, KindFile}
+use Rattle.std.specs.Prelude.{◌≡◌, ℕ, ◌+◌, ◌≤◌, List, ◌∷◌, ◌++◌, [], length, Result, Ok, Err}
+use Rattle.cg_text.specs.Texts.{Viable, Next, Lacks}
+use Rattle.cg_value.specs.Files.{ReadLines, KindText, KindFile}
+use Rattle.cg_value.specs.Kind.{IsReadForm}
+use Rattle.cg_value.specs.Lines.{unlines}
+use Rattle.cg_value.specs.Weight.{weight_of_lines}
 use Rattle.cg_value.specs.declared.value.Value.{Value}
 use Rattle.cg_value.specs.declared.kind.ReadForm.{ReadForm}
+use Rattle.cg_line.specs.Kinds.{TextsOf, HoldsLittle}
 use Rattle.cg_line.specs.Machine.{IsRead}
 use Rattle.cg_line.specs.Place.{IsPlace}
 use Rattle.cg_line.specs.declared.machine.PushFault.{PushFault}
 use Rattle.cg_line.specs.declared.machine.PushFault.TheVariants.{Refused, OutOfMemory}
 use Rattle.cg_line.specs.declared.reader.ValueReader.{ValueReader}
-use Rattle.cg_line.specs.contracts.machine.MachineFileMachine.TheImpl.{ghosts}
+use Rattle.cg_line.specs.contracts.file_machine.FileMachineTextMachine.TheImpl.{ghosts}
 
 -- The machine has the rests of a file of this kind after these bytes, and the place is that of the bytes.
 pub record HasTaken (r : ValueReader) (kind : ReadForm) (taken : List ℕ) : Type 0 where
-  pub rests : IsRead (ghosts.means r.machine) kind taken
-  pub of_kind : ghosts.is_of r.machine kind
+  pub rests : IsRead (TextsOf kind) (ghosts.means r.machine) taken
+  pub form : IsReadForm kind
   pub place : IsPlace r.place taken
+  pub held : HoldsLittle (ghosts.size r.machine) kind taken
 
 -- The reader is of this kind and took these bytes, with which some file of the kind begins.
 unfoldable pub Reads : ValueReader → ReadForm → List ℕ → Type 0

@@ -4,9 +4,10 @@ ghost use Rattle.cg_value.specs.declared.kind.ReadForm.{ReadForm};
 ghost use Rattle.cg_line.specs.Decode.{IsReadWhole, IsDecoded};
 ghost use Rattle.cg_line.specs.Reads.{Reads};
 
+use crate::built::built_kind;
 use crate::machine::PushFault;
 use crate::reader::ValueReader;
-use cg_value::{Profile, Value, read_kind};
+use cg_value::{Profile, Value};
 use std::alloc::Global;
 use thiserror::Error;
 
@@ -55,7 +56,7 @@ pub fn decode_file(
 ) -> Result<Value, FileFault>
     ensures { IsDecoded profile name.now bytes.now result }
 {
-    match read_kind(profile, name) {
+    match built_kind(profile, name) {
         Ok(kind) => read_whole(ValueReader::new(alloc, kind), bytes),
         Err(_) => Err(FileFault::NotReadable),
     }

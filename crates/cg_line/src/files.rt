@@ -67,7 +67,8 @@ pub type LimitFile = Line<LimitText, ToLimit>;
 /// A file of one number from `lo` to `hi`.
 pub(crate) fn number_file(lo: u64, hi: u64) -> NumberFile
     requires { lo ≤ hi }
-    ensures { Spells ⟦<NumberFile as Token>⟧.means result (λ text v. KindText (NumberForm lo hi) v text) }
+    ensures spells { Spells ⟦<NumberFile as Token>⟧.means result (λ text v. KindText (NumberForm lo hi) v text) }
+    ensures size { ⟦<NumberFile as Token>⟧.size result ≡ 0 }
 {
     match DecimalText::new(lo, hi) {
         Some(number) => one_line(number),
@@ -77,7 +78,8 @@ pub(crate) fn number_file(lo: u64, hi: u64) -> NumberFile
 
 /// A file of one limit.
 pub(crate) fn limit_file() -> LimitFile
-    ensures { Spells ⟦<LimitFile as Token>⟧.means result (λ text v. KindText LimitForm v text) }
+    ensures spells { Spells ⟦<LimitFile as Token>⟧.means result (λ text v. KindText LimitForm v text) }
+    ensures size { ⟦<LimitFile as Token>⟧.size result ≡ 0 }
 {
     match LimitText::new(0, u64::MAX) {
         Some(limit) => one_line(limit),

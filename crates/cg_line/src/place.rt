@@ -14,11 +14,11 @@ pub(crate) enum Place {
 }
 
 impl Place {
-    /// Whether nothing was taken.
-    pub(crate) fn is_start(self) -> bool
-        ensures { IsTrue result ↔ (self ≡ Place.Start) }
+    /// Whether a line is begun.
+    pub(crate) fn is_in_line(self) -> bool
+        ensures { IsTrue result ↔ (self ≡ Place.InLine) }
     {
-        matches!(self, Place::Start)
+        matches!(self, Place::InLine)
     }
 
     /// The place after a byte.

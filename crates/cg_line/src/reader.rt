@@ -2,25 +2,26 @@
 ghost use Rattle.std.specs.Prelude.{◌≡◌, ◌≤◌, ◌+◌, ◌↔◌, ℕ, List, [], ◌∷◌, ◌++◌, length, MatchResult, IsTrue, OnErr};
 ghost use Rattle.cg_text.specs.Bytes.{HasByte};
 ghost use Rattle.cg_text.specs.Texts.{Next, Lacks};
-ghost use Rattle.cg_text.specs.Token.{told, Completes};
-ghost use Rattle.cg_value.specs.Files.{unlines, ReadLines, KindText, KindFile};
+ghost use Rattle.cg_text.specs.Token.{told};
+ghost use Rattle.cg_value.specs.Files.{ReadLines, KindText, KindFile};
+ghost use Rattle.cg_value.specs.Lines.{unlines};
 ghost use Rattle.cg_value.specs.Weight.{weight_of_lines};
 ghost use Rattle.cg_value.specs.declared.value.Value.{Value};
 ghost use Rattle.cg_value.specs.declared.kind.ReadForm.{ReadForm};
-ghost use Rattle.cg_line.specs.Machine.{IsRead};
+ghost use Rattle.cg_line.specs.Built.{IsBuilt};
 ghost use Rattle.cg_line.specs.Place.{TakesLine};
 
-use crate::files::{limit_file, number_file};
-use crate::machine::{FileMachine, Machine, PushFault};
+use crate::file_machine::{FileMachine, machine_of};
+use crate::machine::{PushFault, TextMachine};
 use crate::place::Place;
-use cg_text::{ByteSet, Token};
-use cg_value::{ReadForm, ReadKind, Value};
+use cg_text::ByteSet;
+use cg_value::{ReadKind, Value};
 use std::alloc::Global;
 
 /// A reader of the text of one file, which takes line bytes and newlines.
 #[derive(Drop)]
 pub struct ValueReader {
-    machine: Machine,
+    machine: FileMachine,
     place: Place,
 }
 
@@ -30,37 +31,17 @@ pub struct ReaderCut {
     pub reader: ValueReader,
 }
 
-/// A token, of which some rest completes each state.
-fn completed<T: Token>(token: T) -> T
-    ensures same { result ≡ token }
-    ensures goes { Completes T.means token }
-{
-    token
-}
-
-/// The machine of a kind of files.
-fn machine_of(kind: ReadKind) -> Machine
-    ensures rests { IsRead (⟦<Machine as FileMachine>⟧.means result) kind [] }
-    ensures kind { ⟦<Machine as FileMachine>⟧.is_of result kind }
-    ensures size { ⟦<Machine as FileMachine>⟧.size result ≡ 0 }
-{
-    match kind.form() {
-        ReadForm::Number { lo, hi } => Machine::OfNumber(completed(number_file(lo, hi))),
-        ReadForm::Limit => Machine::OfLimit(completed(limit_file())),
-    }
-}
-
 impl ValueReader {
     ghost use Rattle.cg_line.specs.Reads.{Reads, IsPushed, held_by};
 
     /// A reader of a file of this kind, of which nothing was taken. It takes no memory.
     pub fn new(alloc: Global, kind: ReadKind) -> ValueReader
+        requires { IsBuilt kind }
         ensures reads { Reads result kind [] }
         ensures held { held_by result ≡ 0 }
     {
-        let _ = alloc;
         ValueReader {
-            machine: machine_of(kind),
+            machine: machine_of(alloc, kind),
             place: Place::Start,
         }
     }
@@ -85,7 +66,10 @@ impl ValueReader {
     pub fn takes_line(&self) -> bool
         ensures { (kind : ReadForm) (taken : List ℕ) → Reads self.now kind taken → (IsTrue result ↔ TakesLine kind taken) }
     {
-        self.place.is_start()
+        if self.place.is_in_line() {
+            return false;
+        }
+        self.allowed().len() > 0
     }
 
     /// Whether the bytes so far are a whole file. It takes no memory.
@@ -112,8 +96,7 @@ impl ValueReader {
     /// The sum of the lengths of its vectors, or `u64::MAX` where that is more. It takes no memory.
     pub fn held(&self) -> u64
         ensures exact { result ≡ told (held_by self.now) }
-        ensures begun { (kind : ReadForm) (taken : List ℕ) → Reads self.now kind taken → Lacks 10 taken → held_by self.now ≤ length taken }
-        ensures whole { (kind : ReadForm) (lines : List (List ℕ)) (line : List ℕ) (v : Value) → Reads self.now kind (unlines lines ++ line) → Lacks 10 line → ReadLines kind v lines → held_by self.now ≤ weight_of_lines v + length line }
+        ensures most { (kind : ReadForm) (lines : List (List ℕ)) (line : List ℕ) (v : Value) → Reads self.now kind (unlines lines ++ line) → Lacks 10 line → ReadLines kind v lines → held_by self.now ≤ weight_of_lines v lines + length line }
     {
         self.machine.all_held()
     }

@@ -1,14 +1,24 @@
 //! Readers of files, byte by byte.
-use crate::{FileFault, PushFault, ValueReader, decode_file};
+use crate::{FileFault, PushFault, ValueReader, built_kind, decode_file};
 use cg_text::Limit;
-use cg_value::{Profile, Value, read_kind};
+use cg_value::{Profile, Value};
 use std::alloc::Global;
 use std::process::Abort;
 use std::test::Fail;
 
 /// A reader of a file that took these bytes.
 fn reader(rt: &impl Abort, alloc: Global, name: &[u8], bytes: &[u8]) -> Result<ValueReader, Fail> {
-    let kind = read_kind(Profile::One, name)?;
+    reader_in(rt, alloc, Profile::One, name, bytes)
+}
+
+fn reader_in(
+    rt: &impl Abort,
+    alloc: Global,
+    profile: Profile,
+    name: &[u8],
+    bytes: &[u8],
+) -> Result<ValueReader, Fail> {
+    let kind = built_kind(profile, name)?;
     let mut reader = ValueReader::new(alloc, kind);
     for byte in bytes {
         assert_eq!(rt; reader.push(*byte), Ok(()), "{bytes:?}");
@@ -19,7 +29,17 @@ fn reader(rt: &impl Abort, alloc: Global, name: &[u8], bytes: &[u8]) -> Result<V
 /// What may follow some bytes of a file.
 #[test]
 fn allowed_bytes(rt: HostRuntime) -> Result<(), Fail> {
-    let rows: [(&[u8], &[u8], &[u8]); 8] = [
+    let rows: [(&[u8], &[u8], &[u8]); 18] = [
+        (b"cpuset.cpus", b"3-", b"123456789"),
+        (b"cpuset.cpus", b"65533,", b"6"),
+        (b"cpuset.cpus", b"65534", b"-\n"),
+        (b"cpuset.cpus", b"", b"0123456789\n"),
+        (b"cpu.max", b"max", b" "),
+        (b"cgroup.type", b"domain", b" \n"),
+        (b"cgroup.type", b"domain ", b"it"),
+        (b"cpu.uclamp.min", b"100.0", b"0"),
+        (b"cgroup.procs", b"7\n", b"0123456789"),
+        (b"cgroup.controllers", b"cpu\n", b""),
         (b"cpu.weight", b"", b"0123456789"),
         (b"cpu.weight", b"0", b"\n"),
         (b"cpu.weight", b"100", b"\n0123456789"),
@@ -31,6 +51,21 @@ fn allowed_bytes(rt: HostRuntime) -> Result<(), Fail> {
     ];
     for (name, bytes, wanted) in rows {
         let allowed = reader(&rt, rt.alloc(), name, bytes)?.allowed();
+        assert_eq!(rt; allowed.len() as usize, wanted.len(), "{bytes:?}");
+        for byte in wanted {
+            assert!(rt; allowed.contains(*byte), "{bytes:?} {byte}");
+        }
+    }
+    Ok(())
+}
+
+/// What may follow in lists under the second profile, whose greatest number is larger.
+#[test]
+fn allowed_numbers(rt: HostRuntime) -> Result<(), Fail> {
+    let rows: [(&[u8], &[u8]); 2] = [(b"65534", b"0123456789,-\n"), (b"65533,", b"123456789")];
+    for (bytes, wanted) in rows {
+        let taken = reader_in(&rt, rt.alloc(), Profile::Two, b"cpuset.cpus", bytes)?;
+        let allowed = taken.allowed();
         assert_eq!(rt; allowed.len() as usize, wanted.len(), "{bytes:?}");
         for byte in wanted {
             assert!(rt; allowed.contains(*byte), "{bytes:?} {byte}");
@@ -84,6 +119,61 @@ fn lines_and_ends(rt: HostRuntime) -> Result<(), Fail> {
         }
     }
     Ok(())
+}
+
+/// Where a line may begin and where a file may end, of files that hold vectors.
+#[test]
+fn lines_and_ends_of_lists(rt: HostRuntime) -> Result<(), Fail> {
+    let rows: [(&[u8], &[u8], bool, bool); 8] = [
+        (b"cgroup.procs", b"", true, true),
+        (b"cgroup.procs", b"7\n0\n", true, true),
+        (b"cgroup.procs", b"7\n0", false, false),
+        (b"cgroup.controllers", b"", true, true),
+        (b"cgroup.controllers", b"cpu io\n", false, true),
+        (b"cpuset.cpus", b"0-3,5\n", false, true),
+        (b"hugetlb.2MB.max", b"ab\n\nc", false, false),
+        (b"hugetlb.2MB.max", b"ab\n", true, true),
+    ];
+    for (name, bytes, takes_line, can_finish) in rows {
+        let taken = reader(&rt, rt.alloc(), name, bytes)?;
+        assert_eq!(rt; taken.takes_line(), takes_line, "{name:?} {bytes:?}");
+        assert_eq!(rt; taken.can_finish(), can_finish, "{name:?} {bytes:?}");
+    }
+    Ok(())
+}
+
+/// The place of the first byte with which no file of the name goes on.
+#[test]
+fn first_bad_bytes(rt: HostRuntime) {
+    let rows: [(&[u8], &[u8], u64); 16] = [
+        (b"cpuset.cpus", b"0-3,4\n", 5),
+        (b"cpuset.cpus", b"65534,", 5),
+        (b"cpuset.cpus", b"65535-", 5),
+        (b"cpuset.cpus", b"3-3\n", 3),
+        (b"cgroup.controllers", b"cpu cpu\n", 7),
+        (b"cgroup.controllers", b"cpu \n", 4),
+        (b"cpu.uclamp.min", b"100.01\n", 5),
+        (b"cpu.uclamp.min", b"12.3\n", 4),
+        (b"cpu.max", b"max\n", 3),
+        (b"cpu.max", b"max  1\n", 4),
+        (b"cgroup.type", b"domain threadex\n", 14),
+        (b"cgroup.type", b"member\n", 0),
+        (b"cgroup.procs", b"7\n\n", 2),
+        (b"cgroup.procs", b"7 \n", 1),
+        (b"cgroup.events.local", b"a\0\n", 1),
+        (b"cpuset.cpus", b"0\n0\n", 2),
+    ];
+    for (name, bytes, at) in rows {
+        let decoded = decode_file(rt.alloc(), Profile::One, name, bytes);
+        assert!(rt;
+            decoded == Err(FileFault::Refused { at }),
+            "{name:?} {bytes:?}"
+        );
+    }
+    let more = decode_file(rt.alloc(), Profile::Two, b"cpuset.cpus", b"1048574,");
+    assert!(rt; more == Err(FileFault::Refused { at: 7 }));
+    let open = decode_file(rt.alloc(), Profile::Two, b"cpuset.cpus", b"65535-");
+    assert!(rt; open == Err(FileFault::Cut { at: 6 }));
 }
 
 #[test]

@@ -1,5 +1,5 @@
 -- The texts of values have no space, newline or other byte below.
-use Rattle.std.proofs.Common.{◌≡◌, ℕ, ◌<◌, ◌≤◌, inl, inr, List, [], ◌∷◌, ◌++◌, codes, arith}
+use Rattle.std.proofs.Common.{◌≡◌, ℕ, suc, ℤ, pos, negsuc, ◌<◌, ◌≤◌, ◌⊎◌, inl, inr, Bool, List, [], ◌∷◌, ◌++◌, codes, arith}
 use Rattle.cg_text.specs.AboveSpace.{AreAboveSpace}
 use Rattle.cg_text.specs.Amount.{IsAmount}
 use Rattle.cg_text.specs.Clamp.{IsClamp}
@@ -7,7 +7,12 @@ use Rattle.cg_text.specs.Decimal.{AreDigits, IsNumeral}
 use Rattle.cg_text.specs.Device.{IsDevice}
 use Rattle.cg_text.specs.Hundredths.{IsHundredths, HasTwoDigits, HasDigits}
 use Rattle.cg_text.specs.Limit.{IsLimit}
+use Rattle.cg_text.specs.List.{IsRangeText, AreRangeTexts, IsStrictList, IsLooseRangeText, AreLooseTexts, IsLooseList}
+use Rattle.cg_text.specs.Signed.{IsSigned, IsSignedNumeral}
+use Rattle.cg_text.specs.Size.{HasFactor, HasSize, IsSize}
 use Rattle.cg_text.specs.Texts.{Lacks}
+use Rattle.cg_text.specs.Word.{AreWordBytes, IsWordText}
+use Rattle.cg_text.specs.WordLaws.{text_word}
 use Rattle.cg_text.specs.declared.hundredths.Form.{Form}
 use Rattle.cg_text.specs.declared.hundredths.Form.TheVariants.{Read, Written}
 use Rattle.cg_text.specs.declared.values.Amount.{Amount}
@@ -75,3 +80,60 @@ amount_above (amount.Decimal v) text h = hundredths_above Read 99999999999 v tex
 
 pub device_above : (v : Device) (text : List ℕ) → IsDevice v text → AreAboveSpace text
 device_above v text h = rw h.text_is (above_append h.major (58 ∷ h.minor) (numeral_above v.major h.major h.major_is.2) (omega arith, numeral_above v.minor h.minor h.minor_is.2))
+
+signed_numeral_above : (z : ℤ) (text : List ℕ) → IsSignedNumeral z text → AreAboveSpace text
+signed_numeral_above (pos n) text h = numeral_above n text h
+signed_numeral_above (negsuc n) text h = rw h.1 (omega arith, numeral_above (suc n) h.0 h.2)
+
+pub signed_above : (lo hi z : ℤ) (text : List ℕ) → IsSigned lo hi z text → AreAboveSpace text
+signed_above lo hi z text h = signed_numeral_above z text h.2
+
+letter_above : (a b suffix : ℕ) → 32 < a → 32 < b → (suffix ≡ a) ⊎ (suffix ≡ b) → 32 < suffix
+letter_above a b suffix h k (inl e) = omega (arith, h, e)
+letter_above a b suffix h k (inr e) = omega (arith, k, e)
+
+suffix_above : (suffix factor : ℕ) → HasFactor suffix factor → 32 < suffix
+suffix_above suffix factor (inl h) = letter_above 75 107 suffix (omega arith) (omega arith) h.0
+suffix_above suffix factor (inr (inl h)) = letter_above 77 109 suffix (omega arith) (omega arith) h.0
+suffix_above suffix factor (inr (inr (inl h))) = letter_above 71 103 suffix (omega arith) (omega arith) h.0
+suffix_above suffix factor (inr (inr (inr (inl h)))) = letter_above 84 116 suffix (omega arith) (omega arith) h.0
+suffix_above suffix factor (inr (inr (inr (inr (inl h))))) = letter_above 80 112 suffix (omega arith) (omega arith) h.0
+suffix_above suffix factor (inr (inr (inr (inr (inr h))))) = letter_above 69 101 suffix (omega arith) (omega arith) h.0
+
+has_size_above : (m factor : ℕ) (text : List ℕ) → HasSize m factor text → AreAboveSpace text
+has_size_above m factor text (inl h) = numeral_above m text h.0
+has_size_above m factor text (inr h) = rw h.2 (above_append h.0 (h.1 ∷ []) (numeral_above m h.0 h.3) (suffix_above h.1 factor h.4, tt))
+
+pub size_above : (n : ℕ) (text : List ℕ) → IsSize n text → AreAboveSpace text
+size_above n text h = has_size_above h.count h.factor text h.spelled
+
+range_above : (most : ℕ) (r : ℕ × ℕ) (text : List ℕ) → IsRangeText most r text → AreAboveSpace text
+range_above most r text (inl h) = numeral_above (r.0) text h.1.2
+range_above most r text (inr h) = rw h.3 (above_append h.1 (45 ∷ h.2) (numeral_above (r.0) h.1 h.4.2) (omega arith, numeral_above (r.1) h.2 h.5.2))
+
+ranges_above : (most : ℕ) (rs : List (ℕ × ℕ)) (text : List ℕ) → AreRangeTexts most rs text → AreAboveSpace text
+ranges_above most [] text h = none_above text h
+ranges_above most (r ∷ []) text h = range_above most r text h
+ranges_above most (r ∷ q ∷ rs) text h = rw h.2 (above_append h.0 (44 ∷ h.1) (range_above most r h.0 h.3) (omega arith, ranges_above most (q ∷ rs) h.1 h.4))
+
+pub strict_above : (most : ℕ) (set : List (ℕ × ℕ)) (text : List ℕ) → IsStrictList most set text → AreAboveSpace text
+strict_above most set text h = ranges_above most set text h.1
+
+loose_range_above : (most : ℕ) (r : ℕ × ℕ) (text : List ℕ) → IsLooseRangeText most r text → AreAboveSpace text
+loose_range_above most r text (inl h) = numeral_above (r.0) text h.1.2
+loose_range_above most r text (inr h) = rw h.3 (above_append h.1 (45 ∷ h.2) (numeral_above (r.0) h.1 h.4.2) (omega arith, numeral_above (r.1) h.2 h.5.2))
+
+loose_ranges_above : (most : ℕ) (rs : List (ℕ × ℕ)) (text : List ℕ) → AreLooseTexts most rs text → AreAboveSpace text
+loose_ranges_above most [] text h = none_above text h
+loose_ranges_above most (r ∷ []) text h = loose_range_above most r text h
+loose_ranges_above most (r ∷ q ∷ rs) text h = rw h.2 (above_append h.0 (44 ∷ h.1) (loose_range_above most r h.0 h.3) (omega arith, loose_ranges_above most (q ∷ rs) h.1 h.4))
+
+pub loose_above : (most : ℕ) (set : List (ℕ × ℕ)) (text : List ℕ) → IsLooseList most set text → AreAboveSpace text
+loose_above most set text h = loose_ranges_above most h.1 text h.3
+
+word_bytes_above : (text : List ℕ) → AreWordBytes text → AreAboveSpace text
+word_bytes_above [] h = tt
+word_bytes_above (c ∷ cs) h = (omega (arith, h.0.0), word_bytes_above cs h.1)
+
+pub word_text_above : (controller : Bool) (text : List ℕ) → IsWordText controller text → AreAboveSpace text
+word_text_above controller text h = word_bytes_above text (text_word controller text h).1

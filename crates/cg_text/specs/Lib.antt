@@ -9,6 +9,7 @@ pub mod Decimal
 pub mod DecimalLaws
 pub mod DecimalState
 pub mod Device
+pub mod Distinct
 pub mod FixedLaws
 pub mod Hundredths
 pub mod HundredthsLaws
@@ -27,6 +28,7 @@ pub mod ListState
 pub mod LooseLaws
 pub mod LooseSound
 pub mod LooseState
+pub mod NewlineLaws
 pub mod NumberRest
 pub mod NumberRestLaws
 pub mod Numbers

@@ -1,4 +1,4 @@
-//! The words of the grammar that are always the same.
+//! The texts of the grammar that are always the same.
 ghost use Rattle.std.specs.Prelude.{◌≡◌, ℕ, ◌≤◌, ◌↔◌, false, List, length, drop, refl, nat_eq};
 ghost use Rattle.cg_text.specs.Token.{Spells};
 ghost use Rattle.cg_text.specs.Keyword.{text_of};
@@ -6,7 +6,8 @@ ghost use Rattle.cg_text.specs.Keyword.{text_of};
 use crate::memory::OutOfMemory;
 use crate::token::Token;
 
-/// A word of the grammar.
+/// A text of the grammar that is always the same: a word, or a label with the space before it and the `=` behind it
+/// (cgroup-v2.rst, "Interface Files"; psi.rst).
 #[derive(Clone, Copy, Debug, PartialEq, Eq)]
 pub enum Keyword {
     /// `max`: no limit.
@@ -17,6 +18,44 @@ pub enum Keyword {
     Some,
     /// `full`: all tasks stall.
     Full,
+    /// `domain`: a group of its own resource domain.
+    Domain,
+    /// `domain threaded`: a domain that serves as the root of a threaded subtree.
+    DomainThreaded,
+    /// `domain invalid`: a group that is in an invalid state.
+    DomainInvalid,
+    /// `threaded`: a threaded group.
+    Threaded,
+    /// `member`: a partition's member, which is no root.
+    Member,
+    /// `root`: a partition root.
+    Root,
+    /// `isolated`: a partition root without load balancing.
+    Isolated,
+    /// ` invalid`: what follows the role of an invalid partition root.
+    Invalid,
+    /// ` (`: what stands before the reason of an invalid partition.
+    Opening,
+    /// ` rbps=`: before the greatest number of bytes read a second.
+    Rbps,
+    /// ` wbps=`: before the greatest number of bytes written a second.
+    Wbps,
+    /// ` riops=`: before the greatest number of reads a second.
+    Riops,
+    /// ` wiops=`: before the greatest number of writes a second.
+    Wiops,
+    /// ` target=`: before a device's latency target.
+    Target,
+    /// ` swappiness=`: before the swappiness of a reclaim.
+    Swappiness,
+    /// ` avg10=`: before the average over ten seconds.
+    Avg10,
+    /// ` avg60=`: before the average over a minute.
+    Avg60,
+    /// ` avg300=`: before the average over five minutes.
+    Avg300,
+    /// ` total=`: before the total stall time.
+    Total,
 }
 
 impl Keyword {
@@ -29,11 +68,30 @@ impl Keyword {
             Keyword::Default => b"default",
             Keyword::Some => b"some",
             Keyword::Full => b"full",
+            Keyword::Domain => b"domain",
+            Keyword::DomainThreaded => b"domain threaded",
+            Keyword::DomainInvalid => b"domain invalid",
+            Keyword::Threaded => b"threaded",
+            Keyword::Member => b"member",
+            Keyword::Root => b"root",
+            Keyword::Isolated => b"isolated",
+            Keyword::Invalid => b" invalid",
+            Keyword::Opening => b" (",
+            Keyword::Rbps => b" rbps=",
+            Keyword::Wbps => b" wbps=",
+            Keyword::Riops => b" riops=",
+            Keyword::Wiops => b" wiops=",
+            Keyword::Target => b" target=",
+            Keyword::Swappiness => b" swappiness=",
+            Keyword::Avg10 => b" avg10=",
+            Keyword::Avg60 => b" avg60=",
+            Keyword::Avg300 => b" avg300=",
+            Keyword::Total => b" total=",
         }
     }
 }
 
-/// The text of a word of the grammar. Unlike a `FixedText` it holds no reference.
+/// One of these texts. Unlike a `FixedText` it holds no reference.
 #[derive(Clone, Copy, Drop)]
 pub struct KeywordText {
     keyword: Keyword,
@@ -42,7 +100,7 @@ pub struct KeywordText {
 }
 
 impl KeywordText {
-    /// A token of this word.
+    /// A token of this text.
     pub fn new(keyword: Keyword) -> KeywordText
         ensures spells { Spells ⟦<KeywordText as Token>⟧.means result (λ rest _. rest ≡ text_of keyword) }
         ensures size { ⟦<KeywordText as Token>⟧.size result ≡ 0 }

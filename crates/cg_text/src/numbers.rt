@@ -118,6 +118,15 @@ impl NumberSet {
         total
     }
 
+    /// A copy.
+    pub fn copy(&self, alloc: Global) -> Result<NumberSet, OutOfMemory>
+        ensures { IfOk result (λ copy. copy ≡ self.now) }
+    {
+        Ok(NumberSet {
+            ranges: Vec::from_slice(alloc, self.ranges.as_slice())?,
+        })
+    }
+
     /// A law of sets, for proofs: those with the same numbers have the same ranges.
     pub fn same_ranges()
         ensures { (xs ys : List (ℕ × ℕ)) → IsSet xs → IsSet ys → ((n : ℕ) → Has xs n ↔ Has ys n) → xs ≡ ys }
@@ -154,6 +163,7 @@ mod tests {
         set.insert_range(5, 5)?;
         assert_eq!(rt; set.ranges(), [(0, 6), (8, 10)].as_slice());
         assert_eq!(rt; set.len(), 10);
+        assert!(rt; set.copy(rt.alloc())? == set);
         let mut whole = NumberSet::new(rt.alloc());
         whole.insert_range(7, 4294967295)?;
         assert!(rt; whole != set);

@@ -40,11 +40,18 @@ impl WordText {
         }
     }
 
+    /// The bytes that were taken, which begin a word.
+    pub fn bytes(&self) -> &[u8]
+        ensures { result.now ≡ self.now.bytes.items }
+    {
+        self.bytes.as_slice()
+    }
+
     /// Whether what was taken is this key.
     pub fn is(&self, key: &Key) -> bool
         ensures { result ≡ is_taken self.now.bytes.items key.now }
     {
-        !self.bytes.is_empty() && self.bytes.as_slice() == key.bytes()
+        !self.bytes.is_empty() && self.bytes() == key.bytes()
     }
 }
 

@@ -1,32 +1,51 @@
 -- What a file is: lines that spell its value, each with its newline (cgroup-v2.rst, "Interface Files").
-use Rattle.std.specs.Prelude.{◌≡◌, ℕ, List, [], ◌∷◌, ◌++◌, Option, Some}
+use Rattle.std.specs.Prelude.{◌≡◌, ℕ, Bool, List, [], ◌∷◌, Option, Some}
+use Rattle.cg_text.specs.Clamp.{IsClamp}
 use Rattle.cg_text.specs.Decimal.{IsDecimal}
 use Rattle.cg_text.specs.Limit.{IsLimit}
+use Rattle.cg_text.specs.List.{IsStrictList}
+use Rattle.cg_text.specs.Signed.{IsSigned}
 use Rattle.cg_text.specs.Texts.{TextOf}
+use Rattle.cg_text.specs.declared.hundredths.Form.TheVariants.{Read}
+use Rattle.cg_text.specs.declared.values.Limit.{Limit}
+use Rattle.cg_value.specs.Kind.{any_u64}
+use Rattle.cg_value.specs.Lines.{unlines, IsOneLine, AreLinesOf}
+use Rattle.cg_value.specs.ReadLine.{IsMode, IsCpuMax, AreWords, AreFlatLines, IsStatLine, IsLimitLine, AreWeightLines, IsTargetLine, IsPartition, ArePressureLines, AreNestedLines, IsRaw}
 use Rattle.cg_value.specs.Table.{read_form_of}
-use Rattle.cg_value.specs.declared.profile.Profile.{Profile}
 use Rattle.cg_value.specs.declared.kind.ReadForm.{ReadForm}
-use Rattle.cg_value.specs.declared.kind.ReadForm.TheVariants.{Number as NumberForm, Limit as LimitForm}
+use Rattle.cg_value.specs.declared.kind.ReadForm.TheVariants as form
+use Rattle.cg_value.specs.declared.profile.Profile.{Profile}
+use Rattle.cg_value.specs.declared.value.Averages.{Averages}
+use Rattle.cg_value.specs.declared.value.Role.{Role}
 use Rattle.cg_value.specs.declared.value.Value.{Value}
-use Rattle.cg_value.specs.declared.value.Value.TheVariants.{Number, Limit}
+use Rattle.cg_value.specs.declared.value.Value.TheVariants as value
 
--- The lines, each with its newline.
-abbrev pub unlines : List (List ℕ) → List ℕ
-unlines [] = []
-unlines (line ∷ lines) = line ++ 10 ∷ unlines lines
-
--- One line, a text of x, and the value is made of x.
-pub record IsOneLine {X : Type 0} (P : X → List ℕ → Type 0) (make : X → Value) (v : Value) (lines : List (List ℕ)) : Type 0 where
+-- The value is made of x, to which the relation gives these lines.
+pub record IsMadeOf {X : Type 0} (P : X → List (List ℕ) → Type 0) (make : X → Value) (v : Value) (lines : List (List ℕ)) : Type 0 where
   pub x : X
-  pub line : List ℕ
   pub value : v ≡ make x
-  pub lines_are : lines ≡ line ∷ []
-  pub spelled : P x line
+  pub spelled : P x lines
 
 -- The lines spell the value, by the kind of the file.
 abbrev pub ReadLines : ReadForm → Value → List (List ℕ) → Type 0
-ReadLines (NumberForm lo hi) v lines = IsOneLine (λ n line. IsDecimal lo hi n line) Number v lines
-ReadLines LimitForm v lines = IsOneLine (λ l line. IsLimit 0 18446744073709551615 l line) Limit v lines
+ReadLines (form.Number lo hi) v lines = IsOneLine (IsDecimal lo hi) value.Number v lines
+ReadLines (form.Signed lo hi) v lines = IsOneLine (IsSigned lo hi) value.Signed v lines
+ReadLines form.Limit v lines = IsOneLine (IsLimit 0 any_u64) value.Limit v lines
+ReadLines form.Mode v lines = IsOneLine IsMode value.Mode v lines
+ReadLines form.CpuMax v lines = IsOneLine IsCpuMax (λ (x : Limit × ℕ). value.CpuMax (x.0) (x.1)) v lines
+ReadLines form.Clamp v lines = IsOneLine (IsClamp Read) value.Clamp v lines
+ReadLines (form.Numbers lo hi) v lines = AreLinesOf (IsDecimal lo hi) value.Numbers v lines
+ReadLines form.Words v lines = IsMadeOf AreWords value.Words v lines
+ReadLines form.Flat v lines = IsMadeOf AreFlatLines value.Flat v lines
+ReadLines form.DeviceStats v lines = AreLinesOf IsStatLine value.DeviceStats v lines
+ReadLines form.DeviceLimits v lines = AreLinesOf IsLimitLine value.DeviceLimits v lines
+ReadLines form.DeviceWeights v lines = AreWeightLines v lines
+ReadLines form.DeviceTargets v lines = AreLinesOf IsTargetLine value.DeviceTargets v lines
+ReadLines (form.Set most) v lines = IsOneLine (IsStrictList most) value.Set v lines
+ReadLines form.Partition v lines = IsOneLine (λ (x : Role × Bool × Option (List ℕ)) line. IsPartition (x.0) (x.1) (x.2) line) (λ x. value.Partition (x.0) (x.1) (x.2)) v lines
+ReadLines form.Pressure v lines = IsMadeOf (λ (x : Option Averages × Option Averages) ls. ArePressureLines (x.0) (x.1) ls) (λ x. value.Pressure (x.0) (x.1)) v lines
+ReadLines form.Nested v lines = IsMadeOf AreNestedLines value.Nested v lines
+ReadLines form.Raw v lines = AreLinesOf IsRaw value.Raw v lines
 
 -- A file of this kind can hold the value.
 pub record Fits (kind : ReadForm) (v : Value) : Type 0 where

@@ -1,64 +1,110 @@
--- The file table: what each interface file holds when it is read (cgroup-v2.rst, "Core Interface Files", "CPU",
--- "Memory", "PID"). The bounds of cpu.weight as it is read include 0, which kernels print where a group is idle.
-use Rattle.std.specs.Prelude.{ℕ, List, [], ◌∷◌, Option, Some, None, codes, if◌then◌else◌}
+-- The file table: what each interface file holds when it is read, and what one write of it holds (cgroup-v2.rst, "Core
+-- Interface Files", "CPU", "Memory", "IO", "PID" and "Cpuset"). The bounds of cpu.weight as it is read include 0, which
+-- kernels print where a group is idle.
+use Rattle.std.specs.Prelude.{ℕ, ℤ, pos, negsuc, List, [], ◌∷◌, Option, Some, None, codes, if◌then◌else◌}
 use Rattle.std.specs.Str.{bytes_eq}
-use Rattle.cg_value.specs.declared.profile.Profile.{Profile}
+use Rattle.cg_value.specs.Kind.{any_u64}
 use Rattle.cg_value.specs.declared.kind.ReadForm.{ReadForm}
-use Rattle.cg_value.specs.declared.kind.ReadForm.TheVariants.{Number, Limit}
+use Rattle.cg_value.specs.declared.kind.ReadForm.TheVariants as read
+use Rattle.cg_value.specs.declared.kind.WriteForm.{WriteForm}
+use Rattle.cg_value.specs.declared.kind.WriteForm.TheVariants as write
+use Rattle.cg_value.specs.declared.profile.Profile.{Profile}
+use Rattle.cg_value.specs.declared.profile.Profile.TheVariants.{One, Two}
 
+-- A row: none stands where a file of the name can't be read, or written.
 pub record Row : Type 0 where
   pub name : List ℕ
   pub reads : Option ReadForm
+  pub writes : Option WriteForm
 
--- A file of one number, from 0 to hi.
-abbrev pub number : List ℕ → ℕ → Row
-number name hi = record { name = name; reads = Some (Number 0 hi) }
+abbrev pub row : List ℕ → Option ReadForm → Option WriteForm → Row
+row name reads writes = record { name = name; reads = reads; writes = writes }
 
--- A file of one limit.
-abbrev pub limit : List ℕ → Row
-limit name = record { name = name; reads = Some Limit }
+-- Where the two profiles differ: the greatest list number, and how memory.numa_stat is read.
+abbrev pub list_end : Profile → ℕ
+list_end One = 65535
+list_end Two = 1048575
 
--- A file that can't be read.
-abbrev pub unreadable : List ℕ → Row
-unreadable name = record { name = name; reads = None }
+abbrev pub numa_stat : Profile → ReadForm
+numa_stat One = read.Raw
+numa_stat Two = read.Nested
 
-abbrev pub any_u64 : ℕ
-any_u64 = 18446744073709551615
-
-abbrev pub rows : List Row
-rows = limit (codes "cgroup.max.descendants")
-    ∷ limit (codes "cgroup.max.depth")
-    ∷ number (codes "cgroup.freeze") 1
-    ∷ number (codes "cgroup.pressure") 1
-    ∷ unreadable (codes "cgroup.kill")
-    ∷ number (codes "cpu.weight") 10000
-    ∷ number (codes "cpu.idle") 1
-    ∷ number (codes "cpu.max.burst") any_u64
-    ∷ number (codes "memory.current") any_u64
-    ∷ number (codes "memory.peak") any_u64
-    ∷ number (codes "memory.swap.current") any_u64
-    ∷ number (codes "memory.swap.peak") any_u64
-    ∷ number (codes "memory.zswap.current") any_u64
-    ∷ limit (codes "memory.min")
-    ∷ limit (codes "memory.low")
-    ∷ limit (codes "memory.high")
-    ∷ limit (codes "memory.max")
-    ∷ limit (codes "memory.swap.high")
-    ∷ limit (codes "memory.swap.max")
-    ∷ limit (codes "memory.zswap.max")
-    ∷ number (codes "memory.oom.group") 1
-    ∷ number (codes "memory.zswap.writeback") 1
-    ∷ unreadable (codes "memory.reclaim")
-    ∷ limit (codes "pids.max")
-    ∷ number (codes "pids.current") any_u64
-    ∷ number (codes "pids.peak") any_u64
+abbrev pub rows : Profile → List Row
+rows profile = row (codes "cgroup.type") (Some read.Mode) (Some write.Mode)
+    ∷ row (codes "cgroup.procs") (Some (read.Numbers 0 2147483647)) (Some (write.Number 0 2147483647))
+    ∷ row (codes "cgroup.threads") (Some (read.Numbers 0 2147483647)) (Some (write.Number 0 2147483647))
+    ∷ row (codes "cgroup.controllers") (Some read.Words) (None)
+    ∷ row (codes "cgroup.subtree_control") (Some read.Words) (Some write.Controllers)
+    ∷ row (codes "cgroup.events") (Some read.Flat) (None)
+    ∷ row (codes "cgroup.stat") (Some read.Flat) (None)
+    ∷ row (codes "cgroup.max.descendants") (Some read.Limit) (Some (write.Limit 0 any_u64))
+    ∷ row (codes "cgroup.max.depth") (Some read.Limit) (Some (write.Limit 0 any_u64))
+    ∷ row (codes "cgroup.freeze") (Some (read.Number 0 1)) (Some (write.Number 0 1))
+    ∷ row (codes "cgroup.pressure") (Some (read.Number 0 1)) (Some (write.Number 0 1))
+    ∷ row (codes "cgroup.kill") (None) (Some (write.Number 1 1))
+    ∷ row (codes "cpu.stat") (Some read.Flat) (None)
+    ∷ row (codes "cpu.weight") (Some (read.Number 0 10000)) (Some (write.Number 1 10000))
+    ∷ row (codes "cpu.weight.nice") (Some (read.Signed (negsuc 19) (pos 19))) (Some (write.Signed (negsuc 19) (pos 19)))
+    ∷ row (codes "cpu.idle") (Some (read.Number 0 1)) (Some (write.Number 0 1))
+    ∷ row (codes "cpu.max") (Some read.CpuMax) (Some write.CpuMax)
+    ∷ row (codes "cpu.max.burst") (Some (read.Number 0 any_u64)) (Some (write.Number 0 any_u64))
+    ∷ row (codes "cpu.uclamp.min") (Some read.Clamp) (Some write.Clamp)
+    ∷ row (codes "cpu.uclamp.max") (Some read.Clamp) (Some write.Clamp)
+    ∷ row (codes "cpu.pressure") (Some read.Pressure) (Some write.Trigger)
+    ∷ row (codes "memory.current") (Some (read.Number 0 any_u64)) (None)
+    ∷ row (codes "memory.peak") (Some (read.Number 0 any_u64)) (None)
+    ∷ row (codes "memory.swap.current") (Some (read.Number 0 any_u64)) (None)
+    ∷ row (codes "memory.swap.peak") (Some (read.Number 0 any_u64)) (None)
+    ∷ row (codes "memory.zswap.current") (Some (read.Number 0 any_u64)) (None)
+    ∷ row (codes "memory.min") (Some read.Limit) (Some write.SizeLimit)
+    ∷ row (codes "memory.low") (Some read.Limit) (Some write.SizeLimit)
+    ∷ row (codes "memory.high") (Some read.Limit) (Some write.SizeLimit)
+    ∷ row (codes "memory.max") (Some read.Limit) (Some write.SizeLimit)
+    ∷ row (codes "memory.swap.high") (Some read.Limit) (Some write.SizeLimit)
+    ∷ row (codes "memory.swap.max") (Some read.Limit) (Some write.SizeLimit)
+    ∷ row (codes "memory.zswap.max") (Some read.Limit) (Some write.SizeLimit)
+    ∷ row (codes "memory.oom.group") (Some (read.Number 0 1)) (Some (write.Number 0 1))
+    ∷ row (codes "memory.zswap.writeback") (Some (read.Number 0 1)) (Some (write.Number 0 1))
+    ∷ row (codes "memory.stat") (Some read.Flat) (None)
+    ∷ row (codes "memory.events") (Some read.Flat) (None)
+    ∷ row (codes "memory.events.local") (Some read.Flat) (None)
+    ∷ row (codes "memory.swap.events") (Some read.Flat) (None)
+    ∷ row (codes "memory.reclaim") (None) (Some write.Reclaim)
+    ∷ row (codes "memory.numa_stat") (Some (numa_stat profile)) (None)
+    ∷ row (codes "memory.pressure") (Some read.Pressure) (Some write.Trigger)
+    ∷ row (codes "io.stat") (Some read.DeviceStats) (None)
+    ∷ row (codes "io.max") (Some read.DeviceLimits) (Some write.DeviceLimits)
+    ∷ row (codes "io.weight") (Some read.DeviceWeights) (Some write.DeviceWeight)
+    ∷ row (codes "io.latency") (Some read.DeviceTargets) (Some write.DeviceTarget)
+    ∷ row (codes "io.pressure") (Some read.Pressure) (Some write.Trigger)
+    ∷ row (codes "irq.pressure") (Some read.Pressure) (Some write.Trigger)
+    ∷ row (codes "pids.max") (Some read.Limit) (Some (write.Limit 0 4194304))
+    ∷ row (codes "pids.current") (Some (read.Number 0 any_u64)) (None)
+    ∷ row (codes "pids.peak") (Some (read.Number 0 any_u64)) (None)
+    ∷ row (codes "pids.events") (Some read.Flat) (None)
+    ∷ row (codes "cpuset.cpus") (Some (read.Set (list_end profile))) (Some (write.Set (list_end profile)))
+    ∷ row (codes "cpuset.mems") (Some (read.Set (list_end profile))) (Some (write.Set (list_end profile)))
+    ∷ row (codes "cpuset.cpus.effective") (Some (read.Set (list_end profile))) (None)
+    ∷ row (codes "cpuset.mems.effective") (Some (read.Set (list_end profile))) (None)
+    ∷ row (codes "cpuset.cpus.exclusive") (Some (read.Set (list_end profile))) (Some (write.Set (list_end profile)))
+    ∷ row (codes "cpuset.cpus.exclusive.effective") (Some (read.Set (list_end profile))) (None)
+    ∷ row (codes "cpuset.cpus.isolated") (Some (read.Set (list_end profile))) (None)
+    ∷ row (codes "cpuset.cpus.partition") (Some read.Partition) (Some write.Role)
     ∷ []
 
--- What the first row of the name says; a name outside the table has no read form yet.
+-- What the first row of the name says. A name outside the table is raw both ways.
 abbrev pub reads_in : List Row → List ℕ → Option ReadForm
-reads_in [] name = None
+reads_in [] name = Some read.Raw
 reads_in (r ∷ rs) name = if bytes_eq r.name name then r.reads else reads_in rs name
+
+abbrev pub writes_in : List Row → List ℕ → Option WriteForm
+writes_in [] name = Some write.Raw
+writes_in (r ∷ rs) name = if bytes_eq r.name name then r.writes else writes_in rs name
 
 -- What a file of this name holds in the profile, none where it can't be read.
 unfoldable pub read_form_of : Profile → List ℕ → Option ReadForm
-read_form_of profile name = reads_in rows name
+read_form_of profile name = reads_in (rows profile) name
+
+-- What one write of a file of this name holds in the profile, none where it can't be written.
+unfoldable pub write_form_of : Profile → List ℕ → Option WriteForm
+write_form_of profile name = writes_in (rows profile) name

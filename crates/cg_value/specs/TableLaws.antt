@@ -1,44 +1,134 @@
 -- What holds of the file table.
-use Rattle.std.proofs.Common.{◌≡◌, ℕ, ◌≤◌, List, [], ◌∷◌, Option, Some, None, Bool, true, false, cond, ◌&&◌, refl, sym, leb, leb-true}
-use Rattle.std.proofs.lemmas.Bool.{and_parts}
-use Rattle.std.specs.List.{list_all}
+use Rattle.std.proofs.Common.{◌≡◌, ℕ, zero, suc, ◌<◌, length, map, slice_index_or, ◌≤◌, List, [], ◌∷◌, Option, Some, None, Bool, true, false, cond, refl, sym, ◌∙◌, ap, ℤ, pos, negsuc, arith, inl, inr}
+use Rattle.std.specs.Prelude.{if◌then◌else◌}
+use Rattle.std.specs.Option.{option_map}
 use Rattle.std.specs.Str.{bytes_eq}
-use Rattle.cg_value.specs.Kind.{IsReadForm}
-use Rattle.cg_value.specs.Table.{Row, rows, reads_in, read_form_of}
+use Rattle.cg_value.specs.Kind.{IsReadForm, IsWriteForm}
+use Rattle.cg_value.specs.Table.{Row, rows, reads_in, writes_in, read_form_of, write_form_of}
+use Rattle.cg_value.specs.TableRows.{read_in, write_in}
 use Rattle.cg_value.specs.declared.profile.Profile.{Profile}
+use Rattle.cg_value.specs.declared.profile.Profile.TheVariants.{One, Two}
 use Rattle.cg_value.specs.declared.kind.ReadForm.{ReadForm}
-use Rattle.cg_value.specs.declared.kind.ReadForm.TheVariants.{Number, Limit}
+use Rattle.cg_value.specs.declared.kind.ReadForm.TheVariants as read
+use Rattle.cg_value.specs.declared.kind.WriteForm.{WriteForm}
+use Rattle.cg_value.specs.declared.kind.WriteForm.TheVariants as write
+use Rattle.cg_value.specs.declared.table.Forms.{Forms}
 
-abbrev is_bounded : ReadForm → Bool
-is_bounded (Number lo hi) = leb lo hi && leb hi 18446744073709551615
-is_bounded Limit = true
+-- A member of a list as it is mapped.
+pub index_map : {X Y : Type 0} (f : X → Y) (xs : List X) (k : ℕ) (d : X) (e : Y) → k < length xs → f (slice_index_or xs k d) ≡ slice_index_or (map f xs) k e
+index_map f [] k d e h = absurd (omega arith)
+index_map f (x ∷ xs) zero d e h = refl
+index_map f (x ∷ xs) (suc k) d e h = index_map f xs k d e (omega arith)
 
-abbrev row_is_bounded : Option ReadForm → Bool
-row_is_bounded None = true
-row_is_bounded (Some form) = is_bounded form
+-- What the first row of the name says both ways.
+abbrev pub forms_in : List Row → List ℕ → Option Forms
+forms_in [] name = None
+forms_in (r ∷ rs) name = if bytes_eq r.name name then Some (record { reads = r.reads; writes = r.writes }) else forms_in rs name
 
-bounded_form : (form : ReadForm) → is_bounded form ≡ true → IsReadForm form
-bounded_form (Number lo hi) e = let both = and_parts _ _ e in (leb-true lo hi both.0, leb-true hi 18446744073709551615 both.1)
-bounded_form Limit e = tt
+-- The rows are those of the second profile, as the profile has them.
+abbrev Agree : Profile → List Row → List Row → Type 0
+Agree profile [] [] = Unit {0}
+Agree profile [] (q ∷ qs) = ⊥
+Agree profile (r ∷ rs) [] = ⊥
+Agree profile (r ∷ rs) (q ∷ qs) = (r.name ≡ q.name) × (option_map (read_in profile) r.reads ≡ q.reads) × (option_map (write_in profile) r.writes ≡ q.writes) × Agree profile rs qs
 
-bounded_row : (o : Option ReadForm) (form : ReadForm) → row_is_bounded o ≡ true → o ≡ Some form → IsReadForm form
-bounded_row None form b e = absurd (cc)
-bounded_row (Some f) form b e = let same : f ≡ form = cc in bounded_form form (rw same at b)
+abbrev reads_of : Profile → Option Forms → Option ReadForm
+reads_of profile None = Some read.Raw
+reads_of profile (Some f) = option_map (read_in profile) f.reads
 
-chosen : (b : Bool) (o p : Option ReadForm) (form : ReadForm) → cond b o p ≡ Some form → (o ≡ Some form → IsReadForm form) → (p ≡ Some form → IsReadForm form) → IsReadForm form
-chosen true o p form e f g = f e
-chosen false o p form e f g = g e
+abbrev writes_of : Profile → Option Forms → Option WriteForm
+writes_of profile None = Some write.Raw
+writes_of profile (Some f) = option_map (write_in profile) f.writes
 
-bounded_in : (rs : List Row) (name : List ℕ) (form : ReadForm) → list_all (λ r. row_is_bounded r.reads) rs ≡ true → reads_in rs name ≡ Some form → IsReadForm form
-bounded_in [] name form b e = absurd (cc)
-bounded_in (r ∷ rs) name form b e =
-    let both = and_parts _ _ b in
-    chosen (bytes_eq r.name name) r.reads (reads_in rs name) form e (bounded_row r.reads form both.0) (bounded_in rs name form both.1)
+reads_same : (profile : Profile) (rs qs : List Row) (name : List ℕ) → Agree profile rs qs → reads_of profile (forms_in rs name) ≡ reads_in qs name
+reads_same profile [] [] name a = refl
+reads_same profile [] (q ∷ qs) name a = absurd a
+reads_same profile (r ∷ rs) [] name a = absurd a
+reads_same profile (r ∷ rs) (q ∷ qs) name a = rw (← a.0) (pick_reads profile r.reads r.writes (bytes_eq r.name name) q.reads a.1 (forms_in rs name) (reads_in qs name) (reads_same profile rs qs name a.3))
+  where
+    pick_reads : (profile : Profile) (o : Option ReadForm) (p : Option WriteForm) (b : Bool) (u : Option ReadForm) → option_map (read_in profile) o ≡ u → (y : Option Forms) (v : Option ReadForm) → reads_of profile y ≡ v → reads_of profile (cond b (Some (record { reads = o; writes = p })) y) ≡ cond b u v
+    pick_reads profile o p true u e y v g = e
+    pick_reads profile o p false u e y v g = g
 
-all_bounded : list_all (λ r. row_is_bounded r.reads) rows ≡ true
-all_bounded = refl
+writes_same : (profile : Profile) (rs qs : List Row) (name : List ℕ) → Agree profile rs qs → writes_of profile (forms_in rs name) ≡ writes_in qs name
+writes_same profile [] [] name a = refl
+writes_same profile [] (q ∷ qs) name a = absurd a
+writes_same profile (r ∷ rs) [] name a = absurd a
+writes_same profile (r ∷ rs) (q ∷ qs) name a = rw (← a.0) (pick_writes profile r.reads r.writes (bytes_eq r.name name) q.writes a.2 (forms_in rs name) (writes_in qs name) (writes_same profile rs qs name a.3))
+  where
+    pick_writes : (profile : Profile) (o : Option ReadForm) (p : Option WriteForm) (b : Bool) (u : Option WriteForm) → option_map (write_in profile) p ≡ u → (y : Option Forms) (v : Option WriteForm) → writes_of profile y ≡ v → writes_of profile (cond b (Some (record { reads = o; writes = p })) y) ≡ cond b u v
+    pick_writes profile o p true u e y v g = e
+    pick_writes profile o p false u e y v g = g
 
--- The bounds of a kind of the table leave some value, and are numbers of 64 bits.
-pub form_is_bounded : (profile : Profile) (name : List ℕ) (form : ReadForm) → read_form_of profile name ≡ Some form → IsReadForm form
+agree : (profile : Profile) → Agree profile (rows Two) (rows profile)
+agree One = (refl, refl, refl, (refl, refl, refl, (refl, refl, refl, (refl, refl, refl, (refl, refl, refl, (refl, refl, refl, (refl, refl, refl, (refl, refl, refl, (refl, refl, refl, (refl, refl, refl, (refl, refl, refl, (refl, refl, refl, (refl, refl, refl, (refl, refl, refl, (refl, refl, refl, (refl, refl, refl, (refl, refl, refl, (refl, refl, refl, (refl, refl, refl, (refl, refl, refl, (refl, refl, refl, (refl, refl, refl, (refl, refl, refl, (refl, refl, refl, (refl, refl, refl, (refl, refl, refl, (refl, refl, refl, (refl, refl, refl, (refl, refl, refl, (refl, refl, refl, (refl, refl, refl, (refl, refl, refl, (refl, refl, refl, (refl, refl, refl, (refl, refl, refl, (refl, refl, refl, (refl, refl, refl, (refl, refl, refl, (refl, refl, refl, (refl, refl, refl, (refl, refl, refl, (refl, refl, refl, (refl, refl, refl, (refl, refl, refl, (refl, refl, refl, (refl, refl, refl, (refl, refl, refl, (refl, refl, refl, (refl, refl, refl, (refl, refl, refl, (refl, refl, refl, (refl, refl, refl, (refl, refl, refl, (refl, refl, refl, (refl, refl, refl, (refl, refl, refl, (refl, refl, refl, (refl, refl, refl, (refl, refl, refl, (refl, refl, refl, tt))))))))))))))))))))))))))))))))))))))))))))))))))))))))))))
+agree Two = (refl, refl, refl, (refl, refl, refl, (refl, refl, refl, (refl, refl, refl, (refl, refl, refl, (refl, refl, refl, (refl, refl, refl, (refl, refl, refl, (refl, refl, refl, (refl, refl, refl, (refl, refl, refl, (refl, refl, refl, (refl, refl, refl, (refl, refl, refl, (refl, refl, refl, (refl, refl, refl, (refl, refl, refl, (refl, refl, refl, (refl, refl, refl, (refl, refl, refl, (refl, refl, refl, (refl, refl, refl, (refl, refl, refl, (refl, refl, refl, (refl, refl, refl, (refl, refl, refl, (refl, refl, refl, (refl, refl, refl, (refl, refl, refl, (refl, refl, refl, (refl, refl, refl, (refl, refl, refl, (refl, refl, refl, (refl, refl, refl, (refl, refl, refl, (refl, refl, refl, (refl, refl, refl, (refl, refl, refl, (refl, refl, refl, (refl, refl, refl, (refl, refl, refl, (refl, refl, refl, (refl, refl, refl, (refl, refl, refl, (refl, refl, refl, (refl, refl, refl, (refl, refl, refl, (refl, refl, refl, (refl, refl, refl, (refl, refl, refl, (refl, refl, refl, (refl, refl, refl, (refl, refl, refl, (refl, refl, refl, (refl, refl, refl, (refl, refl, refl, (refl, refl, refl, (refl, refl, refl, (refl, refl, refl, (refl, refl, refl, tt))))))))))))))))))))))))))))))))))))))))))))))))))))))))))))
+
+-- What a row says of a name, and what its absence says.
+pub read_form_in : (profile : Profile) (name : List ℕ) (f : Forms) (form : ReadForm) → Some f ≡ forms_in (rows Two) name → f.reads ≡ Some form → read_form_of profile name ≡ Some (read_in profile form)
 unfolding read_form_of
-form_is_bounded profile name form e = bounded_in rows name form all_bounded e
+read_form_in profile name f form e h = sym (reads_same profile (rows Two) (rows profile) name (agree profile)) ∙ ap (reads_of profile) (sym e) ∙ ap (option_map (read_in profile)) h
+
+pub read_form_none : (profile : Profile) (name : List ℕ) (f : Forms) → Some f ≡ forms_in (rows Two) name → f.reads ≡ None → read_form_of profile name ≡ None
+unfolding read_form_of
+read_form_none profile name f e h = sym (reads_same profile (rows Two) (rows profile) name (agree profile)) ∙ ap (reads_of profile) (sym e) ∙ ap (option_map (read_in profile)) h
+
+pub read_form_raw : (profile : Profile) (name : List ℕ) → None ≡ forms_in (rows Two) name → read_form_of profile name ≡ Some read.Raw
+unfolding read_form_of
+read_form_raw profile name e = sym (reads_same profile (rows Two) (rows profile) name (agree profile)) ∙ ap (reads_of profile) (sym e)
+
+pub write_form_in : (profile : Profile) (name : List ℕ) (f : Forms) (form : WriteForm) → Some f ≡ forms_in (rows Two) name → f.writes ≡ Some form → write_form_of profile name ≡ Some (write_in profile form)
+unfolding write_form_of
+write_form_in profile name f form e h = sym (writes_same profile (rows Two) (rows profile) name (agree profile)) ∙ ap (writes_of profile) (sym e) ∙ ap (option_map (write_in profile)) h
+
+pub write_form_none : (profile : Profile) (name : List ℕ) (f : Forms) → Some f ≡ forms_in (rows Two) name → f.writes ≡ None → write_form_of profile name ≡ None
+unfolding write_form_of
+write_form_none profile name f e h = sym (writes_same profile (rows Two) (rows profile) name (agree profile)) ∙ ap (writes_of profile) (sym e) ∙ ap (option_map (write_in profile)) h
+
+pub write_form_raw : (profile : Profile) (name : List ℕ) → None ≡ forms_in (rows Two) name → write_form_of profile name ≡ Some write.Raw
+unfolding write_form_of
+write_form_raw profile name e = sym (writes_same profile (rows Two) (rows profile) name (agree profile)) ∙ ap (writes_of profile) (sym e)
+
+-- The forms of the table are those of kinds.
+abbrev ReadOk : Option ReadForm → Type 0
+ReadOk None = Unit {0}
+ReadOk (Some form) = IsReadForm form
+
+abbrev WriteOk : Option WriteForm → Type 0
+WriteOk None = Unit {0}
+WriteOk (Some form) = IsWriteForm form
+
+abbrev AllOk : List Row → Type 0
+AllOk [] = Unit {0}
+AllOk (r ∷ rs) = ReadOk r.reads × WriteOk r.writes × AllOk rs
+
+picked : {X : Type 0} (P : Option X → Type 0) (b : Bool) (x y : Option X) → P x → P y → P (cond b x y)
+picked P true x y p q = p
+picked P false x y p q = q
+
+reads_ok : (rs : List Row) (name : List ℕ) → AllOk rs → ReadOk (reads_in rs name)
+reads_ok [] name a = tt
+reads_ok (r ∷ rs) name a = picked ReadOk (bytes_eq r.name name) r.reads (reads_in rs name) a.0 (reads_ok rs name a.2)
+
+writes_ok : (rs : List Row) (name : List ℕ) → AllOk rs → WriteOk (writes_in rs name)
+writes_ok [] name a = tt
+writes_ok (r ∷ rs) name a = picked WriteOk (bytes_eq r.name name) r.writes (writes_in rs name) a.1 (writes_ok rs name a.2)
+
+all_ok_one : AllOk (rows One)
+all_ok_one = (tt, tt, ((omega arith, omega arith), (omega arith, omega arith), ((omega arith, omega arith), (omega arith, omega arith), (tt, tt, (tt, tt, (tt, tt, (tt, tt, (tt, (omega arith, omega arith), (tt, (omega arith, omega arith), ((omega arith, omega arith), (omega arith, omega arith), ((omega arith, omega arith), (omega arith, omega arith), (tt, (omega arith, omega arith), (tt, tt, ((omega arith, omega arith), (omega arith, omega arith), ((refl, refl), (refl, refl), ((omega arith, omega arith), (omega arith, omega arith), (tt, tt, ((omega arith, omega arith), (omega arith, omega arith), (tt, tt, (tt, tt, (tt, tt, ((omega arith, omega arith), tt, ((omega arith, omega arith), tt, ((omega arith, omega arith), tt, ((omega arith, omega arith), tt, ((omega arith, omega arith), tt, (tt, tt, (tt, tt, (tt, tt, (tt, tt, (tt, tt, (tt, tt, (tt, tt, ((omega arith, omega arith), (omega arith, omega arith), ((omega arith, omega arith), (omega arith, omega arith), (tt, tt, (tt, tt, (tt, tt, (tt, tt, (tt, tt, (tt, tt, (tt, tt, (tt, tt, (tt, tt, (tt, tt, (tt, tt, (tt, tt, (tt, tt, (tt, (omega arith, omega arith), ((omega arith, omega arith), tt, ((omega arith, omega arith), tt, (tt, tt, (inl refl, inl refl, (inl refl, inl refl, (inl refl, tt, (inl refl, tt, (inl refl, inl refl, (inl refl, tt, (inl refl, tt, (tt, tt, tt))))))))))))))))))))))))))))))))))))))))))))))))))))))))))))
+
+all_ok_two : AllOk (rows Two)
+all_ok_two = (tt, tt, ((omega arith, omega arith), (omega arith, omega arith), ((omega arith, omega arith), (omega arith, omega arith), (tt, tt, (tt, tt, (tt, tt, (tt, tt, (tt, (omega arith, omega arith), (tt, (omega arith, omega arith), ((omega arith, omega arith), (omega arith, omega arith), ((omega arith, omega arith), (omega arith, omega arith), (tt, (omega arith, omega arith), (tt, tt, ((omega arith, omega arith), (omega arith, omega arith), ((refl, refl), (refl, refl), ((omega arith, omega arith), (omega arith, omega arith), (tt, tt, ((omega arith, omega arith), (omega arith, omega arith), (tt, tt, (tt, tt, (tt, tt, ((omega arith, omega arith), tt, ((omega arith, omega arith), tt, ((omega arith, omega arith), tt, ((omega arith, omega arith), tt, ((omega arith, omega arith), tt, (tt, tt, (tt, tt, (tt, tt, (tt, tt, (tt, tt, (tt, tt, (tt, tt, ((omega arith, omega arith), (omega arith, omega arith), ((omega arith, omega arith), (omega arith, omega arith), (tt, tt, (tt, tt, (tt, tt, (tt, tt, (tt, tt, (tt, tt, (tt, tt, (tt, tt, (tt, tt, (tt, tt, (tt, tt, (tt, tt, (tt, tt, (tt, (omega arith, omega arith), ((omega arith, omega arith), tt, ((omega arith, omega arith), tt, (tt, tt, (inr refl, inr refl, (inr refl, inr refl, (inr refl, tt, (inr refl, tt, (inr refl, inr refl, (inr refl, tt, (inr refl, tt, (tt, tt, tt))))))))))))))))))))))))))))))))))))))))))))))))))))))))))))
+
+all_ok : (profile : Profile) → AllOk (rows profile)
+all_ok One = all_ok_one
+all_ok Two = all_ok_two
+
+-- What a file of the table holds has bounds that leave some value.
+pub read_form_ok : (profile : Profile) (name : List ℕ) (form : ReadForm) → read_form_of profile name ≡ Some form → IsReadForm form
+unfolding read_form_of
+read_form_ok profile name form e = rw e at (reads_ok (rows profile) name (all_ok profile))
+
+pub write_form_ok : (profile : Profile) (name : List ℕ) (form : WriteForm) → write_form_of profile name ≡ Some form → IsWriteForm form
+unfolding write_form_of
+write_form_ok profile name form e = rw e at (writes_ok (rows profile) name (all_ok profile))

@@ -1,10 +1,36 @@
 -- The rows of the code's table.
-use Rattle.std.specs.Prelude.{ℕ, List, [], ◌∷◌, Option, Some, None, if◌then◌else◌}
+use Rattle.std.specs.Prelude.{◌≡◌, ℕ, ◌<◌, ◌≤◌, List, [], ◌∷◌, Option, Some, None, if◌then◌else◌, slice_index_or, map}
 use Rattle.std.specs.Str.{bytes_eq}
+use Rattle.cg_value.specs.Table.{Row as TableRow, rows}
 use Rattle.cg_value.specs.declared.kind.ReadForm.{ReadForm}
+use Rattle.cg_value.specs.declared.kind.ReadForm.TheVariants as read
+use Rattle.cg_value.specs.declared.kind.WriteForm.{WriteForm}
+use Rattle.cg_value.specs.declared.kind.WriteForm.TheVariants as write
+use Rattle.cg_value.specs.declared.profile.Profile.{Profile}
+use Rattle.cg_value.specs.declared.profile.Profile.TheVariants.{One, Two}
+use Rattle.cg_value.specs.declared.table.Forms.{Forms}
 use Rattle.cg_value.specs.declared.table.Row.{Row}
 
 -- What the first row of the name says.
-abbrev pub found_in : List Row → List ℕ → Option ReadForm
+abbrev pub found_in : List Row → List ℕ → Option Forms
 found_in [] name = None
-found_in (r ∷ rs) name = if bytes_eq r.name.now name then r.reads else found_in rs name
+found_in (r ∷ rs) name = if bytes_eq r.name.now name then Some (record { reads = r.reads; writes = r.writes }) else found_in rs name
+
+-- What stands in a profile for a form of the second one.
+abbrev pub read_in : Profile → ReadForm → ReadForm
+read_in One (read.Set most) = read.Set 65535
+read_in One read.Nested = read.Raw
+read_in One form = form
+read_in Two form = form
+
+abbrev pub write_in : Profile → WriteForm → WriteForm
+write_in One (write.Set most) = write.Set 65535
+write_in One form = form
+write_in Two form = form
+
+abbrev pub names_in : List Row → List (List ℕ)
+names_in rs = map (λ (r : Row). r.name.now) rs
+
+-- The name at the place of the table, which both profiles share.
+abbrev pub table_name_at : ℕ → List ℕ
+table_name_at place = slice_index_or (map (λ (r : TableRow). r.name) (rows One)) place []

@@ -1,16 +1,37 @@
-//! The vocabulary: the file table, the kinds of files, and their values.
+//! The vocabulary: the file table, the kinds of files, their values and settings.
 #![tactic(auto)]
 
+pub mod copied;
+pub mod entry;
+pub mod fits;
+pub mod fits_setting;
+pub mod flat;
+pub mod item;
 pub mod kind;
+pub mod laws;
+pub mod lines;
+pub mod look_up;
 pub mod path;
 pub mod profile;
+pub mod rows;
+pub mod setting;
+pub mod setting_laws;
+mod spelled;
 pub mod table;
 #[cfg(test)]
 mod tests;
 pub mod value;
 
-pub use kind::{ReadForm, ReadKind};
+pub use copied::Copied;
+pub use entry::{Entry, EntryFault, EntryRefused};
+pub use flat::{Flat, FlatBuilder, FlatPair, FlatRefused, Found};
+pub use item::{ItemFault, ItemRefused, PlanItem};
+pub use kind::{ReadForm, ReadKind, WriteForm, WriteKind};
 pub use path::name_of;
 pub use profile::Profile;
-pub use table::{NotReadable, read_kind};
-pub use value::Value;
+pub use setting::{Setting, Toggle};
+pub use table::{NotReadable, NotWritable, read_kind, table_name, write_kind};
+pub use value::{
+    Averages, GroupMode, LimitLine, NestedLine, NestedPair, Role, StatLine, StatPair, TargetLine,
+    Value, WeightLine,
+};

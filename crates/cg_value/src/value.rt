@@ -1,56 +1,141 @@
 //! The values of files.
-ghost use Rattle.std.specs.Prelude.{◌≡◌, ◌≤◌, ◌↔◌, IsTrue, List, ℕ, length};
-ghost use Rattle.cg_text.specs.Limit.{IsLimit};
-ghost use Rattle.cg_value.specs.Files.{Fits};
-ghost use Rattle.cg_value.specs.Print.{print_lines};
 
-use crate::kind::{ReadForm, ReadKind};
-use cg_text::Limit;
+use crate::flat::Flat;
+use cg_text::{Amount, Clamp, Device, Hundredths, Items, Key, Limit, NumberSet};
 
 /// What a file holds.
 #[derive(Debug, Drop, PartialEq)]
 pub enum Value {
     /// One number.
     Number(u64),
+    /// One number that may be below 0.
+    Signed(i64),
     /// One limit.
     Limit(Limit),
+    /// The mode of a group.
+    Mode(GroupMode),
+    /// How much processor time a group may use in each period, in microseconds.
+    CpuMax {
+        quota: Limit,
+        period: u64,
+    },
+    /// A utilization clamp.
+    Clamp(Clamp),
+    /// Numbers in order, with their repeats.
+    Numbers(Items<u64>),
+    /// Names of controllers, all different.
+    Words(Items<Key>),
+    /// Pairs of a key and a number, the keys all different.
+    Flat(Flat),
+    /// What devices did, a line for each.
+    DeviceStats(Items<StatLine>),
+    /// The limits of devices.
+    DeviceLimits(Items<LimitLine>),
+    /// The weight of each device that has none of its own, and the weights of those that have.
+    DeviceWeights {
+        default: u64,
+        lines: Items<WeightLine>,
+    },
+    /// The target latencies of devices.
+    DeviceTargets(Items<TargetLine>),
+    /// A set of numbers, as of processors or of memory nodes.
+    Set(NumberSet),
+    /// A cpuset partition: its role, whether it is valid, and why it is not.
+    Partition {
+        role: Role,
+        valid: bool,
+        reason: Option<Items<u8>>,
+    },
+    /// Pressure: what some tasks and what all tasks lose. At least one is there.
+    Pressure {
+        some: Option<Averages>,
+        full: Option<Averages>,
+    },
+    /// Lines of a key with pairs of a sub-key and a number, the keys all different.
+    Nested(Items<NestedLine>),
+    /// Lines of bytes.
+    Raw(Items<Items<u8>>),
 }
 
-/// Whether the number lies from `lo` to `hi`.
-fn is_within(number: u64, lo: u64, hi: u64) -> bool
-    ensures { IsTrue result ↔ ((lo ≤ number) × (number ≤ hi)) }
-{
-    lo <= number && number <= hi
+/// The mode of a group (cgroup-v2.rst, cgroup.type).
+#[derive(Clone, Copy, Debug, PartialEq, Eq)]
+pub enum GroupMode {
+    /// `domain`.
+    Domain,
+    /// `domain threaded`: the root of a threaded subtree.
+    DomainThreaded,
+    /// `domain invalid`.
+    DomainInvalid,
+    /// `threaded`.
+    Threaded,
 }
 
-/// Whether the limit is `max` or lies from `lo` to `hi`.
-fn limit_is_within(limit: Limit, lo: u64, hi: u64) -> bool
-    ensures { IsTrue result ↔ ((line : List ℕ) × IsLimit lo hi limit line) }
-{
-    match limit {
-        Limit::Max => true,
-        Limit::At(number) => is_within(number, lo, hi),
-    }
+/// The role of a cpuset partition (cgroup-v2.rst, cpuset.cpus.partition).
+#[derive(Clone, Copy, Debug, PartialEq, Eq)]
+pub enum Role {
+    Member,
+    Root,
+    Isolated,
 }
 
-impl Value {
-    /// Whether a file of this kind can hold the value. It takes no memory.
-    pub fn fits(&self, kind: ReadKind) -> bool
-        ensures { IsTrue result ↔ Fits kind self.now }
-    {
-        match (self, kind.form()) {
-            (Value::Number(number), ReadForm::Number { lo, hi }) => is_within(*number, lo, hi),
-            (Value::Limit(limit), ReadForm::Limit) => limit_is_within(*limit, 0, u64::MAX),
-            _ => false,
-        }
-    }
+/// A sub-key of a device with its amount.
+#[derive(Debug, Drop, PartialEq)]
+pub struct StatPair {
+    pub key: Key,
+    pub amount: Amount,
+}
 
-    /// How many lines the value's canonical text has. It takes no memory.
-    pub fn line_count(&self) -> u64
-        ensures { result ≡ length (print_lines self.now) }
-    {
-        match self {
-            Value::Number(_) | Value::Limit(_) => 1,
-        }
-    }
+/// What a device did (cgroup-v2.rst, io.stat). Where `pad` is true, a space of its own follows the device.
+#[derive(Debug, Drop, PartialEq)]
+pub struct StatLine {
+    pub device: Device,
+    pub pad: bool,
+    pub pairs: Items<StatPair>,
+}
+
+/// The limits of a device, in bytes and operations a second (cgroup-v2.rst, io.max).
+#[derive(Clone, Copy, Debug, Drop, PartialEq, Eq)]
+pub struct LimitLine {
+    pub device: Device,
+    pub rbps: Limit,
+    pub wbps: Limit,
+    pub riops: Limit,
+    pub wiops: Limit,
+}
+
+/// The weight of a device (cgroup-v2.rst, io.weight).
+#[derive(Clone, Copy, Debug, Drop, PartialEq, Eq)]
+pub struct WeightLine {
+    pub device: Device,
+    pub weight: u64,
+}
+
+/// The target latency of a device, in microseconds (cgroup-v2.rst, io.latency).
+#[derive(Clone, Copy, Debug, Drop, PartialEq, Eq)]
+pub struct TargetLine {
+    pub device: Device,
+    pub target: u64,
+}
+
+/// The shares of time lost over 10, 60 and 300 seconds, as percentages, and the total in microseconds (psi.rst).
+#[derive(Clone, Copy, Debug, Drop, PartialEq, Eq)]
+pub struct Averages {
+    pub avg10: Hundredths,
+    pub avg60: Hundredths,
+    pub avg300: Hundredths,
+    pub total: u64,
+}
+
+/// A sub-key with its number.
+#[derive(Debug, Drop, PartialEq)]
+pub struct NestedPair {
+    pub key: Key,
+    pub number: u64,
+}
+
+/// A key with its pairs, the sub-keys all different (cgroup-v2.rst, memory.numa_stat).
+#[derive(Debug, Drop, PartialEq)]
+pub struct NestedLine {
+    pub key: Key,
+    pub pairs: Items<NestedPair>,
 }

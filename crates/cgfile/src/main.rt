@@ -10,6 +10,8 @@ mod reading;
 mod run;
 mod source;
 #[cfg(test)]
+mod starved;
+#[cfg(test)]
 mod tests;
 mod words;
 

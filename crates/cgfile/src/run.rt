@@ -1,8 +1,9 @@
 //! The program's run.
 ghost use Rattle.std.specs.Prelude.{◌≡◌, ◌≢◌, ◌≤◌, ◌+◌, ℕ, List, false, None, length};
-ghost use Rattle.cg_value.specs.Table.{read_form_of};
+ghost use Rattle.cg_line.specs.Built.{IsBuilt, read_now};
 ghost use Rattle.cgfile.specs.Outcome.{last_line, is_write_fault};
 ghost use Rattle.cg_line.specs.Reads.{Reads};
+ghost use Rattle.cg_value.specs.Files.{KindText};
 ghost use Rattle.cg_value.specs.declared.kind.ReadForm.{ReadForm};
 ghost use Rattle.cgfile.specs.Run.{Ran, DidRun, Wrote, IsIdle, IsFileRight, IsNameRight};
 ghost use Rattle.cgfile.specs.Ended.{HasEnded};
@@ -12,10 +13,10 @@ use crate::outcome::Outcome;
 use crate::reading::{Ending, read_all};
 use crate::source::Source;
 use crate::words::Command;
-use cg_line::ValueReader;
+use cg_line::{ValueReader, built_kind};
 use cg_print::{Sink, WriteStopped, print_file, write_text};
 use cg_snap::{Limits, Stop};
-use cg_value::{Profile, ReadKind, read_kind};
+use cg_value::{Profile, ReadKind, Value};
 use std::alloc::Global;
 
 /// How many bytes are read at once.
@@ -41,16 +42,24 @@ fn told_line<W: Sink>(writer: &mut W, outcome: Outcome) -> Outcome
     told(writer, line.bytes(), outcome)
 }
 
+/// What is written of the value of a whole file.
+fn told_value<W: Sink>(alloc: Global, value: &Value, writer: &mut W) -> Outcome
+    ensures { (kind : ReadForm) (bytes : List ℕ) → KindText kind value.now bytes →
+        HasEnded kind bytes (W.taken writer.old) (W.taken writer.new) (W.has_failed writer.new) result }
+{
+    match print_file(alloc, value) {
+        Ok(text) => told(writer, text.as_slice(), Outcome::Done),
+        Err(_) => told_line(writer, Outcome::OutOfMemory),
+    }
+}
+
 /// What is written once a file's input has ended at this place.
 fn told_end<W: Sink>(alloc: Global, reader: ValueReader, at: u64, writer: &mut W) -> Outcome
     ensures { (kind : ReadForm) (bytes : List ℕ) → Reads reader kind bytes → at ≡ length bytes →
         HasEnded kind bytes (W.taken writer.old) (W.taken writer.new) (W.has_failed writer.new) result }
 {
     match reader.finish() {
-        Ok(value) => match print_file(alloc, &value) {
-            Ok(text) => told(writer, text.as_slice(), Outcome::Done),
-            Err(_) => told_line(writer, Outcome::OutOfMemory),
-        },
+        Ok(value) => told_value(alloc, &value, writer),
         Err(_) => told_line(writer, Outcome::Stopped(Stop::Cut { at })),
     }
 }
@@ -63,6 +72,7 @@ fn run_kind<R: Source, W: Sink>(
     writer: &mut W,
     max: u64,
 ) -> Outcome
+    requires { IsBuilt kind }
     ensures ran { R.has_failed reader.old ≡ false → DidRun (IsFileRight kind max)
         (R.coming reader.old) (R.coming reader.new) (R.has_failed reader.new)
         (W.taken writer.old) (W.taken writer.new) (W.has_failed writer.new) result }
@@ -87,14 +97,14 @@ fn run_file<R: Source, W: Sink>(
     writer: &mut W,
     max: u64,
 ) -> Outcome
-    ensures ran { R.has_failed reader.old ≡ false → DidRun (IsNameRight (read_form_of profile name.now) max)
+    ensures ran { R.has_failed reader.old ≡ false → DidRun (IsNameRight (read_now profile name.now) max)
         (R.coming reader.old) (R.coming reader.new) (R.has_failed reader.new)
         (W.taken writer.old) (W.taken writer.new) (W.has_failed writer.new) result }
     ensures asks { R.asks reader.new ≤ R.asks reader.old + max + 1 }
-    ensures unasked { read_form_of profile name.now ≡ None → R.asks reader.new ≡ R.asks reader.old }
-    ensures no_memory { read_form_of profile name.now ≡ None → result ≢ Outcome.OutOfMemory }
+    ensures unasked { read_now profile name.now ≡ None → R.asks reader.new ≡ R.asks reader.old }
+    ensures no_memory { read_now profile name.now ≡ None → result ≢ Outcome.OutOfMemory }
 {
-    match read_kind(profile, name) {
+    match built_kind(profile, name) {
         Ok(kind) => run_kind(alloc, kind, reader, writer, max),
         Err(_) => told_line(writer, Outcome::NotReadable),
     }

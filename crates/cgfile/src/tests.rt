@@ -39,7 +39,7 @@ fn run_file(
 }
 
 /// Rows of one file: its name, its bytes, what is written and the status.
-const ROWS: [(&str, &[u8], &[u8], u8); 27] = [
+const ROWS: [(&str, &[u8], &[u8], u8); 46] = [
     ("cpu.weight", b"10000\n", b"10000\n", 0),
     ("cpu.weight", b"0\n", b"0\n", 0),
     ("cpu.weight", b"10001\n", b"cgfile: refused at 4: line\n", 1),
@@ -79,6 +79,55 @@ const ROWS: [(&str, &[u8], &[u8], u8); 27] = [
     ("memory.max", b"4096\n", b"4096\n", 0),
     ("memory.max", b"ma", b"cgfile: cut at 2\n", 1),
     ("memory.max", b"maxi\n", b"cgfile: refused at 3: line\n", 1),
+    ("cpuset.cpus", b"\n", b"\n", 0),
+    ("cpuset.cpus", b"0-4,6\n", b"0-4,6\n", 0),
+    (
+        "cpuset.cpus",
+        b"0-3,4\n",
+        b"cgfile: refused at 5: line\n",
+        1,
+    ),
+    ("cpuset.cpus", b"65534,", b"cgfile: refused at 5: line\n", 1),
+    ("cpuset.cpus", b"65535-", b"cgfile: refused at 5: line\n", 1),
+    ("cgroup.procs", b"7\n0\n7\n", b"7\n0\n7\n", 0),
+    ("cgroup.procs", b"", b"", 0),
+    ("cgroup.controllers", b"", b"\n", 0),
+    (
+        "cgroup.controllers",
+        b"cpu cpu\n",
+        b"cgfile: refused at 7: line\n",
+        1,
+    ),
+    (
+        "cgroup.controllers",
+        b"cpu \n",
+        b"cgfile: refused at 4: line\n",
+        1,
+    ),
+    (
+        "cgroup.controllers",
+        b"cpuset cpu io\n",
+        b"cpuset cpu io\n",
+        0,
+    ),
+    ("cgroup.type", b"domain threaded\n", b"domain threaded\n", 0),
+    ("cpu.max", b"max 100000\n", b"max 100000\n", 0),
+    (
+        "cpu.uclamp.min",
+        b"100.01\n",
+        b"cgfile: refused at 5: line\n",
+        1,
+    ),
+    ("cpu.uclamp.max", b"max\n", b"max\n", 0),
+    ("cpu.uclamp.max", b"12.30\n", b"12.30\n", 0),
+    ("hugetlb.2MB.max", b"max\n \xff\n", b"max\n \xff\n", 0),
+    (
+        "hugetlb.2MB.max",
+        b"a\0",
+        b"cgfile: refused at 1: line\n",
+        1,
+    ),
+    ("hugetlb.2MB.max", b"a", b"cgfile: cut at 1\n", 1),
     ("cgroup.kill", b"1\n", b"cgfile: not readable\n", 1),
     ("memory.reclaim", b"", b"cgfile: not readable\n", 1),
     ("cpu.stat", b"usage_usec 1\n", b"cgfile: not readable\n", 1),
@@ -270,7 +319,7 @@ fn commands_that_are_not_built(rt: HostRuntime) -> Result<(), Fail> {
 }
 
 /// Takes all memory that is to be had, in blocks of falling size.
-fn hog(alloc: Global) -> Result<Vec<Vec<u8>>, AllocError> {
+pub(crate) fn hog(alloc: Global) -> Result<Vec<Vec<u8>>, AllocError> {
     let mut held: Vec<Vec<u8>> = Vec::with_capacity(alloc, 400000)?;
     let mut size: usize = 17179869184;
     for _ in 0..40 {
@@ -288,41 +337,52 @@ fn hog(alloc: Global) -> Result<Vec<Vec<u8>>, AllocError> {
     Ok(held)
 }
 
-/// Runs the first row without memory, gives back a block after each refusal, and runs it again.
-#[test]
-fn wants_of_memory(rt: HostRuntime) -> Result<(), Fail> {
-    let command = file(rt.alloc(), b"cpu.weight")?;
-    let mut held = hog(rt.alloc())?;
+/// Runs a row without memory, gives back a block after each refusal, and runs it again. Answers how often memory was
+/// refused, and whether the last run wrote what the row says.
+fn starved(
+    alloc: Global,
+    name: &[u8],
+    input: &[u8],
+    written: &[u8],
+) -> Result<(u64, bool), AllocError> {
+    let command = file(alloc, name)?;
+    let mut held = hog(alloc)?;
     let mut refusals: u64 = 0;
-    let mut done = false;
     for _ in 0..5000 {
-        let mut source = CutSource::new(b"10000\n", usize::MAX, 4096);
+        let mut source = CutSource::new(input, usize::MAX, 4096);
         let mut sink = CutSink::new(usize::MAX, 4096);
         let outcome = run(
-            rt.alloc(),
+            alloc,
             Profile::One,
             &command,
             &mut source,
             &mut sink,
             Limits::DEFAULT,
         );
-        match outcome {
-            Outcome::OutOfMemory => {
-                refusals = refusals.saturating_add(1);
-                let line = sink.bytes() == b"cgfile: out of memory\n".as_slice();
-                if !line || status(&outcome) != 4 {
-                    break;
-                }
-            }
-            _ => {
-                done = outcome == Outcome::Done && sink.bytes() == b"10000\n".as_slice();
-                break;
-            }
+        if outcome != Outcome::OutOfMemory {
+            return Ok((refusals, sink.bytes() == written));
+        }
+        refusals = refusals.saturating_add(1);
+        if sink.bytes() != b"cgfile: out of memory\n".as_slice() || status(&outcome) != 4 {
+            return Ok((refusals, false));
         }
         let _ = held.pop();
     }
-    drop(held);
-    assert!(rt; done);
-    assert!(rt; refusals > 0, "{refusals}");
+    Ok((refusals, false))
+}
+
+#[test]
+fn wants_of_memory(rt: HostRuntime) -> Result<(), Fail> {
+    let rows: [(&[u8], &[u8], &[u8]); 4] = [
+        (b"cpu.weight", b"10000\n", b"10000\n"),
+        (b"cpuset.cpus", b"65534,", b"cgfile: refused at 5: line\n"),
+        (b"cgroup.procs", b"7\n0\n7\n", b"7\n0\n7\n"),
+        (b"hugetlb.2MB.max", b"ab\nc\n", b"ab\nc\n"),
+    ];
+    for (name, input, written) in rows {
+        let (refusals, right) = starved(rt.alloc(), name, input, written)?;
+        assert!(rt; right, "{name:?}");
+        assert!(rt; refusals > 0, "{name:?} {refusals}");
+    }
     Ok(())
 }

@@ -11,8 +11,8 @@ returns-in-Err-Refused c kind h =
     let pushed = rw c.in-Err-Refused.field-0-is at (c.in-Err-Refused.ensures.pushed kind (take i bytes) before) in
     first_bad c.loop-i.reader kind bytes i within before pushed.1
 
-pub returns-in-Err : goal.returns-in-Err
-returns-in-Err c kind h =
+pub returns : goal.returns
+returns c kind h =
     let bytes = c.args.bytes.now in
     let done : length bytes ≤ c.loop-i.i = omega arith in
     let all = reads_all c.loop-i.reader kind bytes c.loop-i.i done (c.loop-i.invariant kind h) in

@@ -1,16 +1,17 @@
-use Rattle.std.proofs.Common.{sym, ◌∙◌}
-use Rattle.cg_value.specs.Table.{read_form_of}
-use Rattle.cg_value.specs.TableLaws.{form_is_bounded}
+use Rattle.cg_value.specs.TableLaws.{read_form_in, read_form_none, read_form_raw, read_form_ok}
 use Rattle.cg_value.proofs.table.read_kind.Goals as goal
 
 pub of-requires : goal.of-requires
-unfolding read_form_of
-of-requires c = form_is_bounded c.args.profile c.args.name.now c.in-Some.form (sym c.in-Some.ensures)
+of-requires c =
+    let made = read_form_in c.args.profile c.args.name.now c.in-Some.forms c.in-Some-reads.form c.in-Some.ensures c.in-Some-reads.is in
+    rw c.read_form.ensures (read_form_ok c.args.profile c.args.name.now _ made)
 
-pub returns-in-Some-clause-readable : goal.returns-in-Some-clause-readable
-unfolding read_form_of
-returns-in-Some-clause-readable c = rw c.of.ensures (sym c.in-Some.ensures)
+pub returns-in-Some-reads-clause-readable : goal.returns-in-Some-reads-clause-readable
+returns-in-Some-reads-clause-readable c =
+    rw (c.of.ensures, c.read_form.ensures) (read_form_in c.args.profile c.args.name.now c.in-Some.forms c.in-Some-reads.form c.in-Some.ensures c.in-Some-reads.is)
 
-pub returns-in-None-clause-unreadable : goal.returns-in-None-clause-unreadable
-unfolding read_form_of
-returns-in-None-clause-unreadable c = sym c.in-None.ensures
+pub returns-in-None-reads-clause-unreadable : goal.returns-in-None-reads-clause-unreadable
+returns-in-None-reads-clause-unreadable c = read_form_none c.args.profile c.args.name.now c.in-Some.forms c.in-Some.ensures c.in-None-reads.is
+
+pub returns-in-None-clause-readable : goal.returns-in-None-clause-readable
+returns-in-None-clause-readable c = rw c.of-in-None.ensures (read_form_raw c.args.profile c.args.name.now c.in-None.ensures)

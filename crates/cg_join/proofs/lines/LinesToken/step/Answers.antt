@@ -13,6 +13,7 @@ invariant_of-self g c =
       lacks = lacks_taken old.end (g.T.Token.means old.current) (g.T.Token.means c.step.new.self) c.args.byte taken old.lacks;
       starts = old.starts;
       small = old.small;
+      fresh = λ e. absurd (cc);
     }
 
 pub returns-in-Ok-true-clause-taken : goal.returns-in-Ok-true-clause-taken

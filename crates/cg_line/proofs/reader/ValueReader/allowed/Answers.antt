@@ -1,4 +1,6 @@
 use Rattle.std.proofs.Common.{◌≡◌, ◌≤◌, true, arith}
+use Rattle.cg_value.specs.Files.{KindFile}
+use Rattle.cg_value.specs.LineLaws.{file_bytes}
 use Rattle.cg_line.specs.AllowedLaws.{allowed_more, allowed_same, allowed_all}
 use Rattle.cg_line.specs.ReadsLaws.{next_byte_is}
 use Rattle.cg_line.proofs.reader.ValueReader.allowed.Goals as goal
@@ -10,10 +12,10 @@ loop-number-preserved c kind taken h =
     let before = c.loop-number.invariant kind taken h in
     let next = next_byte_is c.args.self.now kind taken number h in
     elim c.if-allows_byte.branch [
-      | then-allows_byte w ↦ rw w.set-is (allowed_more kind taken c.loop-number.set w.insert.new.self number before w.insert.ensures.added (next.0 (c.allows_byte.ensures.0 w.if-allows_byte.true)))
-      | else-allows_byte w ↦ rw w.set-is (allowed_same kind taken c.loop-number.set number before
+      | then-allows_byte w ↦ rw w.set-is (allowed_more (KindFile kind) taken c.loop-number.set w.insert.new.self number before w.insert.ensures.added (next.0 (c.allows_byte.ensures.0 w.if-allows_byte.true)))
+      | else-allows_byte w ↦ rw w.set-is (allowed_same (KindFile kind) taken c.loop-number.set number before
           (λ goes. (let allowed : c.allows_byte.result ≡ true = c.allows_byte.ensures.1 (next.1 goes) in let refused = w.if-allows_byte.false in cc)))
     ]
 
 pub returns : goal.returns
-returns c kind taken h = let done : 256 ≤ c.loop-number.number = omega arith in allowed_all c.loop-number.set kind taken c.loop-number.number done (c.loop-number.invariant kind taken h)
+returns c kind taken h = let done : 256 ≤ c.loop-number.number = omega arith in allowed_all (KindFile kind) taken (file_bytes kind) c.loop-number.set c.loop-number.number done (c.loop-number.invariant kind taken h)

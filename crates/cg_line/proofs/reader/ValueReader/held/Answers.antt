@@ -1,15 +1,11 @@
-use Rattle.cg_line.specs.Reads.{held_by}
-use Rattle.cg_line.specs.ReadsLaws.{holds_none}
+use Rattle.std.proofs.Common.{refl}
+use Rattle.cg_line.specs.Reads.{held_by, is_reads}
 use Rattle.cg_line.proofs.reader.ValueReader.held.Goals as goal
 
 pub returns-clause-exact : goal.returns-clause-exact
 unfolding held_by
 returns-clause-exact c = c.all_held.ensures
 
-pub returns-clause-begun : goal.returns-clause-begun
+pub returns-clause-most : goal.returns-clause-most
 unfolding held_by
-returns-clause-begun c kind taken h lacks = holds_none c.args.self.now.machine _
-
-pub returns-clause-whole : goal.returns-clause-whole
-unfolding held_by
-returns-clause-whole c kind lines line v h lacks spelled = holds_none c.args.self.now.machine _
+returns-clause-most c kind lines line v h plain spelled = (is_reads c.args.self.now kind _ h).held lines line v refl plain spelled

@@ -1,14 +1,21 @@
-use Rattle.cg_value.specs.FilesLaws.{number_fits, limit_fits}
+use Rattle.std.proofs.Common.{w64, rules, FitsSigned}
+use Rattle.std.proofs.lemmas.Int.{to_z-of_z}
+use Rattle.cg_value.specs.FitsLaws.{signed_fits, weights_fit}
 use Rattle.cg_value.proofs.value.Value.fits.Goals as goal
 
-pub returns-in-Number-Number : goal.returns-in-Number-Number
-returns-in-Number-Number c =
-    let arm = c.in-Number-Number in
-    let fit = number_fits arm.lo arm.hi arm.number in
-    rw (arm.is-0, ← arm.ensures.form) (λ e. fit.0 (c.is_within.ensures.0 e), λ h. c.is_within.ensures.1 (fit.1 h))
+pub returns-in-Signed-Signed : goal.returns-in-Signed-Signed
+returns-in-Signed-Signed c =
+    let arm = c.in-Signed-Signed in
+    let fit = signed_fits arm.lo arm.hi arm.number in
+    let low : FitsSigned w64 arm.lo = search rules in
+    let high : FitsSigned w64 arm.hi = search rules in
+    let number : FitsSigned w64 arm.number = search rules in
+    let within = simp to_z-of_z at c.is_between.ensures in
+    rw (arm.is-1, ← arm.ensures.form) (λ e. fit.0 (within.0 e), λ h. within.1 (fit.1 h))
 
-pub returns-in-Limit-Limit : goal.returns-in-Limit-Limit
-returns-in-Limit-Limit c =
-    let arm = c.in-Limit-Limit in
-    let fit = limit_fits arm.limit in
-    rw (arm.is-0, ← arm.ensures.form) (λ e. fit.0 (c.limit_is_within.ensures.0 e), λ h. c.limit_is_within.ensures.1 (fit.1 h))
+pub returns-then-is_within : goal.returns-then-is_within
+returns-then-is_within c =
+    let arm = c.in-DeviceWeights-DeviceWeights in
+    let fit = weights_fit arm.default arm.lines in
+    let lines = rw c.as_slice-then-is_within.ensures at c.are_spelled-then-is_within.ensures in
+    rw (arm.is-1, ← c.form.ensures.form, arm.is-0) (λ e. fit.0 (c.is_within-in-DeviceWeights-DeviceWeights.ensures.0 c.if-is_within.true, lines.0 e), λ f. lines.1 (fit.1 f).1)

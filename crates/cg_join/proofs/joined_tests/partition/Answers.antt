@@ -1,0 +1,33 @@
+use Rattle.std.proofs.Common.{refl, arith}
+use Rattle.cg_text.specs.Keyword.{text_of}
+use Rattle.cg_text.specs.declared.keyword.Keyword.TheVariants.{Root, Isolated}
+use Rattle.cg_join.specs.ApartLaws.{lacking_apart}
+use Rattle.cg_join.specs.BeginsLaws.{concat_begins, either_begins, fixed_begins, fixed_begins_other, label_begins, maybe_begins_by}
+use Rattle.cg_join.specs.CutLaws.{label_spells}
+use Rattle.cg_join.specs.DisjointLaws.{fixed_disjoint, other_disjoint}
+use Rattle.cg_join.specs.FilledLaws.{fixed_filled, first_filled, either_filled}
+use Rattle.cg_join.specs.LackingLaws.{either_lacking, fixed_lacking}
+use Rattle.cg_join.specs.MaybeLaws.{maybe_spells}
+use Rattle.cg_join.specs.Spelling.{apart_spells, none_spells, choice_spells, sequence_spells}
+use Rattle.cg_join.proofs.joined_tests.partition.Goals as goal
+
+pub new-role-requires-clause-apart : goal.new-role-requires-clause-apart
+new-role-requires-clause-apart c = none_spells c.new.ensures.spells c.new-2.ensures.spells (fixed_disjoint (text_of Root) (text_of Isolated) refl)
+
+pub new-requires-4 : goal.new-requires-4
+new-requires-4 c =
+    let role = choice_spells c.new.ensures.spells c.new-2.ensures.spells c.new-role.ensures.spells in
+    let reason = maybe_spells (label_spells c.new-3.ensures.spells c.labelled.ensures.spells) c.new-reason.ensures.spells in
+    let invalid = maybe_spells (label_spells reason c.labelled-2.ensures.spells) c.new-invalid.ensures.spells in
+    apart_spells role invalid (lacking_apart (either_lacking (fixed_lacking 32 (text_of Root) refl) (fixed_lacking 32 (text_of Isolated) refl)) (maybe_begins_by (label_begins 32 _)))
+
+pub new-requires-6-clause-apart : goal.new-requires-6-clause-apart
+new-requires-6-clause-apart c =
+    let role = choice_spells c.new.ensures.spells c.new-2.ensures.spells c.new-role.ensures.spells in
+    let reason = maybe_spells (label_spells c.new-3.ensures.spells c.labelled.ensures.spells) c.new-reason.ensures.spells in
+    let invalid = maybe_spells (label_spells reason c.labelled-2.ensures.spells) c.new-invalid.ensures.spells in
+    let filled = either_filled (fixed_filled 114 _) (fixed_filled 105 _) in
+    none_spells (sequence_spells role invalid c.new-4.ensures.spells) c.new-5.ensures.spells
+    (other_disjoint (first_filled filled)
+    (concat_begins filled (either_begins (fixed_begins_other 109 114 _ (λ e. omega (arith, e))) (fixed_begins_other 109 105 _ (λ e. omega (arith, e)))))
+    (fixed_begins 109 _))

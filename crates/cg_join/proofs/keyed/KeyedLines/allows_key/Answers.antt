@@ -1,0 +1,78 @@
+use Rattle.std.proofs.Common.{[], ◌∷◌, map, sym, ◌∙◌}
+use Rattle.cg_join.specs.Keyed.{IsKeyed}
+use Rattle.cg_join.specs.KeyedState.{is_begun}
+use Rattle.cg_join.specs.KeyedLaws.{distinct_first, keyed_lacks}
+use Rattle.cg_join.specs.KeyedStateLaws.{end_begins, key_begins, mark_begins, none_refused}
+use Rattle.cg_join.proofs.keyed.KeyedLines.allows_key.Goals as goal
+
+pub returns-then-byte-self : goal.returns-then-byte-self
+returns-then-byte-self g c =
+    let old = c.args.self.now in
+    let k = g.C.Collection.key_of in
+    let v = g.C.Collection.value_of in
+    let given = g.C.Collection.given in
+    let items = g.C.Collection.pairs_of old.pairs in
+    let alone = g.B.Follow.alone old.values in
+    let K = g.K.Token.means old.key in
+    let D = g.V.Token.means old.value in
+    let R = IsKeyed k v (g.A.Start.texts old.keys) (g.B.Start.texts old.values) alone old.mark in
+    let f = g.K.Peek.is_value old.key in
+    let e = g.K.Token.ends old.key in
+    let is = g.met.K.Peek.is_value_is old.key in
+    let ended = g.met.K.Token.ends_is old.key in
+    let one = g.met.K.Token.one_value old.key in
+    let first = distinct_first (map k items) old.ended.items old.distinct in
+    rw (c.requires, c.if-byte-self.true, c.is_new_key.ensures)
+    (mark_begins k v given items R K D alone old.mark old.end (is_begun old.stage) f e is ended one g.C.Collection.paired g.met.C.Collection.has_key g.met.C.Collection.has_value first old.key_mark old.apart (g.met.V.Token.completes old.value))
+
+pub returns-in-Some : goal.returns-in-Some
+returns-in-Some g c =
+    let old = c.args.self.now in
+    let k = g.C.Collection.key_of in
+    let v = g.C.Collection.value_of in
+    let given = g.C.Collection.given in
+    let items = g.C.Collection.pairs_of old.pairs in
+    let alone = g.B.Follow.alone old.values in
+    let K = g.K.Token.means old.key in
+    let D = g.V.Token.means old.value in
+    let R = IsKeyed k v (g.A.Start.texts old.keys) (g.B.Start.texts old.values) alone old.mark in
+    let f = g.K.Peek.is_value old.key in
+    let e = g.K.Token.ends old.key in
+    let is = g.met.K.Peek.is_value_is old.key in
+    let ended = g.met.K.Token.ends_is old.key in
+    let one = g.met.K.Token.one_value old.key in
+    let first = distinct_first (map k items) old.ended.items old.distinct in
+    let lacks = keyed_lacks k v alone old.mark K D old.end old.apart old.key_end old.value_end in
+    rw (c.requires, c.if-byte-self-2.true, c.is_new_key-in-Some.ensures)
+    (end_begins k v given items R K D alone old.mark old.end (is_begun old.stage) f e is ended one g.C.Collection.paired g.met.C.Collection.has_key g.met.C.Collection.has_value first lacks c.in-Some.field-0 (sym c.alone.ensures ∙ c.in-Some.is))
+
+pub returns-in-None : goal.returns-in-None
+returns-in-None g c =
+    let old = c.args.self.now in
+    let k = g.C.Collection.key_of in
+    let v = g.C.Collection.value_of in
+    let given = g.C.Collection.given in
+    let items = g.C.Collection.pairs_of old.pairs in
+    let alone = g.B.Follow.alone old.values in
+    let K = g.K.Token.means old.key in
+    let D = g.V.Token.means old.value in
+    let R = IsKeyed k v (g.A.Start.texts old.keys) (g.B.Start.texts old.values) alone old.mark in
+    let lacks = keyed_lacks k v alone old.mark K D old.end old.apart old.key_end old.value_end in
+    rw (c.requires, c.if-byte-self-2.true)
+    (λ h. absurd (cc), λ h. absurd (none_refused k v given items R K D alone old.mark old.end (is_begun old.stage) lacks (sym c.alone.ensures ∙ c.in-None.is) h.0 h.1 h.2))
+
+pub returns : goal.returns
+returns g c =
+    let old = c.args.self.now in
+    let k = g.C.Collection.key_of in
+    let v = g.C.Collection.value_of in
+    let given = g.C.Collection.given in
+    let items = g.C.Collection.pairs_of old.pairs in
+    let alone = g.B.Follow.alone old.values in
+    let K = g.K.Token.means old.key in
+    let D = g.V.Token.means old.value in
+    let R = IsKeyed k v (g.A.Start.texts old.keys) (g.B.Start.texts old.values) alone old.mark in
+    let first = distinct_first (map k items) old.ended.items old.distinct in
+    let all = key_begins k v given items R K D alone old.mark old.end (is_begun old.stage) g.C.Collection.paired g.met.C.Collection.has_key g.met.C.Collection.has_value first (g.met.V.Token.completes old.value) c.args.byte c.if-byte-self.false c.if-byte-self-2.false
+    (λ h. g.met.K.Peek.longer old.key (c.args.byte ∷ []) h (map k items)) in
+    rw c.requires (λ h. all.0 (c.allows.ensures.0 h), λ h. c.allows.ensures.1 (all.1 h))

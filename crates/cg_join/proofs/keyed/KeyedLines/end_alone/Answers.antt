@@ -1,0 +1,117 @@
+use Rattle.std.proofs.Common.{◌≡◌, [], ◌∷◌, ◌++◌, map, length, Some, sym, ◌∙◌, ap}
+use Rattle.cg_join.specs.Keyed.{IsKeyed}
+use Rattle.cg_join.specs.KeyedState.{is_begun}
+use Rattle.cg_join.specs.KeyedLaws.{distinct_added, distinct_first, keyed_alike, keyed_lacks, keyed_one, new_lacks, none_kept}
+use Rattle.cg_join.specs.KeyedStateLaws.{end_refused, end_step, none_refused}
+use Rattle.cg_join.specs.LinesLaws.{lacks_same}
+use Rattle.cg_join.proofs.keyed.KeyedLines.end_alone.Goals as goal
+
+pub returns-in-None-clause-refused : goal.returns-in-None-clause-refused
+returns-in-None-clause-refused g c =
+    let old = c.args.self.now in
+    let k = g.C.Collection.key_of in
+    let v = g.C.Collection.value_of in
+    let given = g.C.Collection.given in
+    let items = g.C.Collection.pairs_of old.pairs in
+    let alone = g.B.Follow.alone old.values in
+    let K = g.K.Token.means old.key in
+    let D = g.V.Token.means old.value in
+    let R = IsKeyed k v (g.A.Start.texts old.keys) (g.B.Start.texts old.values) alone old.mark in
+    let lacks = keyed_lacks k v alone old.mark K D old.end old.apart old.key_end old.value_end in
+    rw c.requires (none_refused k v given items R K D alone old.mark old.end (is_begun old.stage) lacks (sym c.alone.ensures ∙ c.in-None.is))
+
+pub returns-then-not-is_new_key-clause-refused : goal.returns-then-not-is_new_key-clause-refused
+returns-then-not-is_new_key-clause-refused g c =
+    let old = c.args.self.now in
+    let k = g.C.Collection.key_of in
+    let v = g.C.Collection.value_of in
+    let given = g.C.Collection.given in
+    let items = g.C.Collection.pairs_of old.pairs in
+    let alone = g.B.Follow.alone old.values in
+    let K = g.K.Token.means old.key in
+    let D = g.V.Token.means old.value in
+    let R = IsKeyed k v (g.A.Start.texts old.keys) (g.B.Start.texts old.values) alone old.mark in
+    let f = g.K.Peek.is_value old.key in
+    let e = g.K.Token.ends old.key in
+    let is = g.met.K.Peek.is_value_is old.key in
+    let ended = g.met.K.Token.ends_is old.key in
+    let one = g.met.K.Token.one_value old.key in
+    let lacks = keyed_lacks k v alone old.mark K D old.end old.apart old.key_end old.value_end in
+    rw c.requires (end_refused k v given items R K D alone old.mark old.end (is_begun old.stage) f e is ended one lacks (sym c.is_new_key.ensures ∙ c.if-not-is_new_key.true))
+
+pub push-requires-clause-new : goal.push-requires-clause-new
+push-requires-clause-new g c =
+    let old = c.args.self.now in
+    let k = g.C.Collection.key_of in
+    let items = g.C.Collection.pairs_of old.pairs in
+    let K = g.K.Token.means old.key in
+    let f = g.K.Peek.is_value old.key in
+    let e = g.K.Token.ends old.key in
+    let is = g.met.K.Peek.is_value_is old.key in
+    let key = c.renew-key.result in
+    let kv = c.renew-key.ensures.value in
+    let new = new_lacks K f e is (map k items) (sym c.is_new_key.ensures ∙ c.if-not-is_new_key.false) key kv in
+    rw c.reserve.ensures.pairs new
+
+pub invariant_of-self-2 : goal.invariant_of-self-2
+invariant_of-self-2 g c =
+    let old = c.args.self.now in
+    let k = g.C.Collection.key_of in
+    let items = g.C.Collection.pairs_of old.pairs in
+    let alone = g.B.Follow.alone old.values in
+    let K = g.K.Token.means old.key in
+    let f = g.K.Peek.is_value old.key in
+    let e = g.K.Token.ends old.key in
+    let is = g.met.K.Peek.is_value_is old.key in
+    let key = c.renew-key.result in
+    let kv = c.renew-key.ensures.value in
+    let new = new_lacks K f e is (map k items) (sym c.is_new_key.ensures ∙ c.if-not-is_new_key.false) key kv in
+    let none = none_kept old.ended.items (rw c.requires at old.kept) in
+    let first = distinct_first (map k items) old.ended.items old.distinct in
+    let value = c.in-Some.value in
+    let p = g.C.Collection.paired key value in
+    let added : g.C.Collection.pairs_of c.push.new.self ≡ items ++ p ∷ [] = c.push.ensures.pairs ∙ ap (λ x. x ++ p ∷ []) c.reserve.ensures.pairs in
+    let hk = g.met.C.Collection.has_key key value in
+    record {
+      key_mark = lacks_same old.mark (g.A.Start.texts old.keys) (g.K.Token.means c.renew-key.new.token) c.renew-key.ensures.spells.is old.keys_mark;
+      key_end = lacks_same old.end (g.A.Start.texts old.keys) (g.K.Token.means c.renew-key.new.token) c.renew-key.ensures.spells.is old.keys_end;
+      value_end = lacks_same old.end (g.B.Start.texts old.values) (g.V.Token.means c.start.result) c.start.ensures.spells.is old.values_end;
+      apart = old.apart;
+      small_mark = old.small_mark;
+      small_end = old.small_end;
+      alone = old.alone;
+      keys_mark = old.keys_mark;
+      keys_end = old.keys_end;
+      values_end = old.values_end;
+      new_key = λ _. c.renew-key.ensures.size;
+      new_value = λ _. c.start.ensures.size;
+      kept = ap length none;
+      distinct = distinct_added k items (g.C.Collection.pairs_of c.push.new.self) p old.ended.items added none first (rw hk new);
+    }
+
+pub returns-clause-taken : goal.returns-clause-taken
+returns-clause-taken g c =
+    let old = c.args.self.now in
+    let k = g.C.Collection.key_of in
+    let v = g.C.Collection.value_of in
+    let given = g.C.Collection.given in
+    let items = g.C.Collection.pairs_of old.pairs in
+    let alone = g.B.Follow.alone old.values in
+    let K = g.K.Token.means old.key in
+    let D = g.V.Token.means old.value in
+    let R = IsKeyed k v (g.A.Start.texts old.keys) (g.B.Start.texts old.values) alone old.mark in
+    let one = g.met.K.Token.one_value old.key in
+    let lacks = keyed_lacks k v alone old.mark K D old.end old.apart old.key_end old.value_end in
+    let key = c.renew-key.result in
+    let kv = c.renew-key.ensures.value in
+    let value = c.in-Some.value in
+    let is_alone = sym c.alone.ensures ∙ c.in-Some.is in
+    let p = g.C.Collection.paired key value in
+    let added : g.C.Collection.pairs_of c.push.new.self ≡ items ++ p ∷ [] = c.push.ensures.pairs ∙ ap (λ x. x ++ p ∷ []) c.reserve.ensures.pairs in
+    let hk = g.met.C.Collection.has_key key value in
+    let hv = g.met.C.Collection.has_value key value in
+    let F = IsKeyed k v (g.K.Token.means c.renew-key.new.token) (g.V.Token.means c.start.result) alone old.mark in
+    rw c.requires
+    (end_step k v given items R K D alone old.mark old.end (is_begun old.stage) lacks (keyed_one k v alone old.mark K D g.C.Collection.paired g.met.C.Collection.whole old.key_mark one (g.met.V.Token.one_value old.value))
+    p (rw hk kv) (is_alone ∙ ap Some (sym hv)) (g.C.Collection.pairs_of c.push.new.self) added F
+    (keyed_alike k v alone old.mark (g.K.Token.means c.renew-key.new.token) (g.A.Start.texts old.keys) (g.V.Token.means c.start.result) (g.B.Start.texts old.values) c.renew-key.ensures.spells.is c.start.ensures.spells.is))

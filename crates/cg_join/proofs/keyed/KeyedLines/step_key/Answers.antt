@@ -1,0 +1,100 @@
+use Rattle.cg_join.specs.Keyed.{IsKeyed}
+use Rattle.cg_join.specs.KeyedState.{is_begun}
+use Rattle.cg_join.specs.KeyedStateLaws.{key_refused, key_same, key_taken}
+use Rattle.cg_join.specs.LinesLaws.{lacks_taken}
+use Rattle.cg_join.proofs.keyed.KeyedLines.step_key.Goals as goal
+
+pub returns-then-byte-self-clause-taken : goal.returns-then-byte-self-clause-taken
+returns-then-byte-self-clause-taken g c =
+    rw c.if-byte-self.true c.end_key.ensures.taken
+
+pub returns-then-byte-self-clause-refused : goal.returns-then-byte-self-clause-refused
+returns-then-byte-self-clause-refused g c =
+    rw c.if-byte-self.true c.end_key.ensures.refused
+
+pub returns-then-byte-self-2-clause-taken : goal.returns-then-byte-self-2-clause-taken
+returns-then-byte-self-2-clause-taken g c =
+    rw c.if-byte-self-2.true c.end_alone.ensures.taken
+
+pub returns-then-byte-self-2-clause-refused : goal.returns-then-byte-self-2-clause-refused
+returns-then-byte-self-2-clause-refused g c =
+    rw c.if-byte-self-2.true c.end_alone.ensures.refused
+
+pub invariant_of-self : goal.invariant_of-self
+invariant_of-self g c =
+    let old = c.args.self.now in
+    let alone = g.B.Follow.alone old.values in
+    let K = g.K.Token.means old.key in
+    let taken = rw c.in-Ok-true.field-0-test at c.in-Ok-true.ensures.taken in
+    let K' = g.K.Token.means c.step.new.self in
+    record {
+      key_mark = lacks_taken old.mark K K' c.args.byte taken old.key_mark;
+      key_end = lacks_taken old.end K K' c.args.byte taken old.key_end;
+      value_end = old.value_end;
+      apart = old.apart;
+      small_mark = old.small_mark;
+      small_end = old.small_end;
+      alone = old.alone;
+      keys_mark = old.keys_mark;
+      keys_end = old.keys_end;
+      values_end = old.values_end;
+      new_key = λ e. absurd (cc);
+      new_value = λ _. old.new_value c.requires;
+      kept = rw c.requires at old.kept;
+      distinct = old.distinct;
+    }
+
+pub returns-in-Ok-true-clause-taken : goal.returns-in-Ok-true-clause-taken
+returns-in-Ok-true-clause-taken g c =
+    let old = c.args.self.now in
+    let k = g.C.Collection.key_of in
+    let v = g.C.Collection.value_of in
+    let given = g.C.Collection.given in
+    let items = g.C.Collection.pairs_of old.pairs in
+    let alone = g.B.Follow.alone old.values in
+    let K = g.K.Token.means old.key in
+    let D = g.V.Token.means old.value in
+    let R = IsKeyed k v (g.A.Start.texts old.keys) (g.B.Start.texts old.values) alone old.mark in
+    let taken = rw c.in-Ok-true.field-0-test at c.in-Ok-true.ensures.taken in
+    rw c.requires (key_taken k v given items R K D alone old.mark old.end (is_begun old.stage) (g.K.Token.means c.step.new.self) c.args.byte c.if-byte-self.false c.if-byte-self-2.false taken)
+
+pub returns-in-Ok-false-clause-refused : goal.returns-in-Ok-false-clause-refused
+returns-in-Ok-false-clause-refused g c =
+    let old = c.args.self.now in
+    let k = g.C.Collection.key_of in
+    let v = g.C.Collection.value_of in
+    let given = g.C.Collection.given in
+    let items = g.C.Collection.pairs_of old.pairs in
+    let alone = g.B.Follow.alone old.values in
+    let K = g.K.Token.means old.key in
+    let D = g.V.Token.means old.value in
+    let R = IsKeyed k v (g.A.Start.texts old.keys) (g.B.Start.texts old.values) alone old.mark in
+    let none = rw c.in-Ok-false.field-0-test at c.in-Ok-false.ensures.refused in
+    rw c.requires (key_refused k v given items R K D alone old.mark old.end (is_begun old.stage) c.args.byte c.if-byte-self.false c.if-byte-self-2.false none)
+
+pub returns-in-Ok-false-clause-same : goal.returns-in-Ok-false-clause-same
+returns-in-Ok-false-clause-same g c =
+    let old = c.args.self.now in
+    let k = g.C.Collection.key_of in
+    let v = g.C.Collection.value_of in
+    let given = g.C.Collection.given in
+    let items = g.C.Collection.pairs_of old.pairs in
+    let alone = g.B.Follow.alone old.values in
+    let K = g.K.Token.means old.key in
+    let D = g.V.Token.means old.value in
+    let R = IsKeyed k v (g.A.Start.texts old.keys) (g.B.Start.texts old.values) alone old.mark in
+    let same = rw c.in-Ok-false.field-0-test at c.in-Ok-false.ensures.same in
+    rw c.requires (key_same k v given items R K D alone old.mark old.end (is_begun old.stage) (g.K.Token.means c.step.new.self) same)
+
+pub returns-in-Err-clause-same : goal.returns-in-Err-clause-same
+returns-in-Err-clause-same g c =
+    let old = c.args.self.now in
+    let k = g.C.Collection.key_of in
+    let v = g.C.Collection.value_of in
+    let given = g.C.Collection.given in
+    let items = g.C.Collection.pairs_of old.pairs in
+    let alone = g.B.Follow.alone old.values in
+    let K = g.K.Token.means old.key in
+    let D = g.V.Token.means old.value in
+    let R = IsKeyed k v (g.A.Start.texts old.keys) (g.B.Start.texts old.values) alone old.mark in
+    rw c.requires (key_same k v given items R K D alone old.mark old.end (is_begun old.stage) (g.K.Token.means c.step.new.self) c.in-Err.ensures.same)

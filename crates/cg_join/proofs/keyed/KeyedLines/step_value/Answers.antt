@@ -1,0 +1,116 @@
+use Rattle.std.proofs.Common.{◌≡◌, true, [], ◌∷◌, ◌++◌, map, ◌∙◌, ap}
+use Rattle.cg_join.specs.Keyed.{IsKeyed}
+use Rattle.cg_join.specs.KeyedLaws.{distinct_last, keyed_alike, popped}
+use Rattle.cg_join.specs.KeyedStateLaws.{over_refused, rest_one, value_refused, value_same, value_step, value_taken}
+use Rattle.cg_join.specs.PairsLaws.{lacks_stepped}
+use Rattle.cg_join.specs.SettledLaws.{begun_value, marked_value}
+use Rattle.cg_join.proofs.keyed.KeyedLines.step_value.Goals as goal
+
+pub invariant_of-self : goal.invariant_of-self
+invariant_of-self g c =
+    let old = c.args.self.now in
+    let alone = g.B.Follow.alone old.values in
+    let D = g.V.Token.means old.value in
+    record {
+      key_mark = old.key_mark;
+      key_end = old.key_end;
+      value_end = lacks_stepped old.end c.step.result D (g.V.Token.means c.step.new.self) c.args.byte c.step.ensures.taken c.step.ensures.same old.value_end;
+      apart = old.apart;
+      small_mark = old.small_mark;
+      small_end = old.small_end;
+      alone = old.alone;
+      keys_mark = old.keys_mark;
+      keys_end = old.keys_end;
+      values_end = old.values_end;
+      new_key = λ e. absurd (begun_value old.stage c.requires e);
+      new_value = λ e. absurd (marked_value old.stage c.requires e);
+      kept = old.kept;
+      distinct = old.distinct;
+    }
+
+pub returns-then-byte-self-clause-taken : goal.returns-then-byte-self-clause-taken
+returns-then-byte-self-clause-taken g c =
+    let old = c.args.self.now in
+    let k = g.C.Collection.key_of in
+    let v = g.C.Collection.value_of in
+    let given = g.C.Collection.given in
+    let items = g.C.Collection.pairs_of old.pairs in
+    let alone = g.B.Follow.alone old.values in
+    let K = g.K.Token.means old.key in
+    let D = g.V.Token.means old.value in
+    let R = IsKeyed k v (g.A.Start.texts old.keys) (g.B.Start.texts old.values) alone old.mark in
+    rw c.requires (value_taken k v given items R K D alone old.mark old.end true old.ended.items c.step.result (g.V.Token.means c.step.new.self) c.args.byte c.if-byte-self.true c.step.ensures.taken)
+
+pub returns-then-byte-self-clause-refused : goal.returns-then-byte-self-clause-refused
+returns-then-byte-self-clause-refused g c =
+    let old = c.args.self.now in
+    let k = g.C.Collection.key_of in
+    let v = g.C.Collection.value_of in
+    let given = g.C.Collection.given in
+    let items = g.C.Collection.pairs_of old.pairs in
+    let alone = g.B.Follow.alone old.values in
+    let K = g.K.Token.means old.key in
+    let D = g.V.Token.means old.value in
+    let R = IsKeyed k v (g.A.Start.texts old.keys) (g.B.Start.texts old.values) alone old.mark in
+    rw c.requires (value_refused k v given items R K D alone old.mark old.end true old.ended.items c.step.result c.args.byte c.if-byte-self.true c.step.ensures.refused)
+
+pub returns-then-byte-self-clause-same : goal.returns-then-byte-self-clause-same
+returns-then-byte-self-clause-same g c =
+    let old = c.args.self.now in
+    let k = g.C.Collection.key_of in
+    let v = g.C.Collection.value_of in
+    let given = g.C.Collection.given in
+    let items = g.C.Collection.pairs_of old.pairs in
+    let alone = g.B.Follow.alone old.values in
+    let K = g.K.Token.means old.key in
+    let D = g.V.Token.means old.value in
+    let R = IsKeyed k v (g.A.Start.texts old.keys) (g.B.Start.texts old.values) alone old.mark in
+    rw c.requires (value_same k v given items R K D alone old.mark old.end true old.ended.items c.step.result (g.V.Token.means c.step.new.self) c.step.ensures.same)
+
+pub returns-then-not-can_end-clause-refused : goal.returns-then-not-can_end-clause-refused
+returns-then-not-can_end-clause-refused g c =
+    let old = c.args.self.now in
+    let k = g.C.Collection.key_of in
+    let v = g.C.Collection.value_of in
+    let given = g.C.Collection.given in
+    let items = g.C.Collection.pairs_of old.pairs in
+    let alone = g.B.Follow.alone old.values in
+    let K = g.K.Token.means old.key in
+    let D = g.V.Token.means old.value in
+    let R = IsKeyed k v (g.A.Start.texts old.keys) (g.B.Start.texts old.values) alone old.mark in
+    rw (c.requires, c.if-byte-self.false)
+    (over_refused k v given items R K D alone old.mark old.end true old.ended.items old.value_end
+    (λ x h. absurd (let t : g.V.Token.ends old.value ≡ true = (g.met.V.Token.ends_is old.value).1 (x, h) in let f = c.if-not-can_end.true in let q = c.can_end.ensures in cc)))
+
+pub push-requires-clause-new : goal.push-requires-clause-new
+push-requires-clause-new g c =
+    let old = c.args.self.now in
+    let k = g.C.Collection.key_of in
+    let items = g.C.Collection.pairs_of old.pairs in
+    let key = c.in-Some.key in
+    let last = popped old.ended.items c.pop.new.self.items key (rw c.requires at old.kept) c.in-Some.ensures.items in
+    rw c.reserve.ensures.pairs (distinct_last (map k items) key (rw last.0 at old.distinct))
+
+pub returns-clause-taken : goal.returns-clause-taken
+returns-clause-taken g c =
+    let old = c.args.self.now in
+    let k = g.C.Collection.key_of in
+    let v = g.C.Collection.value_of in
+    let given = g.C.Collection.given in
+    let items = g.C.Collection.pairs_of old.pairs in
+    let alone = g.B.Follow.alone old.values in
+    let K = g.K.Token.means old.key in
+    let D = g.V.Token.means old.value in
+    let R = IsKeyed k v (g.A.Start.texts old.keys) (g.B.Start.texts old.values) alone old.mark in
+    let key = c.in-Some.key in
+    let value = c.renew-value.result in
+    let last = popped old.ended.items c.pop.new.self.items key (rw c.requires at old.kept) c.in-Some.ensures.items in
+    let p = g.C.Collection.paired key value in
+    let added : g.C.Collection.pairs_of c.push.new.self ≡ items ++ p ∷ [] = c.push.ensures.pairs ∙ ap (λ x. x ++ p ∷ []) c.reserve.ensures.pairs in
+    let hk = g.met.C.Collection.has_key key value in
+    let hv = g.met.C.Collection.has_value key value in
+    let F = IsKeyed k v (g.K.Token.means c.start.result) (g.V.Token.means c.renew-value.new.token) alone old.mark in
+    rw (c.requires, c.if-byte-self.false)
+    (value_step k v given items R K D alone old.mark old.end true old.ended.items old.value_end (rest_one k v K D alone old.mark old.ended.items g.C.Collection.paired g.met.C.Collection.whole old.key_mark (g.met.K.Token.one_value old.key) (g.met.V.Token.one_value old.value) true)
+    p (rw hk last.0) (rw hv c.renew-value.ensures.value) (g.C.Collection.pairs_of c.push.new.self) added F
+    (keyed_alike k v alone old.mark (g.K.Token.means c.start.result) (g.A.Start.texts old.keys) (g.V.Token.means c.renew-value.new.token) (g.B.Start.texts old.values) c.start.ensures.spells.is c.renew-value.ensures.spells.is))

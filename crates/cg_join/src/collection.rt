@@ -1,0 +1,85 @@
+//! What keeps the pairs of keyed lines.
+ghost use Rattle.std.specs.Prelude.{◌≡◌, ℕ, ◌+◌, ◌≤◌, Bool, List, [], ◌++◌, ◌∷◌, map, OnOk};
+ghost use Rattle.cg_text.specs.Token.{told};
+ghost use Rattle.cg_join.specs.Distinct.{LacksValue, any_value};
+
+use crate::peek::Peek;
+use cg_text::{OutOfMemory, Token};
+
+/// Pairs of a key and a value, in order, the keys all different.
+pub trait Collection<K: Peek, V: Token>: Drop {
+    /// A pair.
+    type Pair;
+
+    /// What the pairs are handed out as.
+    type Out: Drop;
+
+    /// The key of a pair.
+    ghost key_of: { Self.Pair → K.Out };
+
+    /// The value of a pair.
+    ghost value_of: { Self.Pair → V.Out };
+
+    /// The pair of the two.
+    ghost paired: { K.Out → V.Out → Self.Pair };
+
+    /// The pairs.
+    ghost pairs_of: { Self → List Self.Pair };
+
+    /// What pairs are handed out as.
+    ghost given: { List Self.Pair → Self.Out };
+
+    /// Whether there is room for one more pair.
+    ghost has_room: { Self → Type 0 };
+
+    /// The sum of the lengths of its vectors.
+    ghost size: { Self → ℕ };
+
+    /// The sum of the lengths of the vectors in what is handed out.
+    ghost weight: { Self.Out → ℕ };
+
+    /// How many elements a pair has in the vectors, beside those in its key and its value.
+    ghost places: { ℕ };
+
+    /// Whether a pair has the key that was taken.
+    fn has(&self, key: &K) -> bool
+        ensures { result ≡ any_value (K.is_value key.now) (map key_of (pairs_of self.now)) };
+
+    /// Makes room for one more pair.
+    fn reserve(&mut self) -> Result<(), OutOfMemory>
+        ensures pairs { pairs_of self.new ≡ pairs_of self.old }
+        ensures size { size self.new ≡ size self.old }
+        ensures room { OnOk result (has_room self.new) };
+
+    /// Adds a pair with a new key, where there is room for it. It takes no memory.
+    fn push(&mut self, key: K::Out, value: V::Out)
+        requires room { has_room self.old }
+        requires new { LacksValue key (map key_of (pairs_of self.old)) }
+        ensures pairs { pairs_of self.new ≡ pairs_of self.old ++ paired key value ∷ [] }
+        ensures size { size self.new ≤ size self.old + (places + (K.weight key + V.weight value)) };
+
+    /// The sum of the lengths of its vectors.
+    fn held(&self) -> u64
+        ensures { result ≡ told (size self.now) };
+
+    /// Hands the pairs out. It takes no memory.
+    fn finish(self) -> Self::Out
+        ensures value { result ≡ given (pairs_of self) }
+        ensures weight { weight result ≤ size self };
+
+    /// The sum of the lengths of the vectors in what is handed out.
+    fn weight_of(out: &Self::Out) -> u64
+        ensures { result ≡ told (weight out.now) };
+
+    /// A pair adds no more than two elements.
+    ghost few: { places ≤ 2 };
+
+    /// A pair has the key that it is made of.
+    ghost has_key: { (key : K.Out) (value : V.Out) → key_of (paired key value) ≡ key };
+
+    /// A pair has the value that it is made of.
+    ghost has_value: { (key : K.Out) (value : V.Out) → value_of (paired key value) ≡ value };
+
+    /// A pair has nothing else.
+    ghost whole: { (pair : Self.Pair) → paired (key_of pair) (value_of pair) ≡ pair };
+}

@@ -1,0 +1,299 @@
+//! Any number of lines of a key and what follows it, the keys all different: the flat keyed and the nested keyed
+//! files of cgroup v2 (cgroup-v2.rst, "Interface Files", "Format").
+ghost use Rattle.std.specs.Prelude.{◌≡◌, ℕ, ◌+◌, ◌≤◌, ◌<◌, ◌↔◌, Bool, true, false, not, ◌&&◌, Option, Some, List, [], ◌++◌, ◌∷◌, IsTrue, IsFalse, map, length};
+ghost use Rattle.cg_text.specs.Token.{Begins, Follows, IfRefused, IfTaken, NoneBegins, Same, Spells, UnlessTaken, told};
+ghost use Rattle.cg_join.specs.Distinct.{AreDistinct, any_value};
+ghost use Rattle.cg_join.specs.DistinctLaws.{AreDistinct_prop};
+ghost use Rattle.cg_join.specs.Keyed.{AreKeyedLines, IsKeyed};
+ghost use Rattle.cg_join.specs.KeyedState.{AreKeyedAfter, KeyedRest, is_begun, is_marked, kept_keys};
+ghost use Rattle.cg_join.specs.Line.{LacksByte};
+ghost use Rattle.cg_join.specs.Repeat.{items_weight};
+ghost use Rattle.cg_join.specs.Spelling.{IsTurned};
+ghost use Rattle.cg_join.specs.declared.pairs.Stage.TheVariants.{Before, InWord, InValue};
+
+use crate::collection::Collection;
+use crate::follow::Follow;
+use crate::pairing::renew;
+use crate::pairs::Stage;
+use crate::peek::{Peek, StartNew};
+use crate::store::{make_room, put, weight_of_all};
+use cg_text::{OutOfMemory, Token};
+use std::alloc::Global;
+
+/// Any number of lines, also none, each a key, what follows it and an end: `KEY VAL` or `KEY SUB=VAL SUB=VAL`, and
+/// a newline. A mark, which no key has, begins what follows; where a key may stand alone, nothing follows it.
+/// No key comes twice: one may be followed by the mark or the end only where it is new.
+#[derive(Drop)]
+pub struct KeyedLines<K: Peek, V: Token, A: StartNew<K>, B: Follow<V>, C: Collection<K, V>> {
+    keys: A,
+    values: B,
+    mark: u8,
+    end: u8,
+    pairs: C,
+    /// The key of the line at hand, once the mark has ended it, and nothing else.
+    ended: Vec<K::Out>,
+    stage: Stage,
+    key: K,
+    value: V,
+    ghost key_mark: { LacksByte (K.means key) mark },
+    ghost key_end: { LacksByte (K.means key) end },
+    ghost keys_mark: { LacksByte (A.texts keys) mark },
+    ghost keys_end: { LacksByte (A.texts keys) end },
+    ghost value_end: { LacksByte (V.means value) end },
+    ghost values_end: { LacksByte (B.texts values) end },
+    ghost apart: { mark ≡ end → ⊥ },
+    ghost small_mark: { mark < 256 },
+    ghost small_end: { end < 256 },
+    ghost alone: { (v : V.Out) → B.alone values ≡ Some v → C.places ≤ 1 },
+    ghost new_key: { IsFalse (is_begun stage) → K.size key ≡ 0 },
+    ghost new_value: { IsFalse (is_marked stage) → V.size value ≡ 0 },
+    ghost kept: { length ended.items ≡ kept_keys (is_marked stage) },
+    ghost distinct: { AreDistinct (map C.key_of (C.pairs_of pairs) ++ ended.items) } by { AreDistinct_prop (map C.key_of (C.pairs_of pairs) ++ ended.items) },
+}
+
+impl<K: Peek, V: Token, A: StartNew<K>, B: Follow<V>, C: Collection<K, V>> KeyedLines<
+    K,
+    V,
+    A,
+    B,
+    C,
+> {
+    /// Any number of lines of a key and a value, whose tokens are made by `keys` and `values`. The pairs are
+    /// put into `pairs`, which has none.
+    pub fn new(
+        alloc: Global,
+        keys: A,
+        values: B,
+        mark: u8,
+        end: u8,
+        pairs: C,
+    ) -> KeyedLines<K, V, A, B, C>
+        requires keys_mark { LacksByte (A.texts keys) mark }
+        requires keys_end { LacksByte (A.texts keys) end }
+        requires values_end { LacksByte (B.texts values) end }
+        requires apart { mark ≡ end → ⊥ }
+        requires alone { (v : V.Out) → B.alone values ≡ Some v → C.places ≤ 1 }
+        requires empty { C.pairs_of pairs ≡ [] }
+        ensures spells { Spells ⟦<KeyedLines<K, V, A, B, C> as Token>⟧.means result (IsTurned (AreKeyedLines C.key_of (IsKeyed C.key_of C.value_of (A.texts keys) (B.texts values) (B.alone values) mark) end) C.given) }
+        ensures size { ⟦<KeyedLines<K, V, A, B, C> as Token>⟧.size result ≡ C.size pairs }
+    {
+        let key = keys.start();
+        let value = values.start();
+        KeyedLines {
+            keys,
+            values,
+            mark,
+            end,
+            pairs,
+            ended: Vec::new(alloc),
+            stage: Stage::Before,
+            key,
+            value,
+        }
+    }
+
+    /// Whether the key can end, and no line before has it.
+    fn is_new_key(&self) -> bool
+        ensures { result ≡ K.ends self.now.key && not (any_value (K.is_value self.now.key) (map C.key_of (C.pairs_of self.now.pairs))) }
+    {
+        self.key.can_end() && !self.pairs.has(&self.key)
+    }
+
+    /// Takes the mark after a key.
+    fn end_key(&mut self) -> Result<bool, OutOfMemory>
+        requires { IsFalse (is_marked self.old.stage) }
+        ensures taken { IfTaken result (Follows ⟦<KeyedLines<K, V, A, B, C> as Token>⟧.means self.old self.old.mark self.new) }
+        ensures refused { IfRefused result (NoneBegins ⟦<KeyedLines<K, V, A, B, C> as Token>⟧.means self.old self.old.mark) }
+        ensures same { UnlessTaken result (Same ⟦<KeyedLines<K, V, A, B, C> as Token>⟧.means self.old self.new) }
+        ensures same_size { UnlessTaken result (⟦<KeyedLines<K, V, A, B, C> as Token>⟧.size self.new ≡ ⟦<KeyedLines<K, V, A, B, C> as Token>⟧.size self.old) }
+        ensures size { ⟦<KeyedLines<K, V, A, B, C> as Token>⟧.size self.new ≤ ⟦<KeyedLines<K, V, A, B, C> as Token>⟧.size self.old + 1 }
+    {
+        if !self.is_new_key() {
+            return Ok(false);
+        }
+        match make_room(&mut self.ended) {
+            Ok(()) => {}
+            Err(e) => return Err(e),
+        }
+        let key = renew(&mut self.key, &self.keys);
+        put(&mut self.ended, key);
+        self.stage = Stage::InValue;
+        Ok(true)
+    }
+
+    /// Takes the end after a key, which then stands alone.
+    fn end_alone(&mut self) -> Result<bool, OutOfMemory>
+        requires { IsFalse (is_marked self.old.stage) }
+        ensures taken { IfTaken result (Follows ⟦<KeyedLines<K, V, A, B, C> as Token>⟧.means self.old self.old.end self.new) }
+        ensures refused { IfRefused result (NoneBegins ⟦<KeyedLines<K, V, A, B, C> as Token>⟧.means self.old self.old.end) }
+        ensures same { UnlessTaken result (Same ⟦<KeyedLines<K, V, A, B, C> as Token>⟧.means self.old self.new) }
+        ensures same_size { UnlessTaken result (⟦<KeyedLines<K, V, A, B, C> as Token>⟧.size self.new ≡ ⟦<KeyedLines<K, V, A, B, C> as Token>⟧.size self.old) }
+        ensures size { ⟦<KeyedLines<K, V, A, B, C> as Token>⟧.size self.new ≤ ⟦<KeyedLines<K, V, A, B, C> as Token>⟧.size self.old + 1 }
+    {
+        let value = match self.values.alone() {
+            Some(value) => value,
+            None => return Ok(false),
+        };
+        if !self.is_new_key() {
+            return Ok(false);
+        }
+        match self.pairs.reserve() {
+            Ok(()) => {}
+            Err(e) => return Err(e),
+        }
+        let key = renew(&mut self.key, &self.keys);
+        self.pairs.push(key, value);
+        self.value = self.values.start();
+        self.stage = Stage::Before;
+        Ok(true)
+    }
+
+    /// Takes a byte where no key is ended.
+    fn step_key(&mut self, byte: u8) -> Result<bool, OutOfMemory>
+        requires { IsFalse (is_marked self.old.stage) }
+        ensures taken { IfTaken result (Follows ⟦<KeyedLines<K, V, A, B, C> as Token>⟧.means self.old byte self.new) }
+        ensures refused { IfRefused result (NoneBegins ⟦<KeyedLines<K, V, A, B, C> as Token>⟧.means self.old byte) }
+        ensures same { UnlessTaken result (Same ⟦<KeyedLines<K, V, A, B, C> as Token>⟧.means self.old self.new) }
+        ensures same_size { UnlessTaken result (⟦<KeyedLines<K, V, A, B, C> as Token>⟧.size self.new ≡ ⟦<KeyedLines<K, V, A, B, C> as Token>⟧.size self.old) }
+        ensures size { ⟦<KeyedLines<K, V, A, B, C> as Token>⟧.size self.new ≤ ⟦<KeyedLines<K, V, A, B, C> as Token>⟧.size self.old + 1 }
+    {
+        if byte == self.mark {
+            return self.end_key();
+        }
+        if byte == self.end {
+            return self.end_alone();
+        }
+        match self.key.step(byte) {
+            Ok(true) => {
+                self.stage = Stage::InWord;
+                Ok(true)
+            }
+            Ok(false) => Ok(false),
+            Err(e) => Err(e),
+        }
+    }
+
+    /// Whether the byte may come where no key is ended.
+    fn allows_key(&self, byte: u8) -> bool
+        requires { IsFalse (is_marked self.now.stage) }
+        ensures { IsTrue result ↔ Begins ⟦<KeyedLines<K, V, A, B, C> as Token>⟧.means self.now byte }
+    {
+        if byte == self.mark {
+            return self.is_new_key();
+        }
+        if byte == self.end {
+            match self.values.alone() {
+                Some(_) => return self.is_new_key(),
+                None => return false,
+            }
+        }
+        self.key.allows(byte)
+    }
+
+    /// Takes a byte of a value, or the end after it.
+    fn step_value(&mut self, byte: u8) -> Result<bool, OutOfMemory>
+        requires { self.old.stage ≡ InValue }
+        ensures taken { IfTaken result (Follows ⟦<KeyedLines<K, V, A, B, C> as Token>⟧.means self.old byte self.new) }
+        ensures refused { IfRefused result (NoneBegins ⟦<KeyedLines<K, V, A, B, C> as Token>⟧.means self.old byte) }
+        ensures same { UnlessTaken result (Same ⟦<KeyedLines<K, V, A, B, C> as Token>⟧.means self.old self.new) }
+        ensures same_size { UnlessTaken result (⟦<KeyedLines<K, V, A, B, C> as Token>⟧.size self.new ≡ ⟦<KeyedLines<K, V, A, B, C> as Token>⟧.size self.old) }
+        ensures size { ⟦<KeyedLines<K, V, A, B, C> as Token>⟧.size self.new ≤ ⟦<KeyedLines<K, V, A, B, C> as Token>⟧.size self.old + 1 }
+    {
+        if byte != self.end {
+            return self.value.step(byte);
+        }
+        if !self.value.can_end() {
+            return Ok(false);
+        }
+        match self.pairs.reserve() {
+            Ok(()) => {}
+            Err(e) => return Err(e),
+        }
+        let value = renew(&mut self.value, &self.values);
+        match self.ended.pop() {
+            Some(key) => self.pairs.push(key, value),
+            None => unreachable!(),
+        }
+        // The token is as new, but what it takes is known only of one that is made here.
+        self.key = self.keys.start();
+        self.stage = Stage::Before;
+        Ok(true)
+    }
+}
+
+impl<K: Peek, V: Token, A: StartNew<K>, B: Follow<V>, C: Collection<K, V>> Token
+    for KeyedLines<K, V, A, B, C> {
+    type Out = C::Out;
+
+    ghost use Rattle.cg_join.specs.RepeatLaws.{true_not_false};
+    ghost use Rattle.cg_join.specs.KeyedStateLaws.{state_bytes, state_completes, state_ends, state_one};
+
+    ghost means = { λ s. IsTurned (AreKeyedAfter C.key_of (C.pairs_of s.pairs) (is_begun s.stage) (KeyedRest C.key_of C.value_of (K.means s.key) (V.means s.value) (B.alone s.values) s.mark (is_marked s.stage) s.ended.items) (IsKeyed C.key_of C.value_of (A.texts s.keys) (B.texts s.values) (B.alone s.values) s.mark) s.end) C.given };
+
+    ghost size = { λ s. C.size s.pairs + items_weight K.weight s.ended.items + (K.size s.key + V.size s.value) };
+
+    ghost weight = { C.weight };
+
+    ghost ends = { λ s. not (is_begun s.stage) };
+
+    ghost grows = { true };
+
+    fn step(&mut self, byte: u8) -> Result<bool, OutOfMemory> {
+        match self.stage {
+            Stage::Before => self.step_key(byte),
+            Stage::InWord => self.step_key(byte),
+            Stage::InValue => self.step_value(byte),
+        }
+    }
+
+    fn allows(&self, byte: u8) -> bool {
+        match self.stage {
+            Stage::Before => self.allows_key(byte),
+            Stage::InWord => self.allows_key(byte),
+            Stage::InValue => {
+                if byte == self.end {
+                    return self.value.can_end();
+                }
+                self.value.allows(byte)
+            }
+        }
+    }
+
+    fn can_end(&self) -> bool {
+        match self.stage {
+            Stage::Before => true,
+            Stage::InWord => false,
+            Stage::InValue => false,
+        }
+    }
+
+    fn held(&self) -> u64 {
+        let kept = self
+            .pairs
+            .held()
+            .saturating_add(weight_of_all::<K>(self.ended.as_slice()));
+        let at_hand = self.key.held().saturating_add(self.value.held());
+        kept.saturating_add(at_hand)
+    }
+
+    fn take(self) -> C::Out {
+        self.pairs.finish()
+    }
+
+    fn weight_of(value: &C::Out) -> u64 {
+        C::weight_of(value)
+    }
+
+    ghost completes = { λ s. state_completes C.key_of C.value_of C.paired C.has_key C.has_value C.given (C.pairs_of s.pairs) (IsKeyed C.key_of C.value_of (A.texts s.keys) (B.texts s.values) (B.alone s.values) s.mark) (K.means s.key) (V.means s.value) (B.alone s.values) s.mark s.end (is_begun s.stage) s.ended.items s.distinct (is_marked s.stage) s.kept
+        (K.longer s.key [] (K.completes s.key) (map C.key_of (C.pairs_of s.pairs))) (V.completes s.value) };
+
+    ghost no_size = { λ e s. absurd (true_not_false e) };
+
+    ghost ends_is = { λ s. state_ends C.key_of C.given (C.pairs_of s.pairs) (KeyedRest C.key_of C.value_of (K.means s.key) (V.means s.value) (B.alone s.values) s.mark (is_marked s.stage) s.ended.items) (IsKeyed C.key_of C.value_of (A.texts s.keys) (B.texts s.values) (B.alone s.values) s.mark) s.end s.ended.items s.distinct (is_begun s.stage) };
+
+    ghost one_value = { λ s. state_one C.key_of C.value_of C.given (C.pairs_of s.pairs) (K.means s.key) (V.means s.value) (A.texts s.keys) (B.texts s.values) (B.alone s.values) s.mark s.end (is_begun s.stage) s.ended.items C.paired C.whole s.apart
+        s.key_mark s.key_end s.keys_mark s.keys_end s.value_end s.values_end (K.one_value s.key) (V.one_value s.value) (A.one_text s.keys) (B.one_text s.values) (is_marked s.stage) };
+
+    ghost holds_bytes = { λ s. state_bytes C.key_of C.value_of C.given (C.pairs_of s.pairs) (K.means s.key) (V.means s.value) (A.texts s.keys) (B.texts s.values) (B.alone s.values) s.mark s.end (is_begun s.stage) s.ended.items s.small_mark s.small_end
+        (K.holds_bytes s.key) (V.holds_bytes s.value) (A.text_bytes s.keys) (B.text_bytes s.values) (is_marked s.stage) };
+}

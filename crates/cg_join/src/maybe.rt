@@ -1,0 +1,96 @@
+//! A token's text, or none.
+ghost use Rattle.std.specs.Prelude.{◌≡◌, ℕ, ◌+◌, ◌≤◌, ◌↔◌, not, ◌||◌, List, [], IsTrue, IsFalse};
+ghost use Rattle.cg_text.specs.Token.{Spells};
+ghost use Rattle.cg_join.specs.Maybe.{IsMaybe, MaybeRest, maybe_weight};
+ghost use Rattle.cg_join.specs.Repeat.{LacksEmpty};
+
+use cg_text::{OutOfMemory, Token};
+
+/// A token's text with its value, or the empty text with none. No text of the token is empty.
+#[derive(Drop)]
+pub struct Maybe<T: Token> {
+    token: T,
+    begun: bool,
+    ghost filled: { IsFalse begun → LacksEmpty (T.means token) },
+    ghost fresh: { IsFalse begun → T.size token ≡ 0 },
+}
+
+impl<T: Token> Maybe<T> {
+    /// The token's text, or the empty one. The token is new.
+    pub fn new(token: T) -> Maybe<T>
+        requires filled { LacksEmpty (T.means token) }
+        requires fresh { T.size token ≡ 0 }
+        ensures spells { Spells ⟦<Maybe<T> as Token>⟧.means result (IsMaybe (T.means token)) }
+        ensures size { ⟦<Maybe<T> as Token>⟧.size result ≡ T.size token }
+    {
+        Maybe {
+            token,
+            begun: false,
+        }
+    }
+}
+
+impl<T: Token> Token for Maybe<T> {
+    type Out = Option<T::Out>;
+
+    ghost use Rattle.cg_join.specs.MaybeLaws.{maybe_completes, maybe_ends, maybe_one, maybe_bytes};
+
+    ghost means = { λ s. MaybeRest s.begun (T.means s.token) };
+
+    ghost size = { λ s. T.size s.token };
+
+    ghost weight = { maybe_weight T.weight };
+
+    ghost ends = { λ s. not s.begun || T.ends s.token };
+
+    ghost grows = { T.grows };
+
+    #[inline(always)]
+    fn step(&mut self, byte: u8) -> Result<bool, OutOfMemory> {
+        match self.token.step(byte) {
+            Ok(true) => {
+                self.begun = true;
+                Ok(true)
+            }
+            Ok(false) => Ok(false),
+            Err(e) => Err(e),
+        }
+    }
+
+    fn allows(&self, byte: u8) -> bool {
+        self.token.allows(byte)
+    }
+
+    fn can_end(&self) -> bool {
+        !self.begun || self.token.can_end()
+    }
+
+    fn held(&self) -> u64 {
+        self.token.held()
+    }
+
+    fn take(self) -> Option<T::Out> {
+        if self.begun {
+            Some(self.token.take())
+        } else {
+            None
+        }
+    }
+
+    fn weight_of(value: &Option<T::Out>) -> u64 {
+        match value {
+            Some(v) => T::weight_of(v),
+            None => 0,
+        }
+    }
+
+    ghost completes = { λ s. maybe_completes (T.means s.token) s.begun (T.completes s.token) };
+
+    ghost no_size = { λ e s. T.no_size e s.token };
+
+    ghost ends_is = { λ s. maybe_ends (T.means s.token) (T.ends s.token) s.begun (T.ends_is s.token) };
+
+    ghost one_value = { λ s. maybe_one (T.means s.token) s.begun s.filled (T.one_value s.token) };
+
+    ghost holds_bytes = { λ s. maybe_bytes (T.means s.token) s.begun (T.holds_bytes s.token) };
+}

@@ -1,0 +1,163 @@
+//! The empty text with a value, alone or beside a token's texts.
+ghost use Rattle.std.specs.Prelude.{◌≡◌, ℕ, ◌+◌, ◌≤◌, ◌↔◌, true, false, not, ◌||◌, List, [], ◌∷◌, refl, IsTrue, IsFalse};
+ghost use Rattle.cg_text.specs.Token.{Spells};
+ghost use Rattle.cg_join.specs.Ready.{IsReady, IsOrReady, OrReadyRest};
+ghost use Rattle.cg_join.specs.Repeat.{LacksEmpty};
+
+use cg_text::{OutOfMemory, Token};
+
+/// The empty text, with a value that holds no vector.
+#[derive(Clone, Copy, Drop)]
+pub struct Ready<V: Copy> {
+    value: V,
+}
+
+impl<V: Copy> Ready<V> {
+    /// The empty text, with this value.
+    pub fn new(value: V) -> Ready<V>
+        ensures spells { Spells ⟦<Ready<V> as Token>⟧.means result (IsReady value) }
+        ensures size { ⟦<Ready<V> as Token>⟧.size result ≡ 0 }
+    {
+        Ready { value }
+    }
+}
+
+impl<V: Copy> Token for Ready<V> {
+    type Out = V;
+
+    ghost use Rattle.cg_join.specs.ReadyLaws.{ready_completes, ready_ends, ready_one, ready_bytes};
+
+    ghost means = { λ s. IsReady s.value };
+
+    ghost size = { λ _. 0 };
+
+    ghost weight = { λ _. 0 };
+
+    ghost ends = { λ _. true };
+
+    ghost grows = { false };
+
+    fn step(&mut self, _byte: u8) -> Result<bool, OutOfMemory> {
+        Ok(false)
+    }
+
+    fn allows(&self, _byte: u8) -> bool {
+        false
+    }
+
+    fn can_end(&self) -> bool {
+        true
+    }
+
+    fn held(&self) -> u64 {
+        0
+    }
+
+    fn take(self) -> V {
+        self.value
+    }
+
+    fn weight_of(_value: &V) -> u64 {
+        0
+    }
+
+    ghost completes = { λ s. ready_completes s.value };
+
+    ghost no_size = { λ _ _. refl };
+
+    ghost ends_is = { λ s. ready_ends s.value };
+
+    ghost one_value = { λ s. ready_one s.value };
+
+    ghost holds_bytes = { λ s. ready_bytes s.value };
+}
+
+/// A token's text with its value, or the empty text with another one. No text of the token is empty.
+#[derive(Drop)]
+pub struct OrReady<T: Token> {
+    token: T,
+    value: T::Out,
+    begun: bool,
+    ghost filled: { IsFalse begun → LacksEmpty (T.means token) },
+    ghost bare: { T.weight value ≡ 0 },
+    ghost fresh: { IsFalse begun → T.size token ≡ 0 },
+}
+
+impl<T: Token> OrReady<T> {
+    /// The token's text, or the empty one with this value, whose vectors are empty. The token is new.
+    pub fn new(token: T, value: T::Out) -> OrReady<T>
+        requires filled { LacksEmpty (T.means token) }
+        requires bare { T.weight value ≡ 0 }
+        requires fresh { T.size token ≡ 0 }
+        ensures spells { Spells ⟦<OrReady<T> as Token>⟧.means result (IsOrReady (T.means token) value) }
+        ensures size { ⟦<OrReady<T> as Token>⟧.size result ≡ T.size token }
+    {
+        OrReady {
+            token,
+            value,
+            begun: false,
+        }
+    }
+}
+
+impl<T: Token> Token for OrReady<T> {
+    type Out = T::Out;
+
+    ghost use Rattle.cg_join.specs.ReadyLaws.{or_ready_completes, or_ready_ends, or_ready_one, or_ready_bytes};
+
+    ghost means = { λ s. OrReadyRest s.begun (T.means s.token) s.value };
+
+    ghost size = { λ s. T.size s.token };
+
+    ghost weight = { T.weight };
+
+    ghost ends = { λ s. not s.begun || T.ends s.token };
+
+    ghost grows = { T.grows };
+
+    #[inline(always)]
+    fn step(&mut self, byte: u8) -> Result<bool, OutOfMemory> {
+        match self.token.step(byte) {
+            Ok(true) => {
+                self.begun = true;
+                Ok(true)
+            }
+            Ok(false) => Ok(false),
+            Err(e) => Err(e),
+        }
+    }
+
+    fn allows(&self, byte: u8) -> bool {
+        self.token.allows(byte)
+    }
+
+    fn can_end(&self) -> bool {
+        !self.begun || self.token.can_end()
+    }
+
+    fn held(&self) -> u64 {
+        self.token.held()
+    }
+
+    fn take(self) -> T::Out {
+        if self.begun {
+            self.token.take()
+        } else {
+            self.value
+        }
+    }
+
+    fn weight_of(value: &T::Out) -> u64 {
+        T::weight_of(value)
+    }
+
+    ghost completes = { λ s. or_ready_completes (T.means s.token) s.value s.begun (T.completes s.token) };
+
+    ghost no_size = { λ e s. T.no_size e s.token };
+
+    ghost ends_is = { λ s. or_ready_ends (T.means s.token) s.value (T.ends s.token) s.begun (T.ends_is s.token) };
+
+    ghost one_value = { λ s. or_ready_one (T.means s.token) s.value s.begun s.filled (T.one_value s.token) };
+
+    ghost holds_bytes = { λ s. or_ready_bytes (T.means s.token) s.value s.begun (T.holds_bytes s.token) };
+}

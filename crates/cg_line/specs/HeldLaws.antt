@@ -1,0 +1,74 @@
+-- How much is held after one more byte.
+use Rattle.std.proofs.Common.{◌≡◌, ℕ, ◌+◌, ◌≤◌, ◌⊎◌, inl, inr, List, [], ◌∷◌, ◌++◌, length, refl, sym, ◌∙◌, ap, arith, append_assoc, append-nil, length-append}
+use Rattle.cg_text.specs.Texts.{Lacks}
+use Rattle.cg_value.specs.Files.{ReadLines, KindText}
+use Rattle.cg_value.specs.Kind.{IsReadForm}
+use Rattle.cg_value.specs.Lines.{unlines}
+use Rattle.cg_value.specs.Print.{print_lines}
+use Rattle.cg_value.specs.PrintLaws.{one_text}
+use Rattle.cg_value.specs.Weight.{weight_of, weight_of_lines}
+use Rattle.cg_value.specs.declared.kind.ReadForm.{ReadForm}
+use Rattle.cg_value.specs.declared.value.Value.{Value}
+use Rattle.cg_line.specs.Machine.{IsRead}
+use Rattle.cg_line.specs.MachineLaws.{is_value}
+use Rattle.cg_line.specs.Kinds.{TextsOf, HoldsLittle, held_of_whole}
+
+-- A text is empty, or has a last byte.
+record HasLast (text : List ℕ) : Type 0 where
+  front : List ℕ
+  last : ℕ
+  is : text ≡ front ++ last ∷ []
+
+last_of : (text : List ℕ) → (text ≡ []) ⊎ HasLast text
+last_of [] = inl refl
+last_of (x ∷ xs) = elim (last_of xs) [
+  | inl e ↦ inr (record { front = []; last = x; is = ap (λ t. x ∷ t) e })
+  | inr h ↦ inr (record { front = x ∷ h.front; last = h.last; is = ap (λ t. x ∷ t) h.is })
+]
+
+-- Two texts that end with a byte are the same where they are before it.
+same_front : (front other : List ℕ) (b c : ℕ) → front ++ b ∷ [] ≡ other ++ c ∷ [] → front ≡ other
+same_front [] [] b c e = refl
+same_front [] (y ∷ []) b c e = absurd (cc)
+same_front [] (y ∷ z ∷ other) b c e = absurd (cc)
+same_front (x ∷ []) [] b c e = absurd (cc)
+same_front (x ∷ y ∷ front) [] b c e = absurd (cc)
+same_front (x ∷ front) (y ∷ other) b c e =
+    let head : x ≡ y = cc in
+    let more = same_front front other b c (cc) in
+    rw (head, more) refl
+
+not_empty : (front : List ℕ) (b : ℕ) → front ++ b ∷ [] ≡ [] → ⊥
+not_empty [] b e = cc
+not_empty (x ∷ front) b e = cc
+
+lacks_front : (front : List ℕ) (b : ℕ) → Lacks 10 (front ++ b ∷ []) → Lacks 10 front
+lacks_front [] b h = tt
+lacks_front (x ∷ front) b h = (h.0, lacks_front front b h.1)
+
+-- Of a text that ends where a line does.
+whole_line : (kind : ReadForm) (v : Value) (lines : List (List ℕ)) (taken : List ℕ) (b size : ℕ) → IsReadForm kind → ReadLines kind v lines → taken ++ b ∷ [] ≡ unlines lines → size ≤ held_of_whole v → size ≤ weight_of_lines v lines
+whole_line kind v lines taken b size form spelled e bound = elim (one_text kind v lines form spelled) [
+  | inl same ↦ rw same bound
+  | inr none ↦ absurd (not_empty taken b (e ∙ ap unlines none.no_lines))
+]
+
+-- A byte adds at most one; and a whole file holds at most what its value does.
+pub holds_more : (kind : ReadForm) (taken : List ℕ) (b old new : ℕ) → IsReadForm kind → new ≤ old + 1 → ((v : Value) → KindText kind v (taken ++ b ∷ []) → new ≤ held_of_whole v) →
+    HoldsLittle old kind taken → HoldsLittle new kind (taken ++ b ∷ [])
+holds_more kind taken b old new form grows whole h lines line v e plain spelled = elim (last_of line) [
+  | inl none ↦
+      let text : taken ++ b ∷ [] ≡ unlines lines = e ∙ ap (λ t. unlines lines ++ t) none ∙ append-nil (unlines lines) in
+      let bound = whole v (record { lines = lines; spelled = spelled; text_is = text }) in
+      omega (arith, whole_line kind v lines taken b new form spelled text bound)
+  | inr some ↦
+      let text : taken ++ b ∷ [] ≡ (unlines lines ++ some.front) ++ some.last ∷ [] = e ∙ ap (λ t. unlines lines ++ t) some.is ∙ sym (append_assoc (unlines lines) some.front (some.last ∷ [])) in
+      let front : taken ≡ unlines lines ++ some.front = same_front taken (unlines lines ++ some.front) b some.last text in
+      let before = h lines some.front v front (lacks_front some.front some.last (rw some.is at plain)) spelled in
+      let longer : length line ≡ length some.front + 1 = ap length some.is ∙ length-append some.front (some.last ∷ []) in
+      omega (arith, before, longer, grows)
+]
+
+-- Nothing is held at the start.
+pub holds_none : (kind : ReadForm) (size : ℕ) → size ≡ 0 → HoldsLittle size kind []
+holds_none kind size e lines line v text plain spelled = omega (arith, e)

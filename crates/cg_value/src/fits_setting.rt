@@ -1,0 +1,410 @@
+//! Which kinds of files take a setting (cgroup-v2.rst, "Interface Files"; psi.rst, "Monitoring for pressure thresholds").
+ghost use Rattle.std.specs.Prelude.{◌≢◌, ◌≤ℤ◌, ◌↔◌, [], All, IsTrue};
+ghost use Rattle.cg_text.specs.Numbers.{IsSet};
+ghost use Rattle.cg_text.specs.Raw.{IsRawLine};
+ghost use Rattle.cg_text.specs.Word.{IsControllerWord};
+ghost use Rattle.cg_value.specs.Kind.{any_u64};
+ghost use Rattle.cg_value.specs.Settings.{FitsWrite};
+ghost use Rattle.cg_value.specs.Within.{IsWithin, IsLimitWithin, IsGivenWithin, IsClampWithin, IsDeviceWithin, IsQuotaWithin, IsGivenLimitWithin, NoneGiven, AreLimitsWithin, AreTimesWithin, AreRangesWithin};
+
+use crate::kind::{WriteForm as Form, WriteKind};
+use crate::setting::{Setting, Toggle};
+use cg_text::{Clamp, Device, Key, Limit, LimitPairs, NumberSet};
+
+/// Whether the number lies from `lo` to `hi`.
+fn is_within(number: u64, lo: u64, hi: u64) -> bool
+    ensures { IsTrue result ↔ IsWithin lo hi number }
+{
+    lo <= number && number <= hi
+}
+
+/// Whether the signed number lies from `lo` to `hi`.
+fn is_signed_within(number: i64, lo: i64, hi: i64) -> bool
+    ensures { IsTrue result ↔ ((lo ≤ℤ number) × (number ≤ℤ hi)) }
+{
+    lo <= number && number <= hi
+}
+
+/// Whether the number isn't given, or lies from `lo` to `hi`.
+fn is_given_within(number: Option<u64>, lo: u64, hi: u64) -> bool
+    ensures { IsTrue result ↔ IsGivenWithin lo hi number }
+{
+    match number {
+        Some(number) => is_within(number, lo, hi),
+        None => true,
+    }
+}
+
+/// Whether the limit is `max`, or lies from `lo` to `hi`.
+fn limit_is_within(limit: Limit, lo: u64, hi: u64) -> bool
+    ensures { IsTrue result ↔ IsLimitWithin lo hi limit }
+{
+    match limit {
+        Limit::Max => true,
+        Limit::At(number) => is_within(number, lo, hi),
+    }
+}
+
+/// Whether the clamp is `max`, or at most 100.00.
+fn clamp_fits(clamp: Clamp) -> bool
+    ensures { IsTrue result ↔ IsClampWithin clamp }
+{
+    match clamp {
+        Clamp::Max => true,
+        Clamp::At(share) => share.count <= 10000,
+    }
+}
+
+/// Whether the major number is of 12 bits, and the minor number of 20.
+fn device_fits(device: Device) -> bool
+    ensures { IsTrue result ↔ IsDeviceWithin device }
+{
+    device.major <= 4095 && device.minor <= 1048575
+}
+
+/// Whether the word begins with no sign.
+fn is_controller(name: &Key) -> bool
+    ensures { IsTrue result ↔ IsControllerWord name.now }
+{
+    match name.bytes().first() {
+        Some(byte) => *byte != b'+' && *byte != b'-',
+        None => false,
+    }
+}
+
+/// Whether there are toggles, all of controllers.
+fn toggles_fit(toggles: &[Toggle]) -> bool
+    ensures { IsTrue result ↔ ((toggles.now ≢ []) × All (λ t. IsControllerWord t.name) toggles.now) }
+{
+    for toggle in toggles {
+        if !is_controller(&toggle.name) {
+            return false;
+        }
+    }
+    !toggles.is_empty()
+}
+
+/// Whether the quota is `max` or at least 1000 microseconds, and the period, if given, from 1000 to 1000000.
+fn quota_fits(quota: Limit, period: Option<u64>) -> bool
+    ensures { IsTrue result ↔ IsQuotaWithin quota period }
+{
+    limit_is_within(quota, 1000, u64::MAX) && is_given_within(period, 1000, 1000000)
+}
+
+/// Whether the size is any of 64 bits, and the swappiness isn't given or at most 200.
+fn reclaim_fits(size: u64, swappiness: Option<u64>) -> bool
+    ensures { IsTrue result ↔ (IsWithin 0 any_u64 size × IsGivenWithin 0 200 swappiness) }
+{
+    is_within(size, 0, u64::MAX) && is_given_within(swappiness, 0, 200)
+}
+
+/// Whether the limit isn't given, is `max`, or at least 1.
+fn given_limit_fits(limit: Option<Limit>) -> bool
+    ensures { IsTrue result ↔ IsGivenLimitWithin limit }
+{
+    match limit {
+        Some(limit) => limit_is_within(limit, 1, u64::MAX),
+        None => true,
+    }
+}
+
+/// Whether one of the limits is given.
+fn is_some_given(limits: LimitPairs) -> bool
+    ensures { IsTrue result ↔ (NoneGiven limits → ⊥) }
+{
+    match (limits.rbps, limits.wbps, limits.riops, limits.wiops) {
+        (None, None, None, None) => false,
+        _ => true,
+    }
+}
+
+/// Whether the device may be written with these limits.
+fn limits_fit(device: Device, limits: LimitPairs) -> bool
+    ensures { IsTrue result ↔ (IsDeviceWithin device × AreLimitsWithin limits) }
+{
+    device_fits(device)
+        && is_some_given(limits)
+        && given_limit_fits(limits.rbps)
+        && given_limit_fits(limits.wbps)
+        && given_limit_fits(limits.riops)
+        && given_limit_fits(limits.wiops)
+}
+
+/// Whether the device's weight is the default one, or from 1 to 10000.
+fn weight_fits(device: Device, weight: Option<u64>) -> bool
+    ensures { IsTrue result ↔ (IsDeviceWithin device × IsGivenWithin 1 10000 weight) }
+{
+    device_fits(device) && is_given_within(weight, 1, 10000)
+}
+
+/// Whether the device may be written, with any target of 64 bits.
+fn target_fits(device: Device, target: u64) -> bool
+    ensures { IsTrue result ↔ (IsDeviceWithin device × IsWithin 0 any_u64 target) }
+{
+    device_fits(device) && is_within(target, 0, u64::MAX)
+}
+
+/// Whether the numbers are at most `most`.
+fn set_fits(set: &NumberSet, most: u32) -> bool
+    ensures { IsTrue result ↔ (IsSet set.now × AreRangesWithin most set.now) }
+{
+    for range in set.ranges() {
+        if range.1 > most {
+            return false;
+        }
+    }
+    true
+}
+
+/// Whether the stall is at least 1, at most the window, and that at most 10 seconds, in microseconds.
+fn times_fit(stall: u64, window: u64) -> bool
+    ensures { IsTrue result ↔ AreTimesWithin stall window }
+{
+    1 <= stall && stall <= window && window <= 10000000
+}
+
+/// Whether no byte is NUL or a newline.
+fn is_raw_line(bytes: &[u8]) -> bool
+    ensures { IsTrue result ↔ IsRawLine bytes.now }
+{
+    for byte in bytes {
+        if *byte == 0 || *byte == b'\n' {
+            return false;
+        }
+    }
+    true
+}
+
+impl Setting {
+    /// Whether some write of this kind spells the setting. It takes no memory.
+    pub fn fits(&self, kind: WriteKind) -> bool
+        ensures { IsTrue result ↔ FitsWrite kind self.now }
+    {
+        match (kind.form(), self) {
+            (Form::Number { lo, hi }, Setting::Number(number)) => is_within(*number, lo, hi),
+            (Form::Signed { lo, hi }, Setting::Signed(number)) => is_signed_within(*number, lo, hi),
+            (Form::Limit { lo, hi }, Setting::Limit(limit)) => limit_is_within(*limit, lo, hi),
+            (Form::SizeLimit, Setting::Limit(limit)) => limit_is_within(*limit, 0, u64::MAX),
+            (Form::Clamp, Setting::Clamp(clamp)) => clamp_fits(*clamp),
+            (Form::Mode, Setting::Threaded) => true,
+            (Form::Controllers, Setting::Controllers(toggles)) => toggles_fit(toggles.as_slice()),
+            (Form::CpuMax, Setting::CpuMax { quota, period }) => quota_fits(*quota, *period),
+            (Form::Reclaim, Setting::Reclaim { size, swappiness }) => reclaim_fits(
+                *size,
+                *swappiness,
+            ),
+            (Form::DeviceLimits, _) => self.fits_device_limits(),
+            (Form::DeviceWeight, Setting::DefaultWeight(weight)) => is_within(*weight, 1, 10000),
+            (Form::DeviceWeight, Setting::DeviceWeight { device, weight }) => weight_fits(
+                *device, *weight,
+            ),
+            (Form::DeviceTarget, Setting::DeviceTarget { device, target }) => target_fits(
+                *device, *target,
+            ),
+            (Form::Set { most }, Setting::Set(set)) => set_fits(set, most),
+            (Form::Role, Setting::Role(_)) => true,
+            (Form::Trigger, Setting::Trigger { stall, window, .. }) => times_fit(*stall, *window),
+            (Form::Raw, Setting::Raw(bytes)) => is_raw_line(bytes.as_slice()),
+            _ => false,
+        }
+    }
+
+    /// Whether some write of a device's limits spells the setting.
+    fn fits_device_limits(&self) -> bool
+        ensures { IsTrue result ↔ FitsWrite Form.DeviceLimits self.now }
+    {
+        match self {
+            Setting::DeviceLimits {
+                device,
+                rbps,
+                wbps,
+                riops,
+                wiops,
+            } => {
+                let limits = LimitPairs {
+                    rbps: *rbps,
+                    wbps: *wbps,
+                    riops: *riops,
+                    wiops: *wiops,
+                };
+                limits_fit(*device, limits)
+            }
+            _ => false,
+        }
+    }
+}
+
+#[cfg(test)]
+mod tests {
+    use super::*;
+    use crate::profile::Profile;
+    use crate::table::write_kind;
+    use crate::value::Role;
+    use cg_text::{Hundredths, Items};
+    use std::alloc::Global;
+    use std::test::Fail;
+
+    const DEVICE: Device = Device {
+        major: 4095,
+        minor: 1048575,
+    };
+
+    /// A setting of one of a device's limits, and no other.
+    fn limits(rbps: Option<Limit>) -> Setting {
+        Setting::DeviceLimits {
+            device: DEVICE,
+            rbps,
+            wbps: None,
+            riops: None,
+            wiops: None,
+        }
+    }
+
+    #[test]
+    fn numbers(rt: HostRuntime) -> Result<(), Fail> {
+        let rows = [
+            ("cpu.weight", Setting::Number(0), false),
+            ("cpu.weight", Setting::Number(1), true),
+            ("cpu.weight", Setting::Limit(Limit::At(1)), false),
+            ("cpu.weight.nice", Setting::Signed(-20), true),
+            ("cpu.weight.nice", Setting::Signed(-21), false),
+            ("pids.max", Setting::Limit(Limit::Max), true),
+            ("pids.max", Setting::Limit(Limit::At(4194305)), false),
+            ("memory.max", Setting::Limit(Limit::At(u64::MAX)), true),
+            (
+                "cpu.uclamp.min",
+                Setting::Clamp(Clamp::At(Hundredths { count: 10000 })),
+                true,
+            ),
+            (
+                "cpu.uclamp.min",
+                Setting::Clamp(Clamp::At(Hundredths { count: 10001 })),
+                false,
+            ),
+            ("cgroup.type", Setting::Threaded, true),
+            (
+                "cpu.max",
+                Setting::CpuMax {
+                    quota: Limit::At(1000),
+                    period: None,
+                },
+                true,
+            ),
+            (
+                "cpu.max",
+                Setting::CpuMax {
+                    quota: Limit::Max,
+                    period: Some(1000001),
+                },
+                false,
+            ),
+            (
+                "memory.reclaim",
+                Setting::Reclaim {
+                    size: 0,
+                    swappiness: Some(200),
+                },
+                true,
+            ),
+            ("cpuset.cpus.partition", Setting::Role(Role::Isolated), true),
+            (
+                "cpu.pressure",
+                Setting::Trigger {
+                    full: true,
+                    stall: 2,
+                    window: 1,
+                },
+                false,
+            ),
+        ];
+        for (name, setting, wanted) in rows {
+            let kind = write_kind(Profile::One, name.as_bytes())?;
+            assert_eq!(rt; setting.fits(kind), wanted, "{name} {setting:?}");
+        }
+        Ok(())
+    }
+
+    #[test]
+    fn devices(rt: HostRuntime) -> Result<(), Fail> {
+        let rows = [
+            ("io.max", limits(Some(Limit::At(1))), true),
+            ("io.max", limits(Some(Limit::At(0))), false),
+            ("io.max", limits(None), false),
+            ("io.weight", Setting::DefaultWeight(10001), false),
+            (
+                "io.weight",
+                Setting::DeviceWeight {
+                    device: DEVICE,
+                    weight: None,
+                },
+                true,
+            ),
+            (
+                "io.latency",
+                Setting::DeviceTarget {
+                    device: DEVICE,
+                    target: 0,
+                },
+                true,
+            ),
+            (
+                "io.latency",
+                Setting::DeviceTarget {
+                    device: Device {
+                        major: 4096,
+                        minor: 0,
+                    },
+                    target: 0,
+                },
+                false,
+            ),
+        ];
+        for (name, setting, wanted) in rows {
+            let kind = write_kind(Profile::One, name.as_bytes())?;
+            assert_eq!(rt; setting.fits(kind), wanted, "{name} {setting:?}");
+        }
+        Ok(())
+    }
+
+    /// A setting of one toggle, of this name.
+    fn toggle(alloc: Global, name: &[u8]) -> Result<Setting, Fail> {
+        let mut toggles = Items::new(alloc);
+        toggles.push(Toggle {
+            on: true,
+            name: Key::new(alloc, name)?,
+        })?;
+        Ok(Setting::Controllers(toggles))
+    }
+
+    /// A setting of a set of numbers up to this one.
+    fn set_to(alloc: Global, end: u32) -> Result<Setting, Fail> {
+        let mut set = NumberSet::new(alloc);
+        set.insert_range(0, end)?;
+        Ok(Setting::Set(set))
+    }
+
+    #[test]
+    fn lists(rt: HostRuntime) -> Result<(), Fail> {
+        let alloc = rt.alloc();
+        let raw = |bytes| Vec::from_slice(alloc, bytes);
+        let rows = [
+            ("cgroup.subtree_control", toggle(alloc, b"cpu")?, true),
+            ("cgroup.subtree_control", toggle(alloc, b"+cpu")?, false),
+            (
+                "cgroup.subtree_control",
+                Setting::Controllers(Items::new(alloc)),
+                false,
+            ),
+            ("cpuset.cpus", set_to(alloc, 65535)?, true),
+            ("cpuset.cpus", set_to(alloc, 65536)?, false),
+            ("any", Setting::Raw(Items::of(raw(b"a\xff")?)), true),
+            ("any", Setting::Raw(Items::of(raw(b"a\n")?)), false),
+            ("any", Setting::Raw(Items::of(raw(b"\0")?)), false),
+        ];
+        for (name, setting, wanted) in rows {
+            let kind = write_kind(Profile::One, name.as_bytes())?;
+            assert_eq!(rt; setting.fits(kind), wanted, "{name} {setting:?}");
+        }
+        Ok(())
+    }
+}

@@ -1,0 +1,146 @@
+//! Look-ups in values.
+ghost use Rattle.std.specs.Prelude.{◌≡◌};
+ghost use Rattle.cg_value.specs.LookUp.{number_in, pair_amount, line_amount, amount_in, line_weight, weight_in};
+
+use crate::value::{StatLine, StatPair, Value, WeightLine};
+use cg_text::{Amount, Device};
+
+/// The amount of the first pair that has the sub-key.
+fn pair_amount(pairs: &[StatPair], key: &[u8]) -> Option<Amount>
+    ensures { result ≡ pair_amount key.now pairs.now }
+{
+    for pair in pairs {
+        if pair.key.bytes() == key {
+            return Some(pair.amount);
+        }
+    }
+    None
+}
+
+/// The amount of the sub-key in the first line of the device that has it.
+fn line_amount(lines: &[StatLine], device: Device, key: &[u8]) -> Option<Amount>
+    ensures { result ≡ line_amount device key.now lines.now }
+{
+    for line in lines {
+        if line.device == device {
+            if let Some(amount) = pair_amount(line.pairs.as_slice(), key) {
+                return Some(amount);
+            }
+        }
+    }
+    None
+}
+
+/// The weight of the first line of the device, else the default.
+fn line_weight(lines: &[WeightLine], device: Device, default: u64) -> u64
+    ensures { result ≡ line_weight device default lines.now }
+{
+    for line in lines {
+        if line.device == device {
+            return line.weight;
+        }
+    }
+    default
+}
+
+impl Value {
+    /// The number of the key in a flat value. Another value has none. It takes no memory.
+    pub fn number_of(&self, key: &[u8]) -> Option<u64>
+        ensures { result ≡ number_in self.now key.now }
+    {
+        match self {
+            Value::Flat(flat) => flat.get(key),
+            _ => None,
+        }
+    }
+
+    /// What the device did, from its first line that has the sub-key (cgroup-v2.rst, io.stat). A value of another kind has none. It takes no memory.
+    pub fn amount_of(&self, device: Device, key: &[u8]) -> Option<Amount>
+        ensures { result ≡ amount_in self.now device key.now }
+    {
+        match self {
+            Value::DeviceStats(lines) => line_amount(lines.as_slice(), device, key),
+            _ => None,
+        }
+    }
+
+    /// The weight of the device: of its first line, else the default (cgroup-v2.rst, io.weight). A value of another kind has none. It takes no memory.
+    pub fn weight_of(&self, device: Device) -> Option<u64>
+        ensures { result ≡ weight_in self.now device }
+    {
+        match self {
+            Value::DeviceWeights { default, lines } => {
+                Some(line_weight(lines.as_slice(), device, *default))
+            }
+            _ => None,
+        }
+    }
+}
+
+#[cfg(test)]
+mod tests {
+    use super::*;
+    use crate::copied::Copied;
+    use cg_text::{Hundredths, Items, Key};
+    use std::test::Fail;
+
+    const STATED: Device = Device { major: 8, minor: 0 };
+
+    const WEIGHED: Device = Device {
+        major: 8,
+        minor: 16,
+    };
+
+    #[test]
+    fn device_stats(rt: HostRuntime) -> Result<(), Fail> {
+        let mut pairs = Items::new(rt.alloc());
+        let percentage = Amount::Decimal(Hundredths { count: 10000 });
+        for (key, amount) in [("rbytes", Amount::Whole(1)), ("cost.vrate", percentage)] {
+            pairs.push(StatPair {
+                key: Key::new(rt.alloc(), key.as_bytes())?,
+                amount,
+            })?;
+        }
+        let mut lines = Items::new(rt.alloc());
+        let without = Device { major: 7, minor: 0 };
+        for (device, pairs) in [(STATED, pairs), (without, Items::new(rt.alloc()))] {
+            lines.push(StatLine {
+                device,
+                pad: false,
+                pairs,
+            })?;
+        }
+        let value = Value::DeviceStats(lines);
+        let copy = value.copy(rt.alloc())?;
+        for value in [value, copy] {
+            assert_eq!(rt; value.amount_of(STATED, b"cost.vrate"), Some(percentage));
+            assert_eq!(rt; value.amount_of(STATED, b"wbytes"), None);
+            assert_eq!(rt; value.amount_of(without, b"rbytes"), None);
+            assert_eq!(rt; value.weight_of(STATED), None);
+            assert_eq!(rt; value.line_count(), 2);
+        }
+        Ok(())
+    }
+
+    #[test]
+    fn device_weights(rt: HostRuntime) -> Result<(), Fail> {
+        let mut lines = Items::new(rt.alloc());
+        lines.push(WeightLine {
+            device: WEIGHED,
+            weight: 200,
+        })?;
+        let value = Value::DeviceWeights {
+            default: 100,
+            lines,
+        };
+        let copy = value.copy(rt.alloc())?;
+        for value in [value, copy] {
+            assert_eq!(rt; value.weight_of(WEIGHED), Some(200));
+            assert_eq!(rt; value.weight_of(STATED), Some(100));
+            assert_eq!(rt; value.amount_of(STATED, b"rbytes"), None);
+            assert_eq!(rt; value.number_of(b"rbytes"), None);
+            assert_eq!(rt; value.line_count(), 2);
+        }
+        Ok(())
+    }
+}

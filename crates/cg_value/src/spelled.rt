@@ -1,0 +1,305 @@
+//! Which parts of values some text spells.
+ghost use Rattle.std.specs.Prelude.{◌≡◌, ◌↔◌, ℕ, List, map, IsTrue};
+ghost use Rattle.std.specs.List.{AllZip, list_any};
+ghost use Rattle.std.specs.Str.{bytes_eq};
+ghost use Rattle.cg_text.specs.Amount.{IsAmount};
+ghost use Rattle.cg_text.specs.Clamp.{IsClamp};
+ghost use Rattle.cg_text.specs.Decimal.{IsDecimal};
+ghost use Rattle.cg_text.specs.Device.{IsDevice};
+ghost use Rattle.cg_text.specs.Distinct.{AreDistinct};
+ghost use Rattle.cg_text.specs.Hundredths.{IsHundredths};
+ghost use Rattle.cg_text.specs.Limit.{IsLimit};
+ghost use Rattle.cg_text.specs.Raw.{IsRawLine};
+ghost use Rattle.cg_text.specs.Signed.{IsSigned};
+ghost use Rattle.cg_text.specs.declared.hundredths.Form.TheVariants.{Read};
+ghost use Rattle.cg_value.specs.Kind.{any_u64};
+ghost use Rattle.cg_value.specs.Lines.{IsKey};
+ghost use Rattle.cg_value.specs.ReadLine.{AreAverages, IsFlatLine, IsLimitLine, IsNestedLine, IsNestedPair, IsRaw, IsStatLine, IsStatPair, IsTargetLine, IsWeightLine};
+ghost use Rattle.cg_value.specs.SpelledLaws.{HasText, HasLines};
+
+use crate::flat::FlatPair;
+use crate::value::{
+    Averages, LimitLine, NestedLine, NestedPair, StatLine, StatPair, TargetLine, WeightLine,
+};
+use cg_text::{Amount, Clamp, Device, Hundredths, Items, Key, Limit};
+
+/// A part of a value, which some text may spell.
+pub(crate) trait Spelled {
+    ghost spells: { Self → List ℕ → Type 0 };
+
+    /// Whether some text spells it.
+    fn is_spelled(&self) -> bool
+        ensures { IsTrue result ↔ HasText (spells self.now) };
+}
+
+/// Whether some text spells each.
+pub(crate) fn are_spelled<T: Spelled>(parts: &[T]) -> bool
+    ensures { IsTrue result ↔ HasLines (AllZip T.spells parts.now) }
+{
+    parts.iter().all(|part| part.is_spelled())
+}
+
+/// Whether the number lies in the range.
+#[tactic(auto, using(crate::specs::SpelledLaws::decimal_text))]
+pub(crate) fn is_within(lo: u64, hi: u64, number: u64) -> bool
+    ensures { IsTrue result ↔ HasText (IsDecimal lo hi number) }
+{
+    lo <= number && number <= hi
+}
+
+/// Whether each of the numbers lies in the range.
+pub(crate) fn are_within(lo: u64, hi: u64, numbers: &[u64]) -> bool
+    ensures { IsTrue result ↔ HasLines (AllZip (IsDecimal lo hi) numbers.now) }
+{
+    numbers.iter().all(|number| is_within(lo, hi, *number))
+}
+
+/// Whether the signed number lies in the range.
+#[tactic(auto, using(crate::specs::SpelledLaws::signed_text))]
+pub(crate) fn is_between(lo: i64, hi: i64, number: i64) -> bool
+    ensures { IsTrue result ↔ HasText (IsSigned lo hi number) }
+{
+    lo <= number && number <= hi
+}
+
+/// Whether the number is of at most `most` hundredths.
+#[tactic(auto, using(crate::specs::SpelledLaws::hundredths_text))]
+fn is_at_most(most: u64, number: Hundredths) -> bool
+    ensures { IsTrue result ↔ HasText (IsHundredths Read most number) }
+{
+    number.count <= most
+}
+
+/// Whether each of the numbers is of at most `most` hundredths.
+fn are_at_most(most: u64, numbers: &[Hundredths]) -> bool
+    ensures { IsTrue result ↔ HasLines (AllZip (IsHundredths Read most) numbers.now) }
+{
+    numbers.iter().all(|number| is_at_most(most, *number))
+}
+
+impl Spelled for u64 {
+    ghost spells = { IsDecimal 0 any_u64 };
+
+    // Every number of 64 bits has a text.
+    fn is_spelled(&self) -> bool {
+        is_within(0, u64::MAX, *self)
+    }
+}
+
+impl Spelled for Limit {
+    ghost spells = { IsLimit 0 any_u64 };
+
+    #[tactic(auto, using(crate::specs::SpelledLaws::max_limit))]
+    fn is_spelled(&self) -> bool {
+        match self {
+            Limit::Max => true,
+            Limit::At(number) => number.is_spelled(),
+        }
+    }
+}
+
+impl Spelled for Clamp {
+    ghost spells = { IsClamp Read };
+
+    #[tactic(auto, using(crate::specs::SpelledLaws::max_clamp))]
+    fn is_spelled(&self) -> bool {
+        match self {
+            Clamp::Max => true,
+            Clamp::At(percentage) => is_at_most(10_000, *percentage),
+        }
+    }
+}
+
+impl Spelled for Amount {
+    ghost spells = { IsAmount };
+
+    #[tactic(auto, using(crate::specs::SpelledLaws::max_amount))]
+    fn is_spelled(&self) -> bool {
+        match self {
+            Amount::Whole(number) => number.is_spelled(),
+            Amount::Decimal(number) => is_at_most(99_999_999_999, *number),
+            Amount::Max => true,
+        }
+    }
+}
+
+impl Spelled for Device {
+    ghost spells = { IsDevice };
+
+    #[tactic(auto, using(crate::specs::SpelledLaws::device_text))]
+    fn is_spelled(&self) -> bool {
+        is_within(0, 4095, u64::from(self.major)) && is_within(0, 1_048_575, u64::from(self.minor))
+    }
+}
+
+impl Spelled for Key {
+    ghost spells = { IsKey };
+
+    // A key is a word, and so never empty.
+    fn is_spelled(&self) -> bool {
+        !self.bytes().is_empty()
+    }
+}
+
+impl Spelled for FlatPair {
+    ghost spells = { IsFlatLine };
+
+    #[tactic(auto, using(crate::specs::SpelledLaws::flat_text))]
+    fn is_spelled(&self) -> bool {
+        self.key.is_spelled() && self.number.is_spelled()
+    }
+}
+
+impl Spelled for StatPair {
+    ghost spells = { IsStatPair };
+
+    #[tactic(auto, using(crate::specs::SpelledLaws::stat_pair_text))]
+    fn is_spelled(&self) -> bool {
+        self.key.is_spelled() && self.amount.is_spelled()
+    }
+}
+
+impl Spelled for StatLine {
+    ghost spells = { IsStatLine };
+
+    #[tactic(auto, using(crate::specs::SpelledLaws::stat_text))]
+    fn is_spelled(&self) -> bool {
+        self.device.is_spelled() && are_keyed(self.pairs.as_slice())
+    }
+}
+
+impl Spelled for LimitLine {
+    ghost spells = { IsLimitLine };
+
+    #[tactic(auto, using(crate::specs::SpelledLaws::limits_text))]
+    fn is_spelled(&self) -> bool {
+        self.device.is_spelled() && are_spelled(&[self.rbps, self.wbps, self.riops, self.wiops])
+    }
+}
+
+impl Spelled for WeightLine {
+    ghost spells = { IsWeightLine };
+
+    #[tactic(auto, using(crate::specs::SpelledLaws::weight_text))]
+    fn is_spelled(&self) -> bool {
+        self.device.is_spelled() && is_within(1, 10_000, self.weight)
+    }
+}
+
+impl Spelled for TargetLine {
+    ghost spells = { IsTargetLine };
+
+    #[tactic(auto, using(crate::specs::SpelledLaws::target_text))]
+    fn is_spelled(&self) -> bool {
+        self.device.is_spelled() && self.target.is_spelled()
+    }
+}
+
+impl Spelled for Averages {
+    ghost spells = { AreAverages };
+
+    #[tactic(auto, using(crate::specs::SpelledLaws::averages_text))]
+    fn is_spelled(&self) -> bool {
+        self.total.is_spelled() && are_at_most(99_999, &[self.avg10, self.avg60, self.avg300])
+    }
+}
+
+impl Spelled for NestedPair {
+    ghost spells = { IsNestedPair };
+
+    #[tactic(auto, using(crate::specs::SpelledLaws::nested_pair_text))]
+    fn is_spelled(&self) -> bool {
+        self.key.is_spelled() && self.number.is_spelled()
+    }
+}
+
+impl Spelled for NestedLine {
+    ghost spells = { IsNestedLine };
+
+    #[tactic(auto, using(crate::specs::SpelledLaws::nested_text))]
+    fn is_spelled(&self) -> bool {
+        self.key.is_spelled() && are_keyed(self.pairs.as_slice())
+    }
+}
+
+impl Spelled for Items<u8> {
+    ghost spells = { IsRaw };
+
+    fn is_spelled(&self) -> bool {
+        is_raw(self.as_slice())
+    }
+}
+
+/// Whether the bytes can stand in a line: there is no NUL among them, and no newline.
+pub(crate) fn is_raw(bytes: &[u8]) -> bool
+    ensures { IsTrue result ↔ IsRawLine bytes.now }
+{
+    bytes.iter().all(|byte| *byte != 0 && *byte != b'\n')
+}
+
+/// What has a key, which may tell it from others of its type.
+pub(crate) trait Keyed {
+    ghost key_of: { Self → List ℕ };
+
+    /// Its key.
+    fn key(&self) -> &Key
+        ensures { result.now ≡ key_of self.now };
+}
+
+impl Keyed for Key {
+    ghost key_of = { λ key. key };
+
+    fn key(&self) -> &Key {
+        self
+    }
+}
+
+impl Keyed for StatPair {
+    ghost key_of = { λ pair. pair.key };
+
+    fn key(&self) -> &Key {
+        &self.key
+    }
+}
+
+impl Keyed for NestedPair {
+    ghost key_of = { λ pair. pair.key };
+
+    fn key(&self) -> &Key {
+        &self.key
+    }
+}
+
+impl Keyed for NestedLine {
+    ghost key_of = { λ line. line.key };
+
+    fn key(&self) -> &Key {
+        &self.key
+    }
+}
+
+/// Whether one of them has the key.
+fn has_key<T: Keyed>(items: &[T], key: &Key) -> bool
+    ensures { result ≡ list_any (λ item. bytes_eq (T.key_of item) key.now) items.now }
+{
+    items.iter().any(|item| item.key() == key)
+}
+
+/// Whether no two of them have one key.
+pub(crate) fn are_distinct<T: Keyed>(items: &[T]) -> bool
+    ensures { IsTrue result ↔ AreDistinct (map T.key_of items.now) }
+{
+    for (place, item) in items.iter().enumerate() {
+        if has_key(&items[place + 1..], item.key()) {
+            return false;
+        }
+    }
+    true
+}
+
+/// Whether some text spells each, and no two have one key.
+pub(crate) fn are_keyed<T: Spelled + Keyed>(items: &[T]) -> bool
+    ensures { IsTrue result ↔ (HasLines (AllZip T.spells items.now) × AreDistinct (map T.key_of items.now)) }
+{
+    are_spelled(items) && are_distinct(items)
+}
