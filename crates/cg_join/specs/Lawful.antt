@@ -34,6 +34,9 @@ pub record IsLawful {S V : Type 0} (means : S → List ℕ → V → Type 0) (s 
 abbrev pub KeywordRest : KeywordText → List ℕ → Unit {0} → Type 0
 KeywordRest s rest _ = rest ≡ drop s.at (text_of s.keyword)
 
+abbrev pub keyword_ends : KeywordText → Bool
+keyword_ends s = nat_eq s.at (length (text_of s.keyword))
+
 abbrev pub ByteRest : ByteText → List ℕ → Unit {0} → Type 0
 ByteRest s rest _ = rest ≡ left s.taken s.byte
 
@@ -49,7 +52,7 @@ FractionRest s rest h = HundredthsRest s.form s.most s.part rest h
 abbrev pub fraction_ends : HundredthsText → Bool
 fraction_ends s = hundredths_ends s.form s.most s.part
 
-pub keyword_lawful : (s : KeywordText) → IsLawful KeywordRest s (nat_eq s.at (length (text_of s.keyword)))
+pub keyword_lawful : (s : KeywordText) → IsLawful KeywordRest s (keyword_ends s)
 keyword_lawful s = record {
   completes = (drop s.at (text_of s.keyword), tt, refl);
   ends_is = drop_at_end s.at (text_of s.keyword) s.within;

@@ -23,6 +23,7 @@ pub mod Keyed
 pub mod KeyedLaws
 pub mod KeyedState
 pub mod KeyedStateLaws
+pub mod LabelLaws
 pub mod LackLaws
 pub mod LackingLaws
 pub mod Lawful

@@ -5,21 +5,21 @@ ghost use Rattle.cg_join.specs.Composites.{IsDeviceTarget, IsDeviceWeight, IsDev
 
 use crate::bounded::{decimal_in, limit_in};
 use crate::device::DeviceText;
-use crate::label::{Labelled, Spaced, labelled, spaced};
+use crate::label::{LabelText, Spaced, labelled, spaced};
 use crate::limit::LimitText;
 use crate::sequence::Sequence;
 use cg_text::{DecimalText, Keyword, Token};
 
 /// A device and its target latency.
-pub type DeviceTarget = Sequence<DeviceText, Labelled<DecimalText>>;
+pub type DeviceTarget = Sequence<DeviceText, LabelText<DecimalText>>;
 
 /// A device and its weight.
 pub type DeviceWeight = Sequence<DeviceText, Spaced<DecimalText>>;
 
 /// The limits of bytes read, bytes written, reads and writes a second, each with its label.
 pub type FourLimits = Sequence<
-    Labelled<LimitText>,
-    Sequence<Labelled<LimitText>, Sequence<Labelled<LimitText>, Labelled<LimitText>>>,
+    LabelText<LimitText>,
+    Sequence<LabelText<LimitText>, Sequence<LabelText<LimitText>, LabelText<LimitText>>>,
 >;
 
 /// A device and its four limits.

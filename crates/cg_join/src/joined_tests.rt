@@ -9,7 +9,7 @@ ghost use Rattle.cg_join.specs.TextBytes.{IsFixed};
 
 use crate::tests::{is_cut, refused, value};
 use crate::{
-    Averages, Choice, DeviceLimits, DeviceText, Labelled, Lines, Maybe, Sequence, Spaced, Start,
+    Averages, Choice, DeviceLimits, DeviceText, LabelText, Lines, Maybe, Sequence, Spaced, Start,
     averages, decimal_in, device_limits, device_target, device_weight, labelled, quota_and_period,
     spaced, written_quota,
 };
@@ -19,7 +19,7 @@ use cg_text::{
 use std::alloc::Global;
 
 /// A word, averages and a newline.
-type PressureLine = Sequence<Labelled<Averages>, ByteText>;
+type PressureLine = Sequence<LabelText<Averages>, ByteText>;
 
 /// A line of `some`, and perhaps one of `full`.
 type PressureFile = Sequence<PressureLine, Maybe<PressureLine>>;
@@ -68,7 +68,7 @@ fn limit_lines(alloc: Global) -> Lines<DeviceLimits, LimitsStart> {
 
 /// A role other than a member, perhaps invalid, perhaps with a reason; or a member.
 type PartitionText = Choice<
-    Sequence<Choice<KeywordText, KeywordText>, Maybe<Labelled<Maybe<Labelled<ReasonText>>>>>,
+    Sequence<Choice<KeywordText, KeywordText>, Maybe<LabelText<Maybe<LabelText<ReasonText>>>>>,
     KeywordText,
 >;
 
@@ -87,7 +87,7 @@ fn partition(alloc: Global) -> PartitionText {
 
 /// A weight that is written: `default W`, or `W`, or a device and either.
 type WeightText = Choice<
-    Choice<Labelled<Spaced<DecimalText>>, DecimalText>,
+    Choice<LabelText<Spaced<DecimalText>>, DecimalText>,
     Sequence<DeviceText, Spaced<Choice<KeywordText, DecimalText>>>,
 >;
 

@@ -7,7 +7,7 @@ ghost use Rattle.cg_join.specs.WordStartLaws.{SpellsWord};
 
 use crate::tests::{held, is_cut, refused, value};
 use crate::{
-    Choice, Distinct, Either, Labelled, Maybe, OrReady, Ready, Sequence, Spaced, WordStart,
+    Choice, Distinct, Either, LabelText, Maybe, OrReady, Ready, Sequence, Spaced, WordStart,
     decimal_in, labelled, spaced,
 };
 use cg_text::{ByteText, DecimalText, Items, Key, Keyword, Token, WordText};
@@ -65,7 +65,7 @@ fn first(found: Option<(Items<Key>, ())>) -> Option<usize> {
 }
 
 /// A target.
-fn target() -> Labelled<DecimalText> {
+fn target() -> LabelText<DecimalText> {
     labelled(Keyword::Target, decimal_in(0, 100))
 }
 

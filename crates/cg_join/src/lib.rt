@@ -47,7 +47,7 @@ pub use devices::{
 pub use distinct::Distinct;
 pub use follow::Follow;
 pub use keyed::KeyedLines;
-pub use label::{Labelled, Spaced, labelled, spaced};
+pub use label::{LabelText, Spaced, labelled, spaced};
 pub use limit::LimitText;
 pub use line::{Line, one_line};
 pub use lines::Lines;

@@ -4,14 +4,17 @@ ghost use Rattle.cg_text.specs.Token.{Spells};
 ghost use Rattle.cg_join.specs.Composites.{AreAverages};
 
 use crate::bounded::decimal_in;
-use crate::label::{Labelled, labelled};
+use crate::label::{LabelText, labelled};
 use crate::sequence::Sequence;
 use cg_text::{DecimalText, Form, HundredthsText, Keyword, Token};
 
 /// The share of time that tasks stalled over ten seconds, a minute and five minutes, and the total in microseconds.
 pub type Averages = Sequence<
-    Labelled<HundredthsText>,
-    Sequence<Labelled<HundredthsText>, Sequence<Labelled<HundredthsText>, Labelled<DecimalText>>>,
+    LabelText<HundredthsText>,
+    Sequence<
+        LabelText<HundredthsText>,
+        Sequence<LabelText<HundredthsText>, LabelText<DecimalText>>,
+    >,
 >;
 
 /// ` avg10=`, ` avg60=`, ` avg300=`, each before a percentage of at most 999.99, and ` total=` before a number (psi.rst).

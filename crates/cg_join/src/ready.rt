@@ -8,7 +8,7 @@ use cg_text::{OutOfMemory, Token};
 
 /// The empty text, with a value that holds no vector.
 #[derive(Clone, Copy, Drop)]
-pub struct Ready<V: Copy> {
+pub struct Ready<V> {
     value: V,
 }
 

@@ -11,6 +11,7 @@ use crate::device::DeviceText;
 use crate::distinct::Distinct;
 use crate::follow::Follow;
 use crate::keyed::KeyedLines;
+use crate::label::LabelText;
 use crate::limit::LimitText;
 use crate::lines::Lines;
 use crate::mapped::{Mapped, Turn};
@@ -200,6 +201,18 @@ impl<A: Light, B: Token> Settled for Choice<A, B> {
     ghost bound = { λ _. 0 };
 
     ghost settles = { λ s v h. none_settled (A.size s.left + B.size s.right) 0 (sum_none A.grows B.grows (A.size s.left) (B.size s.right) (or_false A.light s.plain) (λ f. A.no_size f s.left) (λ f. B.no_size f s.right)) };
+}
+
+impl<T: Light> Light for LabelText<T> {
+    ghost light = { T.light };
+}
+
+impl<T: Settled> Settled for LabelText<T> {
+    ghost use Rattle.cg_join.specs.LabelLaws.{label_nil};
+
+    ghost bound = { λ v. T.bound v.1 };
+
+    ghost settles = { λ s v h. T.settles s.token v.1 (label_nil T.means s.label s.token v h) };
 }
 
 impl<A: Light, B: Light> Light for Sequence<A, B> {

@@ -6,7 +6,7 @@ use Rattle.cg_value.specs.Table.{read_form_of}
 use Rattle.cg_value.specs.declared.profile.Profile.{Profile}
 use Rattle.cg_value.specs.declared.kind.ReadForm.{ReadForm}
 use Rattle.cg_value.specs.declared.value.Value.{Value}
-use Rattle.cg_line.specs.Built.{read_now}
+use Rattle.cg_machine.specs.Built.{read_now}
 use Rattle.cg_line.specs.declared.decode.FileFault.{FileFault}
 use Rattle.cg_line.specs.declared.decode.FileFault.TheVariants.{NotReadable, Refused, Cut, OutOfMemory}
 

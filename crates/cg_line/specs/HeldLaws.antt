@@ -9,9 +9,9 @@ use Rattle.cg_value.specs.PrintLaws.{one_text}
 use Rattle.cg_value.specs.Weight.{weight_of, weight_of_lines}
 use Rattle.cg_value.specs.declared.kind.ReadForm.{ReadForm}
 use Rattle.cg_value.specs.declared.value.Value.{Value}
-use Rattle.cg_line.specs.Machine.{IsRead}
-use Rattle.cg_line.specs.MachineLaws.{is_value}
-use Rattle.cg_line.specs.Kinds.{TextsOf, HoldsLittle, held_of_whole}
+use Rattle.cg_machine.specs.Machine.{IsRead}
+use Rattle.cg_machine.specs.MachineLaws.{is_value}
+use Rattle.cg_file.specs.Kinds.{TextsOf, HoldsLittle, held_of_whole}
 
 -- A text is empty, or has a last byte.
 record HasLast (text : List ℕ) : Type 0 where

@@ -4,9 +4,8 @@ ghost use Rattle.cg_value.specs.declared.kind.ReadForm.{ReadForm};
 ghost use Rattle.cg_line.specs.Decode.{IsReadWhole, IsDecoded};
 ghost use Rattle.cg_line.specs.Reads.{Reads};
 
-use crate::built::built_kind;
-use crate::machine::PushFault;
 use crate::reader::ValueReader;
+use cg_machine::{PushFault, built_kind};
 use cg_value::{Profile, Value};
 use std::alloc::Global;
 use thiserror::Error;

@@ -8,12 +8,11 @@ ghost use Rattle.cg_value.specs.Lines.{unlines};
 ghost use Rattle.cg_value.specs.Weight.{weight_of_lines};
 ghost use Rattle.cg_value.specs.declared.value.Value.{Value};
 ghost use Rattle.cg_value.specs.declared.kind.ReadForm.{ReadForm};
-ghost use Rattle.cg_line.specs.Built.{IsBuilt};
+ghost use Rattle.cg_machine.specs.Built.{IsBuilt};
 ghost use Rattle.cg_line.specs.Place.{TakesLine};
 
-use crate::file_machine::{FileMachine, machine_of};
-use crate::machine::{PushFault, TextMachine};
 use crate::place::Place;
+use cg_machine::{FileMachine, PushFault, TextMachine, machine_of};
 use cg_text::ByteSet;
 use cg_value::{ReadKind, Value};
 use std::alloc::Global;

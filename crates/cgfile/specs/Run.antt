@@ -4,7 +4,7 @@ use Rattle.std.specs.Io.KnownBytes.{Appends, Consumes, IsAtEnd}
 use Rattle.cg_text.specs.Token.{told}
 use Rattle.cg_value.specs.Files.{KindText, KindFile}
 use Rattle.cg_value.specs.Print.{print_of}
-use Rattle.cg_line.specs.Built.{read_now}
+use Rattle.cg_machine.specs.Built.{read_now}
 use Rattle.cg_value.specs.declared.profile.Profile.{Profile}
 use Rattle.cg_value.specs.declared.kind.ReadForm.{ReadForm}
 use Rattle.cg_value.specs.declared.value.Value.{Value}

@@ -1,6 +1,6 @@
 //! The program's run.
 ghost use Rattle.std.specs.Prelude.{◌≡◌, ◌≢◌, ◌≤◌, ◌+◌, ℕ, List, false, None, length};
-ghost use Rattle.cg_line.specs.Built.{IsBuilt, read_now};
+ghost use Rattle.cg_machine.specs.Built.{IsBuilt, read_now};
 ghost use Rattle.cgfile.specs.Outcome.{last_line, is_write_fault};
 ghost use Rattle.cg_line.specs.Reads.{Reads};
 ghost use Rattle.cg_value.specs.Files.{KindText};

@@ -7,6 +7,7 @@ use cg_print::CutSink;
 use cg_snap::{Limits, Stop, Why};
 use cg_value::Profile;
 use std::alloc::{AllocError, Global};
+use std::process::Abort;
 use std::test::Fail;
 
 /// The command `file NAME`.
@@ -39,7 +40,7 @@ fn run_file(
 }
 
 /// Rows of one file: its name, its bytes, what is written and the status.
-const ROWS: [(&str, &[u8], &[u8], u8); 46] = [
+const ROWS: [(&str, &[u8], &[u8], u8); 45] = [
     ("cpu.weight", b"10000\n", b"10000\n", 0),
     ("cpu.weight", b"0\n", b"0\n", 0),
     ("cpu.weight", b"10001\n", b"cgfile: refused at 4: line\n", 1),
@@ -130,25 +131,117 @@ const ROWS: [(&str, &[u8], &[u8], u8); 46] = [
     ("hugetlb.2MB.max", b"a", b"cgfile: cut at 1\n", 1),
     ("cgroup.kill", b"1\n", b"cgfile: not readable\n", 1),
     ("memory.reclaim", b"", b"cgfile: not readable\n", 1),
-    ("cpu.stat", b"usage_usec 1\n", b"cgfile: not readable\n", 1),
 ];
 
-#[test]
-fn rows(rt: HostRuntime) -> Result<(), Fail> {
-    for (name, input, written, wanted) in ROWS {
+/// Rows of files of signed numbers, of pairs, devices, partitions and pressure.
+const KEYED_ROWS: [(&str, &[u8], &[u8], u8); 21] = [
+    ("cpu.weight.nice", b"-20\n", b"-20\n", 0),
+    (
+        "cpu.weight.nice",
+        b"-21\n",
+        b"cgfile: refused at 2: line\n",
+        1,
+    ),
+    (
+        "cpu.weight.nice",
+        b"-0\n",
+        b"cgfile: refused at 1: line\n",
+        1,
+    ),
+    ("cpu.stat", b"usage_usec 1\n", b"usage_usec 1\n", 0),
+    ("memory.stat", b"anon 1\nanonx 2\n", b"anon 1\nanonx 2\n", 0),
+    (
+        "memory.stat",
+        b"anon 1\nanon 2\n",
+        b"cgfile: refused at 11: line\n",
+        1,
+    ),
+    ("memory.stat", b"anon\n", b"cgfile: refused at 4: line\n", 1),
+    (
+        "io.stat",
+        b"8:0 rbytes=1 cost.vrate=100.00\n7:0\n",
+        b"8:0 rbytes=1 cost.vrate=100.00\n7:0\n",
+        0,
+    ),
+    (
+        "io.stat",
+        b"8:0 rbytes=1 rbytes=2\n",
+        b"cgfile: refused at 19: line\n",
+        1,
+    ),
+    ("io.stat", b"8:0 \n", b"8:0 \n", 0),
+    ("io.stat", b"", b"", 0),
+    (
+        "io.max",
+        b"8:16 rbps=2097152 wbps=max riops=max wiops=120\n",
+        b"8:16 rbps=2097152 wbps=max riops=max wiops=120\n",
+        0,
+    ),
+    ("io.max", b"8:16 w", b"cgfile: refused at 5: line\n", 1),
+    ("io.weight", b"default 100\n", b"cgfile: not readable\n", 1),
+    (
+        "io.latency",
+        b"8:16 target=75\n",
+        b"cgfile: not readable\n",
+        1,
+    ),
+    (
+        "cpuset.cpus.partition",
+        b"root\n",
+        b"cgfile: not readable\n",
+        1,
+    ),
+    (
+        "cpu.pressure",
+        b"full avg10=0.00 avg60=0.00 avg300=0.00 total=0\ns",
+        b"cgfile: refused at 47: line\n",
+        1,
+    ),
+    (
+        "cpu.pressure",
+        b"some avg10=0.12 avg60=1.00 avg300=0.00 total=77\n",
+        b"some avg10=0.12 avg60=1.00 avg300=0.00 total=77\n",
+        0,
+    ),
+    (
+        "memory.pressure",
+        b"some avg10=0.00 avg60=0.00 avg300=0.00 total=1\nfull avg10=0.00 avg60=0.00 avg300=0.00 total=0\n",
+        b"some avg10=0.00 avg60=0.00 avg300=0.00 total=1\nfull avg10=0.00 avg60=0.00 avg300=0.00 total=0\n",
+        0,
+    ),
+    ("cpu.pressure", b"", b"cgfile: cut at 0\n", 1),
+    (
+        "memory.numa_stat",
+        b"anon N0=1 N1=2\n",
+        b"anon N0=1 N1=2\n",
+        0,
+    ),
+];
+
+/// Each row, with pieces of several lengths.
+fn meet_rows(
+    rt: &impl Abort,
+    alloc: Global,
+    rows: &[(&str, &[u8], &[u8], u8)],
+) -> Result<(), Fail> {
+    for (name, input, written, wanted) in rows {
         for step in [1, 2, 4096] {
-            let (outcome, sink) = run_file(
-                rt.alloc(),
-                name.as_bytes(),
-                input,
-                Limits::DEFAULT,
-                step,
-            )?;
-            assert!(rt; sink.bytes() == written, "{name} {input:?} {step}");
-            assert_eq!(rt; status(&outcome), wanted, "{name} {input:?} {step}");
+            let (outcome, sink) = run_file(alloc, name.as_bytes(), input, Limits::DEFAULT, step)?;
+            assert!(rt; sink.bytes() == *written, "{name} {input:?} {step}");
+            assert_eq!(rt; status(&outcome), *wanted, "{name} {input:?} {step}");
         }
     }
     Ok(())
+}
+
+#[test]
+fn rows(rt: HostRuntime) -> Result<(), Fail> {
+    meet_rows(&rt, rt.alloc(), &ROWS)
+}
+
+#[test]
+fn keyed_rows(rt: HostRuntime) -> Result<(), Fail> {
+    meet_rows(&rt, rt.alloc(), &KEYED_ROWS)
 }
 
 #[test]

@@ -5,7 +5,7 @@ use Rattle.cg_join.specs.ApartLaws.{lacking_apart}
 use Rattle.cg_join.specs.BeginsLaws.{concat_begins, either_begins, fixed_begins, fixed_begins_other, label_begins, maybe_begins_by}
 use Rattle.cg_join.specs.CutLaws.{label_spells}
 use Rattle.cg_join.specs.DisjointLaws.{fixed_disjoint, other_disjoint}
-use Rattle.cg_join.specs.FilledLaws.{fixed_filled, first_filled, either_filled}
+use Rattle.cg_join.specs.FilledLaws.{filled_spelled, fixed_filled, first_filled, either_filled}
 use Rattle.cg_join.specs.LackingLaws.{either_lacking, fixed_lacking}
 use Rattle.cg_join.specs.MaybeLaws.{maybe_spells}
 use Rattle.cg_join.specs.Spelling.{apart_spells, none_spells, choice_spells, sequence_spells}
@@ -20,6 +20,9 @@ new-requires-4 c =
     let reason = maybe_spells (label_spells c.new-3.ensures.spells c.labelled.ensures.spells) c.new-reason.ensures.spells in
     let invalid = maybe_spells (label_spells reason c.labelled-2.ensures.spells) c.new-invalid.ensures.spells in
     apart_spells role invalid (lacking_apart (either_lacking (fixed_lacking 32 (text_of Root) refl) (fixed_lacking 32 (text_of Isolated) refl)) (maybe_begins_by (label_begins 32 _)))
+
+pub new-invalid-requires-clause-filled : goal.new-invalid-requires-clause-filled
+new-invalid-requires-clause-filled c = filled_spelled c.labelled-2.ensures.spells (first_filled (fixed_filled 32 _))
 
 pub new-requires-6-clause-apart : goal.new-requires-6-clause-apart
 new-requires-6-clause-apart c =

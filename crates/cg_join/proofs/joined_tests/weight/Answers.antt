@@ -12,6 +12,11 @@ pub new-one-requires-clause-apart : goal.new-one-requires-clause-apart
 new-one-requires-clause-apart c =
     none_spells c.new.ensures.spells c.decimal_in-3.ensures.spells (digits_disjoint (fixed_filled 100 _) (fixed_begins 100 _) (decimal_begins 1 10000) (λ h k. omega (arith, k)))
 
+pub new-of_default-requires-clause-apart : goal.new-of_default-requires-clause-apart
+new-of_default-requires-clause-apart c =
+    let all = label_spells (label_spells c.decimal_in.ensures.spells c.spaced.ensures.spells) c.labelled-all.ensures.spells in
+    none_spells all c.decimal_in-2.ensures.spells (digits_disjoint (first_filled (fixed_filled 100 _)) (label_begins 100 _) (decimal_begins 1 10000) (λ h k. omega (arith, k)))
+
 pub new-of_device-requires : goal.new-of_device-requires
 new-of_device-requires c =
     let one = choice_spells c.new.ensures.spells c.decimal_in-3.ensures.spells c.new-one.ensures.spells in

@@ -1,4 +1,4 @@
-use Rattle.cg_line.specs.BuiltLaws.{now_is}
+use Rattle.cg_machine.specs.BuiltLaws.{now_is}
 use Rattle.cg_line.specs.DecodeLaws.{decoded}
 use Rattle.cg_line.proofs.decode.decode_file.Goals as goal
 

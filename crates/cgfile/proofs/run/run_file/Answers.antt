@@ -1,5 +1,5 @@
 use Rattle.std.proofs.Common.{refl}
-use Rattle.cg_line.specs.Built.{read_now}
+use Rattle.cg_machine.specs.Built.{read_now}
 use Rattle.cgfile.specs.Run.{IsNameRight}
 use Rattle.cgfile.specs.declared.outcome.Outcome.TheVariants as out
 use Rattle.cgfile.proofs.RunLemmas.{idle_ran}

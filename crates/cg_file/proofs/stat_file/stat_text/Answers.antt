@@ -1,0 +1,16 @@
+use Rattle.cg_join.specs.Spelling.{apart_spells, mapped_spells, sequence_spells, spells_as}
+use Rattle.cg_file.specs.StatFileLaws.{padded_spells, pairs_unspaced, stat_apart, stat_is, stat_line, unspaced_spells}
+use Rattle.cg_file.proofs.stat_file.stat_text.Goals as goal
+
+pub new-pairs-requires-clause-unspaced : goal.new-pairs-requires-clause-unspaced
+new-pairs-requires-clause-unspaced c = unspaced_spells c.stat_pairs.ensures.spells pairs_unspaced
+
+pub new-requires-3 : goal.new-requires-3
+new-requires-3 c =
+    let padded = padded_spells c.stat_pairs.ensures.spells c.new.result c.new-pairs.ensures.spells in
+    apart_spells c.new-2.ensures.spells (rw c.new.ensures at padded) stat_apart
+
+pub returns-clause-spells : goal.returns-clause-spells
+returns-clause-spells c =
+    let padded = padded_spells c.stat_pairs.ensures.spells c.new.result c.new-pairs.ensures.spells in
+    spells_as (mapped_spells stat_line (sequence_spells c.new-2.ensures.spells (rw c.new.ensures at padded) c.new-3.ensures.spells) c.new-4.ensures.spells) stat_is

@@ -1,0 +1,85 @@
+-- What holds of the tokens over flat keyed files.
+use Rattle.std.proofs.Common.{◌≡◌, ℕ, ◌≤◌, ◌+◌, ◌↔◌, Bool, true, false, ◌&&◌, ◌||◌, nat_lt, nat_eq, Option, Some, None, is_some, is_err, Result, Err, lt-ltb, eqb-true, cond, option_map, List, [], ◌∷◌, map, length, refl, sym, ◌∙◌, ap, arith}
+use Rattle.std.proofs.lemmas.Bool.{cond-false, false_from_ne_true}
+use Rattle.std.proofs.lemmas.Cmp.{nat_list_eq_equiv}
+use Rattle.std.proofs.lemmas.Slice.Eq.{bytes_eq-Decides}
+use Rattle.std.specs.Cmp.Lexicographic.{pointwise}
+use Rattle.cg_text.specs.Decimal.{IsDecimal}
+use Rattle.cg_text.specs.WordState.{is_taken}
+use Rattle.cg_join.specs.Distinct.{LacksValue, any_value}
+use Rattle.cg_join.specs.Keyed.{AreKeyedLines}
+use Rattle.cg_join.specs.Pairs.{IsPairText}
+use Rattle.cg_join.specs.Spelling.{IsTurned}
+use Rattle.cg_join.specs.WordStartLaws.{SpellsWord}
+use Rattle.cg_value.specs.Files.{KindText}
+use Rattle.cg_value.specs.Flat.{has_key, is_repeated, number_of, place_of}
+use Rattle.cg_value.specs.Kind.{any_u64}
+use Rattle.cg_value.specs.ReadLine.{AreFlatLines, IsFlatLine}
+use Rattle.cg_value.specs.declared.flat.FlatPair.{FlatPair}
+use Rattle.cg_value.specs.declared.flat.FlatRefused.{FlatRefused}
+use Rattle.cg_value.specs.declared.kind.ReadForm.TheVariants.{Flat as FlatForm}
+use Rattle.cg_value.specs.declared.value.Value.{Value}
+use Rattle.cg_value.specs.declared.value.Value.TheVariants.{Flat}
+use Rattle.cg_file.specs.KeyedFileLaws.{key_parts, keyed_is}
+
+-- How pairs are turned into a file's value.
+abbrev pub flat_value : List FlatPair → Value
+flat_value ps = Flat ps
+
+pub two_few : 2 ≤ 2
+two_few = omega arith
+
+-- Keys that are looked for.
+
+found_first : (first : Bool) (later : Option ℕ) (more : Bool) → is_some later ≡ more → is_some (cond first (Some 0) (option_map (λ n. n + 1) later)) ≡ (first || more)
+found_first true later more e = refl
+found_first false None more e = e
+found_first false (Some k) more e = e
+
+-- A key has a place where some pair has it.
+pub found_is : (key : List ℕ) (ps : List FlatPair) → is_some (place_of key ps) ≡ any_value (λ k. pointwise nat_eq key k) (map (λ p. p.key) ps)
+found_is key [] = refl
+found_is key (p ∷ ps) =
+    rw (nat_list_eq_equiv.symm key p.key) (found_first (has_key key p) (place_of key ps) (any_value (λ k. pointwise nat_eq key k) (map (λ q. q.key) ps)) (found_is key ps))
+
+any_both : {V : Type 0} (b : Bool) (f : V → Bool) (vs : List V) → (b && any_value f vs) ≡ any_value (λ v. b && f v) vs
+any_both true f [] = refl
+any_both true f (v ∷ vs) = ap (λ e. f v || e) (any_both true f vs)
+any_both false f [] = refl
+any_both false f (v ∷ vs) = any_both false f vs
+
+taken_is : (taken : List ℕ) (ps : List FlatPair) → (nat_lt 0 (length taken) && is_some (place_of taken ps)) ≡ any_value (is_taken taken) (map (λ p. p.key) ps)
+taken_is taken ps =
+    ap (λ e. nat_lt 0 (length taken) && e) (found_is taken ps) ∙ any_both (nat_lt 0 (length taken)) (λ k. pointwise nat_eq taken k) (map (λ p. p.key) ps)
+
+-- What was taken is a pair's key where it has a place; where nothing was taken, it is none.
+pub taken_some : (taken : List ℕ) (ps : List FlatPair) → false ≡ nat_eq (length taken) 0 → is_some (place_of taken ps) ≡ any_value (is_taken taken) (map (λ p. p.key) ps)
+taken_some [] ps h = absurd (cc)
+taken_some (b ∷ taken) ps h = ap (λ e. e && is_some (place_of (b ∷ taken) ps)) (sym (lt-ltb 0 (length (b ∷ taken)) (omega arith))) ∙ taken_is (b ∷ taken) ps
+
+pub taken_none : (taken : List ℕ) (ps : List FlatPair) → true ≡ nat_eq (length taken) 0 → false ≡ any_value (is_taken taken) (map (λ p. p.key) ps)
+taken_none [] ps h = taken_is [] ps
+taken_none (b ∷ taken) ps h = absurd (omega (arith, eqb-true (length (b ∷ taken)) 0 (sym h)))
+
+-- A key that no pair has, has no number.
+pub new_number : (key : List ℕ) (ps : List FlatPair) → LacksValue key (map (λ p. p.key) ps) → number_of key ps ≡ None
+new_number key [] h = refl
+new_number key (p ∷ ps) h =
+    cond-false (has_key key p) (Some p.number) (number_of key ps) (false_from_ne_true (has_key key p) (λ e. h.0 (sym ((bytes_eq-Decides p.key key).0 e)))) ∙ new_number key ps h.1
+
+-- A push of such a key is refused for memory alone.
+pub new_refused : {T : Type 0} (r : Result T FlatRefused) (why : FlatRefused) (key : List ℕ) (ps : List FlatPair) → r ≡ Err why → LacksValue key (map (λ p. p.key) ps) → is_repeated r ≡ is_some (number_of key ps) → is_err r ≡ is_repeated r → ⊥
+new_refused r why key ps e h repeated room =
+    let same : true ≡ false = sym (ap is_err e) ∙ room ∙ repeated ∙ ap is_some (new_number key ps h) in
+    absurd (cc)
+
+-- The text of a line.
+abbrev pub LineText : List ℕ → FlatPair → Type 0
+LineText text p = IsPairText (λ q. q.key) (λ q. q.number) (SpellsWord false) (λ t n. IsDecimal 0 any_u64 n t) 32 text p
+
+pub flat_line_is : (text : List ℕ) (p : FlatPair) → LineText text p ↔ IsFlatLine p text
+flat_line_is = key_parts (λ p. p.key) (λ p. p.number) 32 (IsDecimal 0 any_u64)
+
+pub flat_file_is : (text : List ℕ) (v : Value) → IsTurned (AreKeyedLines (λ p. p.key) (λ t p. IsFlatLine p t) 10) flat_value text v ↔ KindText FlatForm v text
+flat_file_is = keyed_is FlatForm IsFlatLine (λ p. p.key) flat_value AreFlatLines
+    (λ xs lines. (λ h. (h.each, h.distinct), λ h. record { each = h.0; distinct = h.1 })) (λ v lines. (λ h. h, λ h. h))

@@ -1,0 +1,130 @@
+//! What may follow the device of a line of `io.stat` (cgroup-v2.rst, io.stat).
+ghost use Rattle.std.specs.Prelude.{◌≡◌, ℕ, ◌+◌, ◌≤◌, ◌↔◌, List, [], ◌∷◌, IsTrue, IsFalse};
+ghost use Rattle.cg_text.specs.Token.{Spells};
+ghost use Rattle.cg_file.specs.Pad.{IsPadded, IsUnspaced, PadRest, is_known, pad_ends};
+
+use cg_text::{OutOfMemory, Token};
+
+/// What is known of the pad.
+#[derive(Clone, Copy)]
+pub enum Padding {
+    /// Nothing is taken.
+    Before,
+    /// One space is taken: the pad, or what leads the token's text.
+    Perhaps,
+    /// Whether there is a pad; all else that was taken is the token's.
+    Known(bool),
+}
+
+/// A space of its own, or none, which is the pad; and then a space and a text of the token, or nothing. The value is
+/// whether there is a pad, and the token's value, or one that is ready where there is no text of the token. No text of
+/// the token is empty or begins with a space.
+#[derive(Drop)]
+pub struct PadText<T: Token> {
+    token: T,
+    ready: T::Out,
+    padding: Padding,
+    ghost bare: { T.weight ready ≡ 0 },
+    ghost unspaced: { IsFalse (is_known padding) → IsUnspaced (T.means token) },
+}
+
+impl<T: Token> PadText<T> {
+    /// The pad, and then a space and the token's text, or nothing, with this value.
+    pub fn new(token: T, ready: T::Out) -> PadText<T>
+        requires unspaced { IsUnspaced (T.means token) }
+        requires bare { T.weight ready ≡ 0 }
+        ensures spells { Spells ⟦<PadText<T> as Token>⟧.means result (IsPadded (T.means token) ready) }
+        ensures size { ⟦<PadText<T> as Token>⟧.size result ≡ T.size token }
+    {
+        PadText {
+            token,
+            ready,
+            padding: Padding::Before,
+        }
+    }
+}
+
+impl<T: Token> Token for PadText<T> {
+    type Out = (bool, T::Out);
+
+    ghost use Rattle.cg_file.specs.PadLaws.{pad_completes, pad_ends_is, pad_one, pad_bytes};
+
+    ghost means = { λ s. PadRest s.padding (T.means s.token) s.ready };
+
+    ghost size = { λ s. T.size s.token };
+
+    ghost weight = { λ v. T.weight v.1 };
+
+    ghost ends = { λ s. pad_ends s.padding (T.ends s.token) };
+
+    ghost grows = { T.grows };
+
+    fn step(&mut self, byte: u8) -> Result<bool, OutOfMemory> {
+        match self.padding {
+            Padding::Before => {
+                if byte != b' ' {
+                    return Ok(false);
+                }
+                self.padding = Padding::Perhaps;
+                Ok(true)
+            }
+            Padding::Perhaps => {
+                if byte == b' ' {
+                    self.padding = Padding::Known(true);
+                    return Ok(true);
+                }
+                match self.token.step(byte) {
+                    Ok(true) => {
+                        self.padding = Padding::Known(false);
+                        Ok(true)
+                    }
+                    Ok(false) => Ok(false),
+                    Err(e) => Err(e),
+                }
+            }
+            Padding::Known(_) => self.token.step(byte),
+        }
+    }
+
+    fn allows(&self, byte: u8) -> bool {
+        match self.padding {
+            Padding::Before => byte == b' ',
+            Padding::Perhaps => byte == b' ' || self.token.allows(byte),
+            Padding::Known(_) => self.token.allows(byte),
+        }
+    }
+
+    fn can_end(&self) -> bool {
+        match self.padding {
+            Padding::Before => true,
+            Padding::Perhaps => true,
+            Padding::Known(_) => self.token.can_end(),
+        }
+    }
+
+    fn held(&self) -> u64 {
+        self.token.held()
+    }
+
+    fn take(self) -> (bool, T::Out) {
+        match self.padding {
+            Padding::Before => (false, self.ready),
+            Padding::Perhaps => (true, self.ready),
+            Padding::Known(pad) => (pad, self.token.take()),
+        }
+    }
+
+    fn weight_of(value: &(bool, T::Out)) -> u64 {
+        T::weight_of(&value.1)
+    }
+
+    ghost completes = { λ s. pad_completes (T.means s.token) s.ready s.padding (T.completes s.token) };
+
+    ghost no_size = { λ e s. T.no_size e s.token };
+
+    ghost ends_is = { λ s. pad_ends_is (T.means s.token) s.ready s.padding (T.ends s.token) (T.ends_is s.token) };
+
+    ghost one_value = { λ s. pad_one (T.means s.token) s.ready s.padding s.unspaced (T.one_value s.token) };
+
+    ghost holds_bytes = { λ s. pad_bytes (T.means s.token) s.ready s.padding (T.holds_bytes s.token) };
+}

@@ -1,0 +1,176 @@
+//! The text of the file of a partition, as a token (cgroup-v2.rst, cpuset.cpus.partition).
+ghost use Rattle.std.specs.Prelude.{◌≡◌};
+ghost use Rattle.cg_text.specs.Token.{Spells};
+ghost use Rattle.cg_value.specs.Files.{KindText};
+ghost use Rattle.cg_value.specs.declared.kind.ReadForm.TheVariants.{Partition as PartitionForm};
+ghost use Rattle.cg_file.specs.PartitionTurned.{IsPartitionText, IsRootText};
+
+use crate::branch::Branch;
+use cg_join::{Choice, Either, LabelText, Line, Maybe, Sequence, Turn, labelled, one_line};
+use cg_text::{ByteText, Items, Keyword, KeywordText, ReasonText, Token};
+use cg_value::{Role, Value};
+use std::alloc::Global;
+
+/// That a partition is invalid, and perhaps why, in parentheses.
+pub type InvalidText = LabelText<Maybe<LabelText<ReasonText>>>;
+
+/// A role other than a member's, valid or not.
+pub type RootText = Sequence<Choice<KeywordText, KeywordText>, Maybe<InvalidText>>;
+
+/// A member, which is always valid, or another role.
+pub type PartitionText = Branch<KeywordText, RootText>;
+
+/// What the text of another role gives: which it is, and where it is invalid why, if that is known.
+type RootValue = (Either<(), ()>, Option<((), Option<((), Items<u8>)>)>);
+
+/// A line of a partition, turned into the file's value.
+#[derive(Clone, Copy)]
+pub struct ToPartition;
+
+impl Turn<Sequence<PartitionText, ByteText>> for ToPartition {
+    type To = Value;
+
+    ghost use Rattle.cg_file.specs.PartitionTurned.{partition_value, partition_weight};
+    ghost use Rattle.cg_file.specs.PartitionFileLaws.{partition_no_more};
+
+    ghost turned = { partition_value };
+
+    ghost weight = { partition_weight };
+
+    fn turn(value: (Either<(), RootValue>, ())) -> Value {
+        match value.0 {
+            Either::Left(_) => Value::Partition {
+                role: Role::Member,
+                valid: true,
+                reason: None,
+            },
+            Either::Right((root, invalid)) => {
+                let role = match root {
+                    Either::Left(_) => Role::Root,
+                    Either::Right(_) => Role::Isolated,
+                };
+                let (valid, reason) = match invalid {
+                    None => (true, None),
+                    Some((_, None)) => (false, None),
+                    Some((_, Some((_, why)))) => (false, Some(why)),
+                };
+                Value::Partition {
+                    role,
+                    valid,
+                    reason,
+                }
+            }
+        }
+    }
+
+    fn weight_of(value: &Value) -> u64 {
+        match value {
+            Value::Partition {
+                reason: Some(reason),
+                ..
+            } => reason.as_slice().len() as u64,
+            _ => 0,
+        }
+    }
+
+    ghost no_more = { partition_no_more };
+}
+
+/// The text of the file of a partition.
+pub type PartitionFile = Line<PartitionText, ToPartition>;
+
+/// A root or an isolated partition, perhaps invalid, perhaps with a reason.
+fn root_text(alloc: Global) -> RootText
+    ensures spells { Spells ⟦<RootText as Token>⟧.means result IsRootText }
+    ensures size { ⟦<RootText as Token>⟧.size result ≡ 0 }
+{
+    let root = KeywordText::new(Keyword::Root);
+    let isolated = KeywordText::new(Keyword::Isolated);
+    let role = Choice::new(root, isolated);
+    let reason = Maybe::new(labelled(Keyword::Opening, ReasonText::new(alloc)));
+    let invalid = Maybe::new(labelled(Keyword::Invalid, reason));
+    Sequence::new(role, invalid)
+}
+
+/// A member or another role.
+fn partition_text(alloc: Global) -> PartitionText
+    ensures spells { Spells ⟦<PartitionText as Token>⟧.means result IsPartitionText }
+    ensures size { ⟦<PartitionText as Token>⟧.size result ≡ 0 }
+{
+    Branch::new(KeywordText::new(Keyword::Member), root_text(alloc))
+}
+
+/// The file of a partition: its role, and of one that is invalid, also why.
+pub fn partition_file(alloc: Global) -> PartitionFile
+    ensures spells { Spells ⟦<PartitionFile as Token>⟧.means result (λ text v. KindText PartitionForm v text) }
+    ensures size { ⟦<PartitionFile as Token>⟧.size result ≡ 0 }
+{
+    one_line(partition_text(alloc))
+}
+
+#[cfg(test)]
+mod tests {
+    use super::*;
+    use cg_join::{Found, read};
+
+    #[test]
+    fn reads_partitions(rt: HostRuntime) {
+        let rows: [(&[u8], Role, bool, Option<&[u8]>); 7] = [
+            (b"member\n", Role::Member, true, None),
+            (b"root\n", Role::Root, true, None),
+            (b"isolated\n", Role::Isolated, true, None),
+            (b"root invalid\n", Role::Root, false, None),
+            (b"isolated invalid ()\n", Role::Isolated, false, Some(b"")),
+            (b"root invalid (a) b)\n", Role::Root, false, Some(b"a) b")),
+            (
+                b"isolated invalid (Parent is not a partition root)\n",
+                Role::Isolated,
+                false,
+                Some(b"Parent is not a partition root"),
+            ),
+        ];
+        for (text, wanted, sound, why) in rows {
+            let found = read(partition_file(rt.alloc()), text);
+            match &found {
+                Ok(
+                    Found::Value(
+                        Value::Partition {
+                            role,
+                            valid,
+                            reason,
+                        },
+                    ),
+                ) => {
+                    assert_eq!(rt; *role, wanted);
+                    assert_eq!(rt; *valid, sound);
+                    match (reason, why) {
+                        (Some(reason), Some(why)) => assert!(rt; reason.as_slice() == why),
+                        (None, None) => {}
+                        _ => assert!(rt; false),
+                    }
+                }
+                _ => assert!(rt; false),
+            }
+        }
+    }
+
+    #[test]
+    fn refuses_partitions(rt: HostRuntime) {
+        let rows: [(&[u8], usize); 6] = [
+            (b"\n", 0),
+            (b"member invalid\n", 6),
+            (b"root (x)\n", 5),
+            (b"root invalid (x\n", 15),
+            (b"root invalid (x) \n", 17),
+            (b"isolatedinvalid\n", 8),
+        ];
+        for (text, place) in rows {
+            match read(partition_file(rt.alloc()), text) {
+                Ok(Found::Refused(at)) => assert_eq!(rt; at, place),
+                _ => assert!(rt; false),
+            }
+        }
+        let cut = read(partition_file(rt.alloc()), b"root invalid (x)");
+        assert!(rt; matches!(&cut, Ok(Found::Cut)));
+    }
+}

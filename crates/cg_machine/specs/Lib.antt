@@ -1,0 +1,12 @@
+pub mod Built
+pub mod BuiltLaws
+pub mod FlatRests
+pub mod LimitsRests
+pub mod ListRests
+pub mod Machine
+pub mod MachineLaws
+pub mod NestedRests
+pub mod PressureRests
+pub mod ScalarRests
+pub mod SignedRests
+pub mod StatsRests

@@ -1,0 +1,111 @@
+//! The machines of files, by their kinds.
+ghost use Rattle.std.specs.Prelude.{◌≡◌, ◌≤◌, []};
+ghost use Rattle.cg_value.specs.Kind.{IsReadForm};
+ghost use Rattle.cg_file.specs.Kinds.{TextsOf, held_of_whole};
+ghost use Rattle.cg_machine.specs.Built.{IsBuilt};
+ghost use Rattle.cg_machine.specs.Machine.{IsRead};
+
+use crate::flat_machine::{FlatMachine, flat_machine};
+use crate::limits_machine::{LimitsMachine, limits_machine};
+use crate::list_machine::{ListMachine, numbers_machine, raw_machine, set_machine, words_machine};
+use crate::machine::{PushFault, TextMachine};
+use crate::nested_machine::{NestedMachine, nested_machine};
+use crate::one_of::OneOf;
+use crate::pressure_machine::{PressureMachine, pressure_machine};
+use crate::scalar_machine::{
+    ScalarMachine, clamp_machine, cpu_max_machine, limit_machine, mode_machine, number_machine,
+};
+use crate::signed_machine::{SignedMachine, signed_machine};
+use crate::stats_machine::{StatsMachine, stats_machine};
+use cg_value::{ReadForm, ReadKind, Value};
+use std::alloc::Global;
+
+/// Files of one line.
+type OneLine = OneOf<ScalarMachine, SignedMachine>;
+
+/// Files whose lines begin with keys, and lists.
+type Keyed = OneOf<OneOf<FlatMachine, NestedMachine>, OneOf<PressureMachine, ListMachine>>;
+
+/// Files whose lines begin with devices.
+type Devices = OneOf<LimitsMachine, StatsMachine>;
+
+/// The machine of one of the kinds.
+type Tree = OneOf<OneLine, OneOf<Keyed, Devices>>;
+
+/// A machine over the whole text of a file.
+#[derive(Drop)]
+pub struct FileMachine {
+    tree: Tree,
+}
+
+impl TextMachine for FileMachine {
+    type Out = Value;
+
+    ghost means = { λ s. ⟦<Tree as TextMachine>⟧.means s.tree };
+
+    ghost size = { λ s. ⟦<Tree as TextMachine>⟧.size s.tree };
+
+    ghost holds = { λ v n. n ≤ held_of_whole v };
+
+    fn take_byte(&mut self, byte: u8) -> Result<(), PushFault> {
+        self.tree.take_byte(byte)
+    }
+
+    fn allows_byte(&self, byte: u8) -> bool {
+        self.tree.allows_byte(byte)
+    }
+
+    fn is_whole(&self) -> bool {
+        self.tree.is_whole()
+    }
+
+    fn all_held(&self) -> u64 {
+        self.tree.all_held()
+    }
+
+    fn into_value(self) -> Value {
+        self.tree.into_value()
+    }
+}
+
+/// The machine of one of the kinds.
+fn tree_of(alloc: Global, form: ReadForm) -> Tree
+    requires form { IsReadForm form }
+    requires built { IsBuilt form }
+    ensures rests { IsRead (TextsOf form) (⟦<Tree as TextMachine>⟧.means result) [] }
+    ensures size { ⟦<Tree as TextMachine>⟧.size result ≡ 0 }
+{
+    use OneOf::{First, Second};
+    match form {
+        ReadForm::Number { lo, hi } => First(First(number_machine(lo, hi))),
+        ReadForm::Limit => First(First(limit_machine())),
+        ReadForm::Mode => First(First(mode_machine())),
+        ReadForm::CpuMax => First(First(cpu_max_machine())),
+        ReadForm::Clamp => First(First(clamp_machine())),
+        ReadForm::Signed { lo, hi } => First(Second(signed_machine(lo, hi))),
+        ReadForm::Flat => Second(First(First(First(flat_machine(alloc))))),
+        ReadForm::Nested => Second(First(First(Second(nested_machine(alloc))))),
+        ReadForm::Pressure => Second(First(Second(First(pressure_machine())))),
+        ReadForm::Numbers { lo, hi } => Second(First(Second(Second(numbers_machine(
+            alloc, lo, hi,
+        ))))),
+        ReadForm::Set { most } => Second(First(Second(Second(set_machine(alloc, most))))),
+        ReadForm::Words => Second(First(Second(Second(words_machine(alloc))))),
+        ReadForm::Raw => Second(First(Second(Second(raw_machine(alloc))))),
+        ReadForm::DeviceLimits => Second(Second(First(limits_machine(alloc)))),
+        ReadForm::DeviceStats => Second(Second(Second(stats_machine(alloc)))),
+        ReadForm::DeviceWeights | ReadForm::DeviceTargets | ReadForm::Partition => unreachable!(),
+    }
+}
+
+/// The machine of a kind of files.
+pub fn machine_of(alloc: Global, kind: ReadKind) -> FileMachine
+    requires { IsBuilt kind }
+    ensures rests { IsRead (TextsOf kind) (⟦<FileMachine as TextMachine>⟧.means result) [] }
+    ensures size { ⟦<FileMachine as TextMachine>⟧.size result ≡ 0 }
+    ensures form { IsReadForm kind }
+{
+    FileMachine {
+        tree: tree_of(alloc, kind.form()),
+    }
+}
