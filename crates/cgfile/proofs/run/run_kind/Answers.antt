@@ -34,3 +34,8 @@ pub returns-in-OutOfMemory-clause-ran : goal.returns-in-OutOfMemory-clause-ran
 returns-in-OutOfMemory-clause-ran g c fresh =
     let h = c.in-OutOfMemory.ensures.read c.args.kind c.new-text.ensures.reads fresh in
     record { read = h.read; consumed = h.consumed; wanted = out.OutOfMemory; parts = []; right = tt; wrote = c.told_line-in-OutOfMemory.ensures }
+
+pub returns-in-ReadFault-clause-ran : goal.returns-in-ReadFault-clause-ran
+returns-in-ReadFault-clause-ran g c fresh =
+    let h = c.in-ReadFault.ensures.read c.args.kind c.new-text.ensures.reads fresh in
+    record { read = h.read; consumed = h.consumed; wanted = out.ReadFault; parts = []; right = (record { unstopped = h.ends.0; failed = h.ends.1 }, refl); wrote = c.told_line-in-ReadFault.ensures }
