@@ -4,6 +4,7 @@ pub mod DeviceLineLaws
 pub mod FileLaws
 pub mod FlatFileLaws
 pub mod FourLaws
+pub mod InvalidLaws
 pub mod KeyedFileLaws
 pub mod Kinds
 pub mod ManyFileLaws
@@ -14,6 +15,7 @@ pub mod OneOrBoth
 pub mod OneOrBothLaws
 pub mod Pad
 pub mod PadLaws
+pub mod PartLaws
 pub mod PartitionFileLaws
 pub mod PartitionTurned
 pub mod PressureFileLaws
@@ -22,5 +24,6 @@ pub mod StatFileLaws
 pub mod Turned
 pub mod WeighLaws
 pub mod WeightFileLaws
+pub mod WhyLaws
 pub mod WordsFileLaws
 pub mod WordsTurned

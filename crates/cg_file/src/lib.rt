@@ -12,5 +12,6 @@ pub mod pad;
 pub mod partition_file;
 pub mod pressure_file;
 pub mod stat_file;
+pub mod turned;
 mod weigh;
 pub mod words_file;

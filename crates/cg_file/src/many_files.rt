@@ -5,6 +5,7 @@ ghost use Rattle.cg_value.specs.Files.{KindText};
 ghost use Rattle.cg_value.specs.declared.kind.ReadForm.TheVariants.{DeviceLimits as LimitsForm, DeviceTargets as TargetsForm, DeviceWeights as WeightsForm, Numbers as NumbersForm, Raw as RawForm};
 ghost use Rattle.cg_value.specs.ReadLine.{IsLimitLine, IsTargetLine, IsWeightLine};
 
+use crate::turned::Turned;
 use cg_join::{
     DeviceText, LabelText, LimitText, Lines, Mapped, NumberStart, Sequence, Spaced, Start, Turn,
     decimal_in, labelled, limit_in, spaced,
@@ -120,7 +121,7 @@ impl Turn<Sequence<DeviceText, LabelText<DecimalText>>> for ToTarget {
 }
 
 /// The text of a line of a device and its target.
-pub type TargetText = Mapped<Sequence<DeviceText, LabelText<DecimalText>>, ToTarget>;
+pub type TargetText = Turned<Sequence<DeviceText, LabelText<DecimalText>>, ToTarget>;
 
 /// A device, ` target=` and a number (cgroup-v2.rst, io.latency).
 fn target_text() -> TargetText
@@ -128,7 +129,7 @@ fn target_text() -> TargetText
     ensures size { ⟦<TargetText as Token>⟧.size result ≡ 0 }
 {
     let target = labelled(Keyword::Target, decimal_in(0, u64::MAX));
-    Mapped::new(Sequence::new(DeviceText::new(), target))
+    Turned::new(Sequence::new(DeviceText::new(), target))
 }
 
 /// Makes tokens of lines of a device and its target.
@@ -309,7 +310,7 @@ impl Turn<Sequence<DeviceText, Spaced<DecimalText>>> for ToWeight {
 }
 
 /// The text of a line of a device and its weight.
-pub type WeightText = Mapped<Sequence<DeviceText, Spaced<DecimalText>>, ToWeight>;
+pub type WeightText = Turned<Sequence<DeviceText, Spaced<DecimalText>>, ToWeight>;
 
 /// A device, a space and a weight (cgroup-v2.rst, io.weight).
 fn weight_text() -> WeightText
@@ -317,7 +318,7 @@ fn weight_text() -> WeightText
     ensures size { ⟦<WeightText as Token>⟧.size result ≡ 0 }
 {
     let weight = spaced(decimal_in(1, 10000));
-    Mapped::new(Sequence::new(DeviceText::new(), weight))
+    Turned::new(Sequence::new(DeviceText::new(), weight))
 }
 
 /// Makes tokens of lines of a device and its weight.

@@ -1,21 +1,139 @@
 //! The text of the file of a partition, as a token (cgroup-v2.rst, cpuset.cpus.partition).
-ghost use Rattle.std.specs.Prelude.{◌≡◌};
+ghost use Rattle.std.specs.Prelude.{◌≡◌, true};
+ghost use Rattle.cg_join.specs.Maybe.{IsMaybe};
 ghost use Rattle.cg_text.specs.Token.{Spells};
 ghost use Rattle.cg_value.specs.Files.{KindText};
 ghost use Rattle.cg_value.specs.declared.kind.ReadForm.TheVariants.{Partition as PartitionForm};
-ghost use Rattle.cg_file.specs.PartitionTurned.{IsPartitionText, IsRootText};
+ghost use Rattle.cg_file.specs.PartitionTurned.{IsInvalidText, IsPartitionText, IsReasonText, IsRootText};
 
 use crate::branch::Branch;
 use cg_join::{Choice, Either, LabelText, Line, Maybe, Sequence, Turn, labelled, one_line};
-use cg_text::{ByteText, Items, Keyword, KeywordText, ReasonText, Token};
+use cg_text::{ByteText, Items, Keyword, KeywordText, OutOfMemory, ReasonText, Token};
 use cg_value::{Role, Value};
 use std::alloc::Global;
 
-/// That a partition is invalid, and perhaps why, in parentheses.
-pub type InvalidText = LabelText<Maybe<LabelText<ReasonText>>>;
+/// What follows the word that a partition is invalid.
+pub type WhyParts = Maybe<LabelText<ReasonText>>;
+
+/// Why a partition is invalid, in parentheses after a space, or nothing.
+#[derive(Drop)]
+pub struct WhyText {
+    parts: WhyParts,
+}
+
+impl Token for WhyText {
+    type Out = Option<((), Items<u8>)>;
+
+    ghost use Rattle.cg_text.specs.WordLaws.{true_not_false};
+    ghost use Rattle.cg_file.specs.WhyLaws.{why_lawful};
+
+    ghost means = { λ s rest v. ⟦<WhyParts as Token>⟧.means s.parts rest v };
+
+    ghost size = { λ s. ⟦<WhyParts as Token>⟧.size s.parts };
+
+    ghost weight = { ⟦<WhyParts as Token>⟧.weight };
+
+    ghost ends = { λ s. ⟦<WhyParts as Token>⟧.ends s.parts };
+
+    ghost grows = { true };
+
+    fn step(&mut self, byte: u8) -> Result<bool, OutOfMemory> {
+        self.parts.step(byte)
+    }
+
+    fn allows(&self, byte: u8) -> bool {
+        self.parts.allows(byte)
+    }
+
+    fn can_end(&self) -> bool {
+        self.parts.can_end()
+    }
+
+    fn held(&self) -> u64 {
+        self.parts.held()
+    }
+
+    fn take(self) -> Option<((), Items<u8>)> {
+        self.parts.take()
+    }
+
+    fn weight_of(value: &Option<((), Items<u8>)>) -> u64 {
+        WhyParts::weight_of(value)
+    }
+
+    ghost completes = { λ s. (why_lawful s).completes };
+
+    ghost no_size = { λ e _. absurd (true_not_false e) };
+
+    ghost ends_is = { λ s. (why_lawful s).ends_is };
+
+    ghost one_value = { λ s. (why_lawful s).one_value };
+
+    ghost holds_bytes = { λ s. (why_lawful s).holds_bytes };
+}
+
+/// What follows the role of a partition.
+pub type InvalidParts = Maybe<LabelText<WhyText>>;
+
+/// That a partition is invalid, and perhaps why, or nothing.
+#[derive(Drop)]
+pub struct InvalidText {
+    parts: InvalidParts,
+}
+
+impl Token for InvalidText {
+    type Out = Option<((), Option<((), Items<u8>)>)>;
+
+    ghost use Rattle.cg_text.specs.WordLaws.{true_not_false};
+    ghost use Rattle.cg_file.specs.InvalidLaws.{invalid_lawful};
+
+    ghost means = { λ s rest v. ⟦<InvalidParts as Token>⟧.means s.parts rest v };
+
+    ghost size = { λ s. ⟦<InvalidParts as Token>⟧.size s.parts };
+
+    ghost weight = { ⟦<InvalidParts as Token>⟧.weight };
+
+    ghost ends = { λ s. ⟦<InvalidParts as Token>⟧.ends s.parts };
+
+    ghost grows = { true };
+
+    fn step(&mut self, byte: u8) -> Result<bool, OutOfMemory> {
+        self.parts.step(byte)
+    }
+
+    fn allows(&self, byte: u8) -> bool {
+        self.parts.allows(byte)
+    }
+
+    fn can_end(&self) -> bool {
+        self.parts.can_end()
+    }
+
+    fn held(&self) -> u64 {
+        self.parts.held()
+    }
+
+    fn take(self) -> Option<((), Option<((), Items<u8>)>)> {
+        self.parts.take()
+    }
+
+    fn weight_of(value: &Option<((), Option<((), Items<u8>)>)>) -> u64 {
+        InvalidParts::weight_of(value)
+    }
+
+    ghost completes = { λ s. (invalid_lawful s).completes };
+
+    ghost no_size = { λ e _. absurd (true_not_false e) };
+
+    ghost ends_is = { λ s. (invalid_lawful s).ends_is };
+
+    ghost one_value = { λ s. (invalid_lawful s).one_value };
+
+    ghost holds_bytes = { λ s. (invalid_lawful s).holds_bytes };
+}
 
 /// A role other than a member's, valid or not.
-pub type RootText = Sequence<Choice<KeywordText, KeywordText>, Maybe<InvalidText>>;
+pub type RootText = Sequence<Choice<KeywordText, KeywordText>, InvalidText>;
 
 /// A member, which is always valid, or another role.
 pub type PartitionText = Branch<KeywordText, RootText>;
@@ -79,6 +197,26 @@ impl Turn<Sequence<PartitionText, ByteText>> for ToPartition {
 /// The text of the file of a partition.
 pub type PartitionFile = Line<PartitionText, ToPartition>;
 
+/// Why a partition is invalid, or nothing.
+fn why_text(alloc: Global) -> WhyText
+    ensures spells { Spells ⟦<WhyText as Token>⟧.means result (IsMaybe IsReasonText) }
+    ensures size { ⟦<WhyText as Token>⟧.size result ≡ 0 }
+{
+    WhyText {
+        parts: Maybe::new(labelled(Keyword::Opening, ReasonText::new(alloc))),
+    }
+}
+
+/// That a partition is invalid, perhaps with a reason, or nothing.
+fn invalid_text(alloc: Global) -> InvalidText
+    ensures spells { Spells ⟦<InvalidText as Token>⟧.means result (IsMaybe IsInvalidText) }
+    ensures size { ⟦<InvalidText as Token>⟧.size result ≡ 0 }
+{
+    InvalidText {
+        parts: Maybe::new(labelled(Keyword::Invalid, why_text(alloc))),
+    }
+}
+
 /// A root or an isolated partition, perhaps invalid, perhaps with a reason.
 fn root_text(alloc: Global) -> RootText
     ensures spells { Spells ⟦<RootText as Token>⟧.means result IsRootText }
@@ -87,9 +225,7 @@ fn root_text(alloc: Global) -> RootText
     let root = KeywordText::new(Keyword::Root);
     let isolated = KeywordText::new(Keyword::Isolated);
     let role = Choice::new(root, isolated);
-    let reason = Maybe::new(labelled(Keyword::Opening, ReasonText::new(alloc)));
-    let invalid = Maybe::new(labelled(Keyword::Invalid, reason));
-    Sequence::new(role, invalid)
+    Sequence::new(role, invalid_text(alloc))
 }
 
 /// A member or another role.

@@ -13,7 +13,9 @@ use crate::many_files::{
 use crate::nested_file::{NestedLines, ToNested};
 use crate::one_line_files::{ModeText, ToClamp, ToCpuMax, ToMode, ToSet, ToSigned};
 use crate::one_or_both::OneOrBoth;
-use crate::partition_file::{PartitionText, ToPartition};
+use crate::partition_file::{
+    InvalidParts, InvalidText, PartitionText, ToPartition, WhyParts, WhyText,
+};
 use crate::pressure_file::{PressureLine, ToPressure};
 use crate::words_file::{ToWords, WordsText};
 use cg_join::{
@@ -163,6 +165,22 @@ impl<A: Light, B: Settled> Settled for Branch<A, B> {
     ghost bound = { either_weight (λ _. 0) B.bound };
 
     ghost settles = { λ s. branch_settled A.means B.means s.place s.first s.second (A.size s.first) (B.size s.second) B.bound (A.no_size A.light s.first) s.fresh (B.settles s.second) };
+}
+
+impl Settled for WhyText {
+    ghost use Rattle.cg_file.specs.WhyLaws.{why_settled};
+
+    ghost bound = { ⟦<WhyParts as Settled>⟧.bound };
+
+    ghost settles = { why_settled };
+}
+
+impl Settled for InvalidText {
+    ghost use Rattle.cg_file.specs.InvalidLaws.{invalid_settled};
+
+    ghost bound = { ⟦<InvalidParts as Settled>⟧.bound };
+
+    ghost settles = { invalid_settled };
 }
 
 impl Weigh<Sequence<PartitionText, ByteText>> for ToPartition {

@@ -50,6 +50,7 @@ pub mod Ready
 pub mod ReadyLaws
 pub mod Repeat
 pub mod RepeatLaws
+pub mod ScanLaws
 pub mod SequenceLaws
 pub mod SettledLaws
 pub mod Spelling

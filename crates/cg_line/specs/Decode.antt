@@ -6,7 +6,10 @@ use Rattle.cg_value.specs.Table.{read_form_of}
 use Rattle.cg_value.specs.declared.profile.Profile.{Profile}
 use Rattle.cg_value.specs.declared.kind.ReadForm.{ReadForm}
 use Rattle.cg_value.specs.declared.value.Value.{Value}
-use Rattle.cg_machine.specs.Built.{read_now}
+use Rattle.cg_line.specs.Reads.{Reads}
+use Rattle.cg_line.specs.declared.reader.ValueReader.{ValueReader}
+use Rattle.cg_machine.specs.declared.machine.PushFault.{PushFault}
+use Rattle.cg_machine.specs.declared.machine.PushFault.TheVariants as push
 use Rattle.cg_line.specs.declared.decode.FileFault.{FileFault}
 use Rattle.cg_line.specs.declared.decode.FileFault.TheVariants.{NotReadable, Refused, Cut, OutOfMemory}
 
@@ -15,6 +18,19 @@ pub record IsCut (L : List ℕ → Type 0) (bytes : List ℕ) (at : ℕ) : Type 
   pub at_end : at ≡ length bytes
   pub viable : Viable L bytes
   pub not_whole : L bytes → ⊥
+
+-- Why the byte at a place was not taken.
+abbrev pub fault_of : PushFault → ℕ → FileFault
+fault_of push.Refused at = Refused at
+fault_of push.OutOfMemory at = OutOfMemory
+
+-- The bytes were all taken; or their first bad byte is told.
+abbrev pub IsTakenWhole : ValueReader → ReadForm → List ℕ → Result (Unit {0}) FileFault → Type 0
+IsTakenWhole r kind bytes (Ok u) = Reads r kind bytes
+IsTakenWhole r kind bytes (Err NotReadable) = ⊥
+IsTakenWhole r kind bytes (Err (Refused at)) = FirstBad (KindFile kind) bytes at
+IsTakenWhole r kind bytes (Err (Cut at)) = ⊥
+IsTakenWhole r kind bytes (Err OutOfMemory) = Unit {0}
 
 -- The bytes are a file of the kind with the value; or their first bad byte is told; or their end is.
 abbrev pub IsReadWhole : ReadForm → List ℕ → Result Value FileFault → Type 0
@@ -27,7 +43,7 @@ IsReadWhole kind bytes (Err OutOfMemory) = Unit {0}
 -- The same by the file's name, which may be that of a file that can't be read.
 abbrev pub IsDecoded : Profile → List ℕ → List ℕ → Result Value FileFault → Type 0
 IsDecoded profile name bytes (Ok v) = FileText profile name v bytes
-IsDecoded profile name bytes (Err NotReadable) = read_now profile name ≡ None
+IsDecoded profile name bytes (Err NotReadable) = read_form_of profile name ≡ None
 IsDecoded profile name bytes (Err (Refused at)) = FirstBad (File profile name) bytes at
 IsDecoded profile name bytes (Err (Cut at)) = IsCut (File profile name) bytes at
 IsDecoded profile name bytes (Err OutOfMemory) = (kind : ReadForm) × (read_form_of profile name ≡ Some kind)

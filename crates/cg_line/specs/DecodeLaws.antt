@@ -1,14 +1,18 @@
 -- What holds of reading whole files.
-use Rattle.std.proofs.Common.{◌≡◌, ℕ, ◌+◌, ◌<◌, ◌≤◌, List, [], ◌∷◌, ◌++◌, length, take, get_or, Option, Some, None, Result, Ok, Err, refl, sym, ◌∙◌, arith}
-use Rattle.std.proofs.lemmas.List.{take_more, take_all}
+use Rattle.std.proofs.Common.{◌≡◌, ℕ, ◌+◌, ◌<◌, ◌≤◌, List, [], ◌∷◌, ◌++◌, length, take, drop, get_or, Option, Some, None, Result, Ok, Err, refl, sym, ap, ◌∙◌, arith, length-drop}
+use Rattle.std.proofs.Math.Seq.{take-add}
+use Rattle.std.proofs.lemmas.List.{get_or-drop, take_more, take_all}
 use Rattle.cg_text.specs.Texts.{Viable, Next, FirstBad, TextOf}
 use Rattle.cg_value.specs.Files.{KindText, KindFile, FileText, File}
 use Rattle.cg_value.specs.Table.{read_form_of}
 use Rattle.cg_value.specs.declared.profile.Profile.{Profile}
 use Rattle.cg_value.specs.declared.kind.ReadForm.{ReadForm}
 use Rattle.cg_value.specs.declared.value.Value.{Value}
-use Rattle.cg_line.specs.Decode.{IsCut, IsReadWhole, IsDecoded}
+use Rattle.cg_line.specs.Decode.{IsCut, fault_of, IsTakenWhole, IsReadWhole, IsDecoded}
 use Rattle.cg_line.specs.Reads.{Reads, reads_viable}
+use Rattle.cg_line.specs.Runs.{RunStops}
+use Rattle.cg_machine.specs.declared.machine.PushFault.{PushFault}
+use Rattle.cg_machine.specs.declared.machine.PushFault.TheVariants as push
 use Rattle.cg_line.specs.declared.reader.ValueReader.{ValueReader}
 use Rattle.cg_line.specs.declared.decode.FileFault.{FileFault}
 use Rattle.cg_line.specs.declared.decode.FileFault.TheVariants.{NotReadable, Refused, Cut, OutOfMemory}
@@ -25,12 +29,37 @@ first_bad r kind bytes i h k none = record {
   after = λ goes. none (rw (take_more bytes i 0 h) at goes);
 }
 
+-- A run of bytes more.
+pub run_on : (r : ValueReader) (kind : ReadForm) (bytes rest : List ℕ) (at used : ℕ) → rest ≡ drop at bytes → Reads r kind (take at bytes ++ take used rest) → Reads r kind (take (at + used) bytes)
+run_on r kind bytes rest at used e h = rw (take-add at used bytes, ← e) h
+
+-- A byte after it that is refused.
+pub run_refused : (r : ValueReader) (kind : ReadForm) (bytes rest : List ℕ) (at used : ℕ) → rest ≡ drop at bytes → used < length rest → Reads r kind (take at bytes ++ take used rest) →
+    (Next (KindFile kind) (take at bytes ++ take used rest) (get_or rest used 0) → ⊥) → FirstBad (KindFile kind) bytes (at + used)
+run_refused r kind bytes rest at used e within h none =
+    let same : get_or rest used 0 ≡ get_or bytes (at + used) 0 = ap (λ l. get_or l used 0) e ∙ get_or-drop at bytes used 0 in
+    let text : take at bytes ++ take used rest ≡ take (at + used) bytes = ap (λ l. take at bytes ++ take used l) e ∙ sym (take-add at used bytes) in
+    first_bad r kind bytes (at + used) (omega (arith, within, ap length e, length-drop at bytes)) (run_on r kind bytes rest at used e h) (rw (same, text) at none)
+
+-- Why a run ended before its end is why not all bytes were taken.
+pub run_stopped : (r : ValueReader) (kind : ReadForm) (bytes rest : List ℕ) (at used : ℕ) (fault : PushFault) → rest ≡ drop at bytes → Reads r kind (take at bytes ++ take used rest) →
+    RunStops kind (take at bytes) rest used (Some fault) → IsTakenWhole r kind bytes (Err (fault_of fault (at + used)))
+run_stopped r kind bytes rest at used push.Refused e h stops = run_refused r kind bytes rest at used e stops.0 h stops.2
+run_stopped r kind bytes rest at used push.OutOfMemory e h stops = tt
+
 -- All bytes.
 pub reads_all : (r : ValueReader) (kind : ReadForm) (bytes : List ℕ) (i : ℕ) → length bytes ≤ i → Reads r kind (take i bytes) → Reads r kind bytes
 reads_all r kind bytes i h k = rw (take_all i bytes h) at k
 
 pub cut_at_end : (r : ValueReader) (kind : ReadForm) (bytes : List ℕ) → Reads r kind bytes → (KindFile kind bytes → ⊥) → IsCut (KindFile kind) bytes (length bytes)
 cut_at_end r kind bytes k none = record { at_end = refl; viable = reads_viable r kind bytes k; not_whole = none }
+
+-- Why not all bytes were taken is why they are no file.
+pub taken_fault : (r : ValueReader) (kind : ReadForm) (bytes : List ℕ) (fault : FileFault) → IsTakenWhole r kind bytes (Err fault) → IsReadWhole kind bytes (Err fault)
+taken_fault r kind bytes NotReadable h = absurd h
+taken_fault r kind bytes (Refused at) h = h
+taken_fault r kind bytes (Cut at) h = absurd h
+taken_fault r kind bytes OutOfMemory h = tt
 
 module _ (profile : Profile) (name : List ℕ) (kind : ReadForm) (is : read_form_of profile name ≡ Some kind) where
   to_file : (text : List ℕ) → KindFile kind text → File profile name text

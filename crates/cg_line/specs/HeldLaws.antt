@@ -72,3 +72,45 @@ holds_more kind taken b old new form grows whole h lines line v e plain spelled 
 -- Nothing is held at the start.
 pub holds_none : (kind : ReadForm) (size : ℕ) → size ≡ 0 → HoldsLittle size kind []
 holds_none kind size e lines line v text plain spelled = omega (arith, e)
+
+-- ---- A run of bytes that has no newline
+
+last_same : (front other : List ℕ) (b c : ℕ) → front ++ b ∷ [] ≡ other ++ c ∷ [] → b ≡ c
+last_same [] [] b c e = cc
+last_same [] (y ∷ other) b c e = absurd (not_empty other c (cc))
+last_same (x ∷ front) [] b c e = absurd (not_empty front b (cc))
+last_same (x ∷ front) (y ∷ other) b c e = last_same front other b c (cc)
+
+-- Lines end with a newline.
+lines_last : (lines : List (List ℕ)) → (unlines lines ≡ []) ⊎ ((front : List ℕ) × (unlines lines ≡ front ++ 10 ∷ []))
+lines_last [] = inl refl
+lines_last (line ∷ lines) = elim (lines_last lines) [
+  | inl e ↦ inr (line, ap (λ t. line ++ 10 ∷ t) e)
+  | inr h ↦ inr (line ++ 10 ∷ h.0, ap (λ t. line ++ 10 ∷ t) h.1 ∙ sym (append_assoc line (10 ∷ h.0) (10 ∷ [])))
+]
+
+no_line_ends : (lines : List (List ℕ)) (taken : List ℕ) (b : ℕ) → (b ≡ 10 → ⊥) → taken ++ b ∷ [] ≡ unlines lines → ⊥
+no_line_ends lines taken b other e = elim (lines_last lines) [
+  | inl none ↦ not_empty taken b (e ∙ none)
+  | inr some ↦ other (last_same taken some.0 b 10 (e ∙ some.1))
+]
+
+holds_plain : (kind : ReadForm) (taken : List ℕ) (b old new : ℕ) → (b ≡ 10 → ⊥) → new ≤ old + 1 → HoldsLittle old kind taken → HoldsLittle new kind (taken ++ b ∷ [])
+holds_plain kind taken b old new other grows h lines line v e plain spelled = elim (last_of line) [
+  | inl none ↦ absurd (no_line_ends lines taken b other (e ∙ ap (λ t. unlines lines ++ t) none ∙ append-nil (unlines lines)))
+  | inr some ↦
+      let text : taken ++ b ∷ [] ≡ (unlines lines ++ some.front) ++ some.last ∷ [] = e ∙ ap (λ t. unlines lines ++ t) some.is ∙ sym (append_assoc (unlines lines) some.front (some.last ∷ [])) in
+      let front : taken ≡ unlines lines ++ some.front = same_front taken (unlines lines ++ some.front) b some.last text in
+      let before = h lines some.front v front (lacks_front some.front some.last (rw some.is at plain)) spelled in
+      let longer : length line ≡ length some.front + 1 = ap length some.is ∙ length-append some.front (some.last ∷ []) in
+      omega (arith, before, longer, grows)
+]
+
+holds_same : (kind : ReadForm) (taken : List ℕ) (old new : ℕ) → new ≤ old → HoldsLittle old kind taken → HoldsLittle new kind taken
+holds_same kind taken old new less h lines line v e plain spelled = omega (arith, less, h lines line v e plain spelled)
+
+-- A byte adds at most one.
+pub holds_run : (kind : ReadForm) (run taken : List ℕ) (old new : ℕ) → Lacks 10 run → new ≤ old + length run → HoldsLittle old kind taken → HoldsLittle new kind (taken ++ run)
+holds_run kind [] taken old new plain grows h = rw (append-nil taken) (holds_same kind taken old new (omega (arith, grows)) h)
+holds_run kind (b ∷ run) taken old new plain grows h =
+    rw (← append_assoc taken (b ∷ []) run) (holds_run kind run (taken ++ b ∷ []) (old + 1) new plain.1 (omega (arith, grows)) (holds_plain kind taken b old (old + 1) plain.0 (omega arith) h))

@@ -6,3 +6,5 @@ pub mod Place
 pub mod PlaceLaws
 pub mod Reads
 pub mod ReadsLaws
+pub mod Runs
+pub mod RunsLaws

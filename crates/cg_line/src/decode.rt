@@ -1,12 +1,12 @@
 //! One file as a whole.
-ghost use Rattle.std.specs.Prelude.{[]};
+ghost use Rattle.std.specs.Prelude.{◌≡◌, ℕ, List, [], length};
 ghost use Rattle.cg_value.specs.declared.kind.ReadForm.{ReadForm};
-ghost use Rattle.cg_line.specs.Decode.{IsReadWhole, IsDecoded};
+ghost use Rattle.cg_line.specs.Decode.{fault_of, IsTakenWhole, IsReadWhole, IsDecoded};
 ghost use Rattle.cg_line.specs.Reads.{Reads};
 
 use crate::reader::ValueReader;
-use cg_machine::{PushFault, built_kind};
-use cg_value::{Profile, Value};
+use cg_machine::PushFault;
+use cg_value::{Profile, Value, read_kind};
 use std::alloc::Global;
 use thiserror::Error;
 
@@ -26,23 +26,40 @@ pub enum FileFault {
     OutOfMemory,
 }
 
-/// Reads the whole text of a file.
-fn read_whole(reader: ValueReader, bytes: &[u8]) -> Result<Value, FileFault>
-    ensures { (kind : ReadForm) → Reads reader kind [] → IsReadWhole kind bytes.now result }
+/// Why the byte at this place was not taken.
+fn fault_at(fault: PushFault, at: u64) -> FileFault
+    ensures { result ≡ fault_of fault at }
 {
-    let mut reader = reader;
-    for (i, byte) in bytes.iter().enumerate() {
-        match reader.push(*byte) {
-            Ok(()) => {}
-            Err(PushFault::Refused) => return Err(FileFault::Refused { at: i as u64 }),
-            Err(PushFault::OutOfMemory) => return Err(FileFault::OutOfMemory),
+    match fault {
+        PushFault::Refused => FileFault::Refused { at },
+        PushFault::OutOfMemory => FileFault::OutOfMemory,
+    }
+}
+
+/// Takes all bytes.
+fn take_all(reader: &mut ValueReader, bytes: &[u8]) -> Result<(), FileFault>
+    ensures { (kind : ReadForm) → Reads reader.old kind [] → IsTakenWhole reader.new kind bytes.now result }
+{
+    let mut at = 0;
+    while at < bytes.len() {
+        let (_, rest) = bytes.split_at(at);
+        let run = reader.push_run(rest);
+        at += run.used;
+        match run.fault {
+            None => {}
+            Some(fault) => return Err(fault_at(fault, at as u64)),
         }
     }
+    Ok(())
+}
+
+/// The value of a whole file of which so many bytes were taken.
+fn value_of(reader: ValueReader, taken: u64) -> Result<Value, FileFault>
+    ensures { (kind : ReadForm) (bytes : List ℕ) → Reads reader kind bytes → taken ≡ length bytes → IsReadWhole kind bytes result }
+{
     match reader.finish() {
         Ok(value) => Ok(value),
-        Err(_) => Err(FileFault::Cut {
-            at: bytes.len() as u64,
-        }),
+        Err(_) => Err(FileFault::Cut { at: taken }),
     }
 }
 
@@ -55,8 +72,13 @@ pub fn decode_file(
 ) -> Result<Value, FileFault>
     ensures { IsDecoded profile name.now bytes.now result }
 {
-    match built_kind(profile, name) {
-        Ok(kind) => read_whole(ValueReader::new(alloc, kind), bytes),
-        Err(_) => Err(FileFault::NotReadable),
+    let kind = match read_kind(profile, name) {
+        Ok(kind) => kind,
+        Err(_) => return Err(FileFault::NotReadable),
+    };
+    let mut reader = ValueReader::new(alloc, kind);
+    match take_all(&mut reader, bytes) {
+        Ok(()) => value_of(reader, bytes.len() as u64),
+        Err(fault) => Err(fault),
     }
 }

@@ -7,6 +7,6 @@ pub mod reader;
 #[cfg(test)]
 mod tests;
 
-pub use cg_machine::{PushFault, built_kind};
+pub use cg_machine::PushFault;
 pub use decode::{FileFault, decode_file};
-pub use reader::{ReaderCut, ValueReader};
+pub use reader::{PushedRun, ReaderCut, ValueReader};

@@ -1,5 +1,5 @@
 //! Readers of one file.
-ghost use Rattle.std.specs.Prelude.{◌≡◌, ◌≤◌, ◌+◌, ◌↔◌, ℕ, List, [], ◌∷◌, ◌++◌, length, MatchResult, IsTrue, OnErr};
+ghost use Rattle.std.specs.Prelude.{◌≡◌, ◌≤◌, ◌<◌, ◌+◌, ◌↔◌, ℕ, List, [], ◌∷◌, ◌++◌, length, take, MatchResult, IsTrue, IfNone, OnErr};
 ghost use Rattle.cg_text.specs.Bytes.{HasByte};
 ghost use Rattle.cg_text.specs.Texts.{Next, Lacks};
 ghost use Rattle.cg_text.specs.Token.{told};
@@ -8,7 +8,6 @@ ghost use Rattle.cg_value.specs.Lines.{unlines};
 ghost use Rattle.cg_value.specs.Weight.{weight_of_lines};
 ghost use Rattle.cg_value.specs.declared.value.Value.{Value};
 ghost use Rattle.cg_value.specs.declared.kind.ReadForm.{ReadForm};
-ghost use Rattle.cg_machine.specs.Built.{IsBuilt};
 ghost use Rattle.cg_line.specs.Place.{TakesLine};
 
 use crate::place::Place;
@@ -24,6 +23,15 @@ pub struct ValueReader {
     place: Place,
 }
 
+/// What became of a run of bytes.
+#[derive(Clone, Copy, Debug, PartialEq, Eq)]
+pub struct PushedRun {
+    /// How many of them were taken.
+    pub used: usize,
+    /// Why the next one was not. None where the last that was taken is a newline, or all were.
+    pub fault: Option<PushFault>,
+}
+
 /// A reader whose bytes are no whole file, handed back.
 #[derive(Drop)]
 pub struct ReaderCut {
@@ -32,10 +40,10 @@ pub struct ReaderCut {
 
 impl ValueReader {
     ghost use Rattle.cg_line.specs.Reads.{Reads, IsPushed, held_by};
+    ghost use Rattle.cg_line.specs.Runs.{IsPushedRun};
 
     /// A reader of a file of this kind, of which nothing was taken. It takes no memory.
     pub fn new(alloc: Global, kind: ReadKind) -> ValueReader
-        requires { IsBuilt kind }
         ensures reads { Reads result kind [] }
         ensures held { held_by result ≡ 0 }
     {
@@ -58,6 +66,53 @@ impl ValueReader {
                 Ok(())
             }
             Err(fault) => Err(fault),
+        }
+    }
+
+    /// Takes bytes of a line from the front of `bytes` at once, where the kind gains by it, and answers how many.
+    fn scan(&mut self, bytes: &[u8]) -> usize
+        ensures within { result ≤ length bytes.now }
+        ensures plain { Lacks 10 (take result bytes.now) }
+        ensures reads { (kind : ReadForm) (taken : List ℕ) → Reads self.old kind taken → Reads self.new kind (taken ++ take result bytes.now) }
+        ensures held { held_by self.new ≤ held_by self.old + result }
+    {
+        let used = self.machine.take_run(bytes);
+        if used > 0 {
+            self.place = Place::InLine;
+        }
+        used
+    }
+
+    /// Takes bytes from the front of `bytes` as `push` would take one after another: until a newline was taken, none is
+    /// left, or one is refused or memory is.
+    pub fn push_run(&mut self, bytes: &[u8]) -> PushedRun
+        ensures pushed { (kind : ReadForm) (taken : List ℕ) → Reads self.old kind taken → IsPushedRun self.new kind taken bytes.now result }
+        ensures within { result.used ≤ length bytes.now }
+        ensures goes_on { IfNone result.fault (0 < length bytes.now → 0 < result.used) }
+        ensures held { held_by self.new ≤ held_by self.old + result.used }
+    {
+        let begun = self.scan(bytes);
+        for used in begun..bytes.len() {
+            let byte = bytes[used];
+            match self.push(byte) {
+                Ok(()) => {}
+                Err(fault) => {
+                    return PushedRun {
+                        used,
+                        fault: Some(fault),
+                    };
+                }
+            }
+            if byte == b'\n' {
+                return PushedRun {
+                    used: used + 1,
+                    fault: None,
+                };
+            }
+        }
+        PushedRun {
+            used: bytes.len(),
+            fault: None,
         }
     }
 

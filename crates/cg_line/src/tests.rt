@@ -1,7 +1,7 @@
 //! Readers of files, byte by byte.
-use crate::{FileFault, PushFault, ValueReader, built_kind, decode_file};
+use crate::{FileFault, PushFault, ValueReader, decode_file};
 use cg_text::Limit;
-use cg_value::{Profile, Value};
+use cg_value::{Profile, Value, read_kind};
 use std::alloc::Global;
 use std::process::Abort;
 use std::test::Fail;
@@ -18,7 +18,7 @@ fn reader_in(
     name: &[u8],
     bytes: &[u8],
 ) -> Result<ValueReader, Fail> {
-    let kind = built_kind(profile, name)?;
+    let kind = read_kind(profile, name)?;
     let mut reader = ValueReader::new(alloc, kind);
     for byte in bytes {
         assert_eq!(rt; reader.push(*byte), Ok(()), "{bytes:?}");
@@ -26,10 +26,30 @@ fn reader_in(
     Ok(reader)
 }
 
+/// Runs of bytes, with how many are taken of each and why no more are.
+#[test]
+fn runs_of_bytes(rt: HostRuntime) -> Result<(), Fail> {
+    let rows: [(&[u8], &[u8], usize, Option<PushFault>); 7] = [
+        (b"hugetlb.2MB.max", b"ab\ncd\n", 3, None),
+        (b"hugetlb.2MB.max", b"abcd", 4, None),
+        (b"hugetlb.2MB.max", b"ab\0", 2, Some(PushFault::Refused)),
+        (b"hugetlb.2MB.max", b"", 0, None),
+        (b"cpu.weight", b"10001\n", 4, Some(PushFault::Refused)),
+        (b"cgroup.procs", b"7\n8\n", 2, None),
+        (b"cgroup.procs", b"78", 2, None),
+    ];
+    for (name, bytes, used, fault) in rows {
+        let run = reader(&rt, rt.alloc(), name, b"")?.push_run(bytes);
+        assert_eq!(rt; run.used, used, "{name:?} {bytes:?}");
+        assert_eq!(rt; run.fault, fault, "{name:?} {bytes:?}");
+    }
+    Ok(())
+}
+
 /// What may follow some bytes of a file.
 #[test]
 fn allowed_bytes(rt: HostRuntime) -> Result<(), Fail> {
-    let rows: [(&[u8], &[u8], &[u8]); 18] = [
+    let rows: [(&[u8], &[u8], &[u8]); 21] = [
         (b"cpuset.cpus", b"3-", b"123456789"),
         (b"cpuset.cpus", b"65533,", b"6"),
         (b"cpuset.cpus", b"65534", b"-\n"),
@@ -48,6 +68,9 @@ fn allowed_bytes(rt: HostRuntime) -> Result<(), Fail> {
         (b"cpu.weight", b"1\n", b""),
         (b"memory.max", b"", b"0123456789m"),
         (b"memory.max", b"ma", b"x"),
+        (b"cpuset.cpus.partition", b"root", b" \n"),
+        (b"io.weight", b"", b"d"),
+        (b"io.latency", b"8:16 ", b"t"),
     ];
     for (name, bytes, wanted) in rows {
         let allowed = reader(&rt, rt.alloc(), name, bytes)?.allowed();

@@ -1,5 +1,5 @@
 -- What a machine over a whole text does, by the rests that complete it. V is the type of the values.
-use Rattle.std.specs.Prelude.{◌≡◌, ℕ, ◌↔◌, List, [], ◌∷◌, ◌++◌, Result, Ok, Err}
+use Rattle.std.specs.Prelude.{◌≡◌, ℕ, ◌↔◌, ◌⊎◌, List, [], ◌∷◌, ◌++◌, Result, Ok, Err}
 use Rattle.cg_text.specs.Texts.{TextOf, Viable}
 use Rattle.cg_machine.specs.declared.machine.PushFault.{PushFault}
 use Rattle.cg_machine.specs.declared.machine.PushFault.TheVariants.{Refused, OutOfMemory}
@@ -20,6 +20,10 @@ module _ {V : Type 0} where
   Pushes P b Q (Ok u) = SameRests (λ rest v. P (b ∷ rest) v) Q × Goes Q
   Pushes P b Q (Err Refused) = SameRests P Q × NoRest P b
   Pushes P b Q (Err OutOfMemory) = SameRests P Q
+
+  -- What a run of bytes does to the rests.
+  abbrev pub Runs : (List ℕ → V → Type 0) → List ℕ → (List ℕ → V → Type 0) → Type 0
+  Runs P run Q = SameRests (λ rest v. P (run ++ rest) v) Q × ((run ≡ []) ⊎ Goes Q)
 
 -- The rests are those of a text of the relation of which these bytes were taken.
 pub record IsRead {V : Type 0} (Text : List ℕ → V → Type 0) (P : List ℕ → V → Type 0) (taken : List ℕ) : Type 0 where

@@ -2,35 +2,41 @@
 ghost use Rattle.std.specs.Prelude.{◌≡◌, ◌≤◌, []};
 ghost use Rattle.cg_value.specs.Kind.{IsReadForm};
 ghost use Rattle.cg_file.specs.Kinds.{TextsOf, held_of_whole};
-ghost use Rattle.cg_machine.specs.Built.{IsBuilt};
 ghost use Rattle.cg_machine.specs.Machine.{IsRead};
 
 use crate::flat_machine::{FlatMachine, flat_machine};
 use crate::limits_machine::{LimitsMachine, limits_machine};
-use crate::list_machine::{ListMachine, numbers_machine, raw_machine, set_machine, words_machine};
+use crate::list_machine::{ListMachine, numbers_machine, set_machine, words_machine};
 use crate::machine::{PushFault, TextMachine};
 use crate::nested_machine::{NestedMachine, nested_machine};
 use crate::one_of::OneOf;
+use crate::partition_machine::{PartitionMachine, partition_machine};
 use crate::pressure_machine::{PressureMachine, pressure_machine};
+use crate::raw_machine::{RawMachine, raw_machine};
 use crate::scalar_machine::{
     ScalarMachine, clamp_machine, cpu_max_machine, limit_machine, mode_machine, number_machine,
 };
 use crate::signed_machine::{SignedMachine, signed_machine};
 use crate::stats_machine::{StatsMachine, stats_machine};
+use crate::targets_machine::{TargetsMachine, targets_machine};
+use crate::weights_machine::{WeightsMachine, weights_machine};
 use cg_value::{ReadForm, ReadKind, Value};
 use std::alloc::Global;
 
 /// Files of one line.
-type OneLine = OneOf<ScalarMachine, SignedMachine>;
+type OneLine = OneOf<ScalarMachine, OneOf<SignedMachine, PartitionMachine>>;
 
-/// Files whose lines begin with keys, and lists.
-type Keyed = OneOf<OneOf<FlatMachine, NestedMachine>, OneOf<PressureMachine, ListMachine>>;
+/// Files of lists, and of raw lines.
+type Lists = OneOf<ListMachine, RawMachine>;
+
+/// Files whose lines begin with keys.
+type Keyed = OneOf<OneOf<FlatMachine, NestedMachine>, PressureMachine>;
 
 /// Files whose lines begin with devices.
-type Devices = OneOf<LimitsMachine, StatsMachine>;
+type Devices = OneOf<OneOf<LimitsMachine, WeightsMachine>, OneOf<TargetsMachine, StatsMachine>>;
 
 /// The machine of one of the kinds.
-type Tree = OneOf<OneLine, OneOf<Keyed, Devices>>;
+type Tree = OneOf<OneOf<OneLine, Lists>, OneOf<Keyed, Devices>>;
 
 /// A machine over the whole text of a file.
 #[derive(Drop)]
@@ -49,6 +55,10 @@ impl TextMachine for FileMachine {
 
     fn take_byte(&mut self, byte: u8) -> Result<(), PushFault> {
         self.tree.take_byte(byte)
+    }
+
+    fn take_run(&mut self, bytes: &[u8]) -> usize {
+        self.tree.take_run(bytes)
     }
 
     fn allows_byte(&self, byte: u8) -> bool {
@@ -70,37 +80,35 @@ impl TextMachine for FileMachine {
 
 /// The machine of one of the kinds.
 fn tree_of(alloc: Global, form: ReadForm) -> Tree
-    requires form { IsReadForm form }
-    requires built { IsBuilt form }
+    requires { IsReadForm form }
     ensures rests { IsRead (TextsOf form) (⟦<Tree as TextMachine>⟧.means result) [] }
     ensures size { ⟦<Tree as TextMachine>⟧.size result ≡ 0 }
 {
     use OneOf::{First, Second};
     match form {
-        ReadForm::Number { lo, hi } => First(First(number_machine(lo, hi))),
-        ReadForm::Limit => First(First(limit_machine())),
-        ReadForm::Mode => First(First(mode_machine())),
-        ReadForm::CpuMax => First(First(cpu_max_machine())),
-        ReadForm::Clamp => First(First(clamp_machine())),
-        ReadForm::Signed { lo, hi } => First(Second(signed_machine(lo, hi))),
+        ReadForm::Number { lo, hi } => First(First(First(number_machine(lo, hi)))),
+        ReadForm::Limit => First(First(First(limit_machine()))),
+        ReadForm::Mode => First(First(First(mode_machine()))),
+        ReadForm::CpuMax => First(First(First(cpu_max_machine()))),
+        ReadForm::Clamp => First(First(First(clamp_machine()))),
+        ReadForm::Signed { lo, hi } => First(First(Second(First(signed_machine(lo, hi))))),
+        ReadForm::Partition => First(First(Second(Second(partition_machine(alloc))))),
+        ReadForm::Numbers { lo, hi } => First(Second(First(numbers_machine(alloc, lo, hi)))),
+        ReadForm::Set { most } => First(Second(First(set_machine(alloc, most)))),
+        ReadForm::Words => First(Second(First(words_machine(alloc)))),
+        ReadForm::Raw => First(Second(Second(raw_machine(alloc)))),
         ReadForm::Flat => Second(First(First(First(flat_machine(alloc))))),
         ReadForm::Nested => Second(First(First(Second(nested_machine(alloc))))),
-        ReadForm::Pressure => Second(First(Second(First(pressure_machine())))),
-        ReadForm::Numbers { lo, hi } => Second(First(Second(Second(numbers_machine(
-            alloc, lo, hi,
-        ))))),
-        ReadForm::Set { most } => Second(First(Second(Second(set_machine(alloc, most))))),
-        ReadForm::Words => Second(First(Second(Second(words_machine(alloc))))),
-        ReadForm::Raw => Second(First(Second(Second(raw_machine(alloc))))),
-        ReadForm::DeviceLimits => Second(Second(First(limits_machine(alloc)))),
-        ReadForm::DeviceStats => Second(Second(Second(stats_machine(alloc)))),
-        ReadForm::DeviceWeights | ReadForm::DeviceTargets | ReadForm::Partition => unreachable!(),
+        ReadForm::Pressure => Second(First(Second(pressure_machine()))),
+        ReadForm::DeviceLimits => Second(Second(First(First(limits_machine(alloc))))),
+        ReadForm::DeviceWeights => Second(Second(First(Second(weights_machine(alloc))))),
+        ReadForm::DeviceTargets => Second(Second(Second(First(targets_machine(alloc))))),
+        ReadForm::DeviceStats => Second(Second(Second(Second(stats_machine(alloc))))),
     }
 }
 
 /// The machine of a kind of files.
 pub fn machine_of(alloc: Global, kind: ReadKind) -> FileMachine
-    requires { IsBuilt kind }
     ensures rests { IsRead (TextsOf kind) (⟦<FileMachine as TextMachine>⟧.means result) [] }
     ensures size { ⟦<FileMachine as TextMachine>⟧.size result ≡ 0 }
     ensures form { IsReadForm kind }

@@ -1,22 +1,19 @@
-//! The machines of files of one set, or of any number of numbers, words or raw lines.
+//! The machines of files of one set, or of any number of numbers or words.
 ghost use Rattle.std.specs.Prelude.{◌≡◌, ◌≤◌, []};
-ghost use Rattle.cg_value.specs.declared.kind.ReadForm.TheVariants.{Numbers as NumbersForm, Raw as RawForm, Set as SetForm, Words as WordsForm};
+ghost use Rattle.cg_value.specs.declared.kind.ReadForm.TheVariants.{Numbers as NumbersForm, Set as SetForm, Words as WordsForm};
 ghost use Rattle.cg_file.specs.Kinds.{TextsOf, held_of_whole};
 ghost use Rattle.cg_machine.specs.Machine.{IsRead};
 
 use crate::machine::{Opened, PushFault, TextMachine};
 use crate::one_of::{OneOf, Whole};
-use cg_file::many_files::{NumbersFile, RawFile, numbers_file, raw_file};
+use cg_file::many_files::{NumbersFile, numbers_file};
 use cg_file::one_line_files::{SetFile, set_file};
 use cg_file::words_file::{WordsFile, words_file};
 use cg_value::Value;
 use std::alloc::Global;
 
 /// The machine of one of the kinds.
-type Tree = OneOf<
-    OneOf<Whole<SetFile>, Whole<NumbersFile>>,
-    OneOf<Whole<WordsFile>, Whole<RawFile>>,
->;
+type Tree = OneOf<Whole<SetFile>, OneOf<Whole<NumbersFile>, Whole<WordsFile>>>;
 
 /// A machine over the whole text of a file of a list.
 #[derive(Drop)]
@@ -70,7 +67,7 @@ pub fn set_machine(alloc: Global, most: u32) -> ListMachine
     ensures size { ⟦<ListMachine as TextMachine>⟧.size result ≡ 0 }
 {
     ListMachine {
-        tree: OneOf::First(OneOf::First(Whole::new(set_file(alloc, most)))),
+        tree: OneOf::First(Whole::new(set_file(alloc, most))),
     }
 }
 
@@ -81,7 +78,7 @@ pub fn numbers_machine(alloc: Global, lo: u64, hi: u64) -> ListMachine
     ensures size { ⟦<ListMachine as TextMachine>⟧.size result ≡ 0 }
 {
     ListMachine {
-        tree: OneOf::First(OneOf::Second(Whole::new(numbers_file(alloc, lo, hi)))),
+        tree: OneOf::Second(OneOf::First(Whole::new(numbers_file(alloc, lo, hi)))),
     }
 }
 
@@ -91,16 +88,6 @@ pub fn words_machine(alloc: Global) -> ListMachine
     ensures size { ⟦<ListMachine as TextMachine>⟧.size result ≡ 0 }
 {
     ListMachine {
-        tree: OneOf::Second(OneOf::First(Whole::new(words_file(alloc)))),
-    }
-}
-
-/// The machine of a file of raw lines.
-pub fn raw_machine(alloc: Global) -> ListMachine
-    ensures rests { IsRead (TextsOf RawForm) (⟦<ListMachine as TextMachine>⟧.means result) [] }
-    ensures size { ⟦<ListMachine as TextMachine>⟧.size result ≡ 0 }
-{
-    ListMachine {
-        tree: OneOf::Second(OneOf::Second(Whole::new(raw_file(alloc)))),
+        tree: OneOf::Second(OneOf::Second(Whole::new(words_file(alloc)))),
     }
 }

@@ -1,7 +1,8 @@
 //! The machine of a reader: a token over the whole text of a file, or of a write.
-ghost use Rattle.std.specs.Prelude.{ℕ, List, [], ◌≡◌, ◌≤◌, ◌+◌, ◌↔◌, IsTrue, OnOk, OnErr};
+ghost use Rattle.std.specs.Prelude.{ℕ, List, [], ◌≡◌, ◌≤◌, ◌+◌, ◌↔◌, IsTrue, OnOk, OnErr, length, take};
+ghost use Rattle.cg_text.specs.Texts.{Lacks};
 ghost use Rattle.cg_text.specs.Token.{Begins, Ends, told};
-ghost use Rattle.cg_machine.specs.Machine.{Pushes};
+ghost use Rattle.cg_machine.specs.Machine.{Pushes, Runs};
 
 use thiserror::Error;
 
@@ -47,6 +48,18 @@ pub trait TextMachine: Drop {
         ensures size { size self.new ≤ size self.old + 1 }
         ensures same_size { OnErr result (size self.new ≡ size self.old) }
         ensures settled { OnOk result ((v : Self.Out) → means self.new [] v → holds v (size self.new)) };
+
+    /// Takes bytes from the front of `bytes`, none of them a newline, and answers how many. It may leave some that
+    /// `take_byte` would take, or all of them: only a machine that gains by a run takes any.
+    fn take_run(&mut self, bytes: &[u8]) -> usize
+        ensures within { result ≤ length bytes.now }
+        ensures plain { Lacks 10 (take result bytes.now) }
+        ensures runs { Runs (means self.old) (take result bytes.now) (means self.new) }
+        ensures size { size self.new ≤ size self.old + result }
+    {
+        let _ = bytes;
+        0
+    }
 
     /// Whether some rest begins with the byte.
     fn allows_byte(&self, byte: u8) -> bool

@@ -1,10 +1,12 @@
 //! Machines made of tokens: one of several, chosen when it is made.
-ghost use Rattle.std.specs.Prelude.{◌≡◌, ◌≤◌, ◌⊎◌};
+ghost use Rattle.std.specs.Prelude.{◌≡◌, ◌≤◌, ◌+◌, ◌⊎◌, length, take};
+ghost use Rattle.cg_text.specs.Texts.{Lacks};
 ghost use Rattle.cg_text.specs.Token.{Completes};
+ghost use Rattle.cg_machine.specs.Machine.{Runs};
 
 use crate::machine::{PushFault, TextMachine};
 use cg_join::Settled;
-use cg_text::Token;
+use cg_text::{Scan, Token};
 
 /// The machine of a token over whole texts.
 #[derive(Drop)]
@@ -19,6 +21,18 @@ impl<T: Settled> Whole<T> {
         ensures goes { Completes T.means token }
     {
         Whole { token }
+    }
+}
+
+impl<T: Settled + Scan> Whole<T> {
+    /// Takes bytes from the front of `bytes`, as the token does.
+    pub fn scan(&mut self, bytes: &[u8]) -> usize
+        ensures within { result ≤ length bytes.now }
+        ensures plain { Lacks 10 (take result bytes.now) }
+        ensures runs { Runs (⟦<Whole<T> as TextMachine>⟧.means self.old) (take result bytes.now) (⟦<Whole<T> as TextMachine>⟧.means self.new) }
+        ensures size { ⟦<Whole<T> as TextMachine>⟧.size self.new ≤ ⟦<Whole<T> as TextMachine>⟧.size self.old + result }
+    {
+        self.token.scan(bytes)
     }
 }
 
@@ -78,6 +92,13 @@ impl<A: TextMachine, B: TextMachine<Out = A::Out>> TextMachine for OneOf<A, B> {
         match self {
             OneOf::First(a) => a.take_byte(byte),
             OneOf::Second(b) => b.take_byte(byte),
+        }
+    }
+
+    fn take_run(&mut self, bytes: &[u8]) -> usize {
+        match self {
+            OneOf::First(a) => a.take_run(bytes),
+            OneOf::Second(b) => b.take_run(bytes),
         }
     }
 

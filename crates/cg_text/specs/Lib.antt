@@ -40,6 +40,8 @@ pub mod RangesState
 pub mod Raw
 pub mod RawLaws
 pub mod RawState
+pub mod Scan
+pub mod ScanLaws
 pub mod Signed
 pub mod SignedLaws
 pub mod SignedState

@@ -6,7 +6,9 @@ ghost use Rattle.cg_text.specs.Token.{Spells};
 
 use crate::items::Items;
 use crate::memory::OutOfMemory;
+use crate::scan::Scan;
 use crate::token::Token;
+use memchr::memchr2;
 use std::alloc::Global;
 
 /// Any bytes 1 to 255 but newlines, also none.
@@ -89,6 +91,20 @@ impl Token for RawText {
     ghost one_value = { λ s. raw_one s.bytes.items };
 
     ghost holds_bytes = { λ s rest v h. raw_bytes rest h.raw };
+}
+
+impl Scan for RawText {
+    fn scan(&mut self, bytes: &[u8]) -> usize {
+        let count = match memchr2(0, b'\n', bytes) {
+            Some(place) => place,
+            None => bytes.len(),
+        };
+        let (run, _) = bytes.split_at(count);
+        match self.bytes.extend_from_slice(run) {
+            Ok(()) => count,
+            Err(_) => 0,
+        }
+    }
 }
 
 #[cfg(test)]

@@ -1,17 +1,21 @@
 -- How a piece is taken.
-use Rattle.std.proofs.Common.{◌≡◌, ℕ, Bool, ◌+◌, ◌<◌, ◌≤◌, List, [], ◌∷◌, ◌++◌, take, drop, length, get_or, Option, Some, None, refl, sym, ap, ◌∙◌, append_assoc, append-nil, arith, length-append, length-take}
-use Rattle.std.proofs.lemmas.List.{take_more, take_all}
+use Rattle.std.proofs.Common.{◌≡◌, ℕ, zero, suc, Bool, ◌+◌, ◌-◌, ◌<◌, ◌≤◌, List, [], ◌∷◌, ◌++◌, take, drop, length, get_or, Option, Some, None, refl, sym, ap, ◌∙◌, append_assoc, append-nil, arith, length-append, length-drop, length-take}
+use Rattle.std.proofs.Math.Seq.{take-add}
+use Rattle.std.proofs.lemmas.List.{get_or-drop, get_or-take, take_more, take_all}
 use Rattle.cg_text.specs.Texts.{Next}
 use Rattle.cg_value.specs.Files.{KindFile}
 use Rattle.cg_value.specs.declared.kind.ReadForm.{ReadForm}
+use Rattle.cg_machine.specs.declared.machine.PushFault.{PushFault}
+use Rattle.cg_machine.specs.declared.machine.PushFault.TheVariants as push
 use Rattle.cg_line.specs.Reads.{Reads, reads_viable}
+use Rattle.cg_line.specs.Runs.{RunStops}
 use Rattle.cg_line.specs.declared.reader.ValueReader.{ValueReader}
 use Rattle.cg_snap.specs.Stop.{IsTextUnstopped, TextStopOf}
 use Rattle.cg_snap.specs.declared.stop.Stop.{Stop}
 use Rattle.cg_snap.specs.declared.stop.Stop.TheVariants.{Refused, TooMuch}
 use Rattle.cg_snap.specs.declared.stop.Why.TheVariants.{Line}
 use Rattle.std.specs.Io.KnownBytes.{Consumes, Keeps}
-use Rattle.cgfile.specs.Reading.{GoesOn, TookPiece, EndsBy}
+use Rattle.cgfile.specs.Reading.{ending_of, GoesOn, TookPiece, EndsBy}
 use Rattle.cgfile.specs.declared.reading.Ending.{Ending}
 use Rattle.cgfile.specs.declared.reading.Ending.TheVariants.{End, Stopped, ReadFault, OutOfMemory}
 use Rattle.cgfile.proofs.Stops.{unstopped, stop_refused, stop_longer, piece_at}
@@ -42,6 +46,41 @@ piece_refused kind max reader taken piece i place within e h none =
     let at : place ≡ length (taken ++ take i piece) = e ∙ sym (place_is taken piece i within) in
     let here = stop_refused (KindFile kind) max (taken ++ take i piece) (get_or piece i 0) (reads_viable reader kind _ h.0) h.1 none in
     rw (at, ← piece_at taken piece i within) (stop_longer (KindFile kind) max _ (drop (i + 1) piece) _ here)
+
+-- ---- A run of the piece's bytes: so many of those in front of what is left of it
+
+take_less : (n m : ℕ) (xs : List ℕ) → n ≤ m → take n (take m xs) ≡ take n xs
+take_less zero m xs less = refl
+take_less (suc n) zero xs less = absurd (omega (arith, less))
+take_less (suc n) (suc m) [] less = refl
+take_less (suc n) (suc m) (x ∷ xs) less = ap (λ t. x ∷ t) (take_less n m xs (omega (arith, less)))
+
+module _ (piece rest front : List ℕ) (used n : ℕ) (rest_is : rest ≡ drop used piece) (front_is : front ≡ take (length front) rest) where
+  run_front : n ≤ length front → take (used + n) piece ≡ take used piece ++ take n front
+  run_front within =
+      let here : take n front ≡ take n rest = ap (λ t. take n t) front_is ∙ take_less n (length front) rest within in
+      take-add used n piece ∙ ap (λ t. take used piece ++ t) (sym (here ∙ ap (λ t. take n t) rest_is))
+
+  front_byte : n < length front → get_or front n 0 ≡ get_or piece (used + n) 0
+  front_byte within = ap (λ t. get_or t n 0) front_is ∙ get_or-take (length front) rest n 0 within ∙ ap (λ t. get_or t n 0) rest_is ∙ get_or-drop used piece n 0
+
+  front_within : length front ≤ length piece - used
+  front_within = omega (arith, ap length front_is, length-take (length front) rest, ap length rest_is, length-drop used piece)
+
+  -- It was taken.
+  pub goes_run : (kind : ReadForm) (max : ℕ) (new : ValueReader) (taken : List ℕ) → n ≤ length front → length taken + used + n ≤ max → Reads new kind ((taken ++ take used piece) ++ take n front) → GoesOn kind max new (taken ++ take (used + n) piece)
+  goes_run kind max new taken within room h =
+      let same : (taken ++ take used piece) ++ take n front ≡ taken ++ take (used + n) piece = append_assoc taken (take used piece) (take n front) ∙ ap (λ t. taken ++ t) (sym (run_front within)) in
+      (rw same at h, omega (arith, room, length-append taken (take (used + n) piece), length-take (used + n) piece))
+
+  -- The byte after it was not.
+  pub run_stopped : (kind : ReadForm) (max at place : ℕ) (new : ValueReader) (taken : List ℕ) (fault : PushFault) → at ≡ length taken → place ≡ at + used → used ≤ length piece → place + n ≤ max → n ≤ length front →
+      Reads new kind ((taken ++ take used piece) ++ take n front) → RunStops kind (taken ++ take used piece) front n (Some fault) → TookPiece kind max taken piece new (Some (ending_of fault (place + n)))
+  run_stopped kind max at place new taken push.Refused e f here room most h stops =
+      let same : (taken ++ take used piece) ++ take n front ≡ taken ++ take (used + n) piece = append_assoc taken (take used piece) (take n front) ∙ ap (λ t. taken ++ t) (sym (run_front most)) in
+      let goes = goes_run kind max new taken most (omega (arith, e, f, room)) h in
+      piece_refused kind max new taken piece (used + n) (place + n) (omega (arith, stops.0, front_within, here)) (omega (arith, e, f)) goes (rw (same, front_byte stops.0) at stops.2)
+  run_stopped kind max at place new taken push.OutOfMemory e f here room most h stops = tt
 
 -- A stop at a byte of the piece.
 pub piece_stopped : (kind : ReadForm) (max : ℕ) (taken piece : List ℕ) (i place : ℕ) (stop : Stop) → i < length piece → place ≡ max →

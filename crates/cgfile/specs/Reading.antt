@@ -5,13 +5,22 @@ use Rattle.cg_value.specs.Files.{KindFile}
 use Rattle.cg_value.specs.declared.kind.ReadForm.{ReadForm}
 use Rattle.cg_line.specs.Reads.{Reads}
 use Rattle.cg_line.specs.declared.reader.ValueReader.{ValueReader}
+use Rattle.cg_machine.specs.declared.machine.PushFault.{PushFault}
+use Rattle.cg_machine.specs.declared.machine.PushFault.TheVariants as push
 use Rattle.cg_snap.specs.Stop.{IsTextUnstopped, TextStopOf}
+use Rattle.cg_snap.specs.declared.stop.Stop.TheVariants.{Refused}
+use Rattle.cg_snap.specs.declared.stop.Why.TheVariants.{Line}
 use Rattle.cgfile.specs.declared.reading.Ending.{Ending}
 use Rattle.cgfile.specs.declared.reading.Ending.TheVariants.{End, Stopped, ReadFault, OutOfMemory}
 
 -- The reader took these bytes, of which none stops the run.
 abbrev pub GoesOn : ReadForm → ℕ → ValueReader → List ℕ → Type 0
 GoesOn kind max reader taken = Reads reader kind taken × (length taken ≤ max)
+
+-- How reading ends at a byte of a place, which was not taken.
+abbrev pub ending_of : PushFault → ℕ → Ending
+ending_of push.Refused at = Stopped (Refused at Line)
+ending_of push.OutOfMemory at = OutOfMemory
 
 -- How taking a piece went, after the bytes taken before: all of it was taken, or why not.
 abbrev pub TookPiece : ReadForm → ℕ → List ℕ → List ℕ → ValueReader → Option Ending → Type 0

@@ -4,7 +4,7 @@ use Rattle.std.specs.Io.KnownBytes.{Appends, Consumes, IsAtEnd}
 use Rattle.cg_text.specs.Token.{told}
 use Rattle.cg_value.specs.Files.{KindText, KindFile}
 use Rattle.cg_value.specs.Print.{print_of}
-use Rattle.cg_machine.specs.Built.{read_now}
+use Rattle.cg_value.specs.Table.{read_form_of}
 use Rattle.cg_value.specs.declared.profile.Profile.{Profile}
 use Rattle.cg_value.specs.declared.kind.ReadForm.{ReadForm}
 use Rattle.cg_value.specs.declared.value.Value.{Value}
@@ -94,7 +94,7 @@ unbuilt c = out.NotReadable
 
 -- The outcome that is right for what was read, with the parts that are written before the last line.
 abbrev pub IsRight : Profile → Command → Limits → Reading → Outcome → List (List ℕ) → Type 0
-IsRight profile (command.File name) limits r o parts = IsNameRight (read_now profile name.items) limits.max_stream r o parts
+IsRight profile (command.File name) limits r o parts = IsNameRight (read_form_of profile name.items) limits.max_stream r o parts
 IsRight profile c limits r o parts = IsIdleRight (unbuilt c) r o parts
 
 abbrev pub joined : List (List ℕ) → List ℕ
@@ -123,5 +123,5 @@ Ran profile c limits = DidRun (IsRight profile c limits)
 
 -- A command that reads nothing and takes no memory: it isn't built, or names a file that can't be read.
 abbrev pub IsIdle : Profile → Command → Type 0
-IsIdle profile (command.File name) = read_now profile name.items ≡ None
+IsIdle profile (command.File name) = read_form_of profile name.items ≡ None
 IsIdle profile c = Unit {0}

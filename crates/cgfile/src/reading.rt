@@ -1,10 +1,10 @@
 //! Reading one file from a source.
-ghost use Rattle.std.specs.Prelude.{◌≡◌, ◌≤◌, ◌<◌, ◌+◌, ℕ, List, [], ◌∷◌, ◌++◌, false, length, IfNone};
+ghost use Rattle.std.specs.Prelude.{◌≡◌, ◌≤◌, ◌<◌, ◌+◌, ℕ, List, [], ◌∷◌, ◌++◌, false, length, take, IfNone};
 ghost use Rattle.cg_value.specs.declared.kind.ReadForm.{ReadForm};
 ghost use Rattle.cg_value.specs.Files.{KindFile};
 ghost use Rattle.cg_line.specs.Reads.{Reads};
 ghost use Rattle.cg_snap.specs.Stop.{TextStopOf};
-ghost use Rattle.cgfile.specs.Reading.{GoesOn, TookPiece, HasRead};
+ghost use Rattle.cgfile.specs.Reading.{ending_of, GoesOn, TookPiece, HasRead};
 
 use crate::source::Source;
 use cg_line::{PushFault, ValueReader};
@@ -34,26 +34,47 @@ fn stop_at_limit(reader: &ValueReader, byte: u8, at: u64) -> Stop
     }
 }
 
+/// As many bytes from the front as there is room for.
+fn front_of(bytes: &[u8], room: u64) -> &[u8]
+    ensures front { result.now ≡ take (length result.now) bytes.now }
+    ensures most { length result.now ≤ room }
+    ensures some { 0 < room → 0 < length bytes.now → 0 < length result.now }
+{
+    if room < bytes.len() as u64 {
+        bytes.split_at(room as usize).0
+    } else {
+        bytes
+    }
+}
+
+/// How reading ends at a byte of this place, which was not taken.
+fn ending_at(fault: PushFault, at: u64) -> Ending
+    ensures { result ≡ ending_of fault at }
+{
+    match fault {
+        PushFault::Refused => Ending::Stopped(Stop::Refused { at, why: Why::Line }),
+        PushFault::OutOfMemory => Ending::OutOfMemory,
+    }
+}
+
 /// Takes the bytes of a piece, of which the first has the place `at`.
 fn take_piece(reader: &mut ValueReader, piece: &[u8], at: u64, max: u64) -> Option<Ending>
     requires { at ≤ max }
     ensures took { (kind : ReadForm) (taken : List ℕ) → at ≡ length taken → GoesOn kind max reader.old taken → TookPiece kind max taken piece.now reader.new result }
     ensures room { IfNone result (at + length piece.now ≤ max) }
 {
-    let mut place = at;
-    for byte in piece {
+    let mut used = 0;
+    while used < piece.len() {
+        let place = at + used as u64;
         if place == max {
-            return Some(Ending::Stopped(stop_at_limit(reader, *byte, place)));
+            return Some(Ending::Stopped(stop_at_limit(reader, piece[used], place)));
         }
-        match reader.push(*byte) {
-            Ok(()) => place += 1,
-            Err(PushFault::Refused) => {
-                return Some(Ending::Stopped(Stop::Refused {
-                    at: place,
-                    why: Why::Line,
-                }));
-            }
-            Err(PushFault::OutOfMemory) => return Some(Ending::OutOfMemory),
+        let (_, rest) = piece.split_at(used);
+        let run = reader.push_run(front_of(rest, max - place));
+        used += run.used;
+        match run.fault {
+            None => {}
+            Some(fault) => return Some(ending_at(fault, place + run.used as u64)),
         }
     }
     None

@@ -1,6 +1,6 @@
 //! The program's run.
 ghost use Rattle.std.specs.Prelude.{◌≡◌, ◌≢◌, ◌≤◌, ◌+◌, ℕ, List, false, None, length};
-ghost use Rattle.cg_machine.specs.Built.{IsBuilt, read_now};
+ghost use Rattle.cg_value.specs.Table.{read_form_of};
 ghost use Rattle.cgfile.specs.Outcome.{last_line, is_write_fault};
 ghost use Rattle.cg_line.specs.Reads.{Reads};
 ghost use Rattle.cg_value.specs.Files.{KindText};
@@ -13,10 +13,10 @@ use crate::outcome::Outcome;
 use crate::reading::{Ending, read_all};
 use crate::source::Source;
 use crate::words::Command;
-use cg_line::{ValueReader, built_kind};
+use cg_line::ValueReader;
 use cg_print::{Sink, WriteStopped, print_file, write_text};
 use cg_snap::{Limits, Stop};
-use cg_value::{Profile, ReadKind, Value};
+use cg_value::{Profile, ReadKind, Value, read_kind};
 use std::alloc::Global;
 
 /// How many bytes are read at once.
@@ -72,7 +72,6 @@ fn run_kind<R: Source, W: Sink>(
     writer: &mut W,
     max: u64,
 ) -> Outcome
-    requires { IsBuilt kind }
     ensures ran { R.has_failed reader.old ≡ false → DidRun (IsFileRight kind max)
         (R.coming reader.old) (R.coming reader.new) (R.has_failed reader.new)
         (W.taken writer.old) (W.taken writer.new) (W.has_failed writer.new) result }
@@ -97,14 +96,14 @@ fn run_file<R: Source, W: Sink>(
     writer: &mut W,
     max: u64,
 ) -> Outcome
-    ensures ran { R.has_failed reader.old ≡ false → DidRun (IsNameRight (read_now profile name.now) max)
+    ensures ran { R.has_failed reader.old ≡ false → DidRun (IsNameRight (read_form_of profile name.now) max)
         (R.coming reader.old) (R.coming reader.new) (R.has_failed reader.new)
         (W.taken writer.old) (W.taken writer.new) (W.has_failed writer.new) result }
     ensures asks { R.asks reader.new ≤ R.asks reader.old + max + 1 }
-    ensures unasked { read_now profile name.now ≡ None → R.asks reader.new ≡ R.asks reader.old }
-    ensures no_memory { read_now profile name.now ≡ None → result ≢ Outcome.OutOfMemory }
+    ensures unasked { read_form_of profile name.now ≡ None → R.asks reader.new ≡ R.asks reader.old }
+    ensures no_memory { read_form_of profile name.now ≡ None → result ≢ Outcome.OutOfMemory }
 {
-    match built_kind(profile, name) {
+    match read_kind(profile, name) {
         Ok(kind) => run_kind(alloc, kind, reader, writer, max),
         Err(_) => told_line(writer, Outcome::NotReadable),
     }

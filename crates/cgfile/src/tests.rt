@@ -134,7 +134,7 @@ const ROWS: [(&str, &[u8], &[u8], u8); 45] = [
 ];
 
 /// Rows of files of signed numbers, of pairs, devices, partitions and pressure.
-const KEYED_ROWS: [(&str, &[u8], &[u8], u8); 21] = [
+const KEYED_ROWS: [(&str, &[u8], &[u8], u8); 29] = [
     ("cpu.weight.nice", b"-20\n", b"-20\n", 0),
     (
         "cpu.weight.nice",
@@ -178,17 +178,55 @@ const KEYED_ROWS: [(&str, &[u8], &[u8], u8); 21] = [
         0,
     ),
     ("io.max", b"8:16 w", b"cgfile: refused at 5: line\n", 1),
-    ("io.weight", b"default 100\n", b"cgfile: not readable\n", 1),
     (
-        "io.latency",
-        b"8:16 target=75\n",
-        b"cgfile: not readable\n",
+        "io.weight",
+        b"default 100\n8:16 200\n",
+        b"default 100\n8:16 200\n",
+        0,
+    ),
+    (
+        "io.weight",
+        b"8:16 200\n",
+        b"cgfile: refused at 0: line\n",
         1,
     ),
     (
+        "io.weight",
+        b"default 10001\n",
+        b"cgfile: refused at 12: line\n",
+        1,
+    ),
+    ("io.weight", b"", b"cgfile: cut at 0\n", 1),
+    ("io.latency", b"8:16 target=75\n", b"8:16 target=75\n", 0),
+    (
+        "io.latency",
+        b"8:16 target=x",
+        b"cgfile: refused at 12: line\n",
+        1,
+    ),
+    ("io.latency", b"", b"", 0),
+    (
         "cpuset.cpus.partition",
-        b"root\n",
-        b"cgfile: not readable\n",
+        b"root invalid\n",
+        b"root invalid\n",
+        0,
+    ),
+    (
+        "cpuset.cpus.partition",
+        b"isolated invalid ()\n",
+        b"isolated invalid ()\n",
+        0,
+    ),
+    (
+        "cpuset.cpus.partition",
+        b"root invalid (a) b)\n",
+        b"root invalid (a) b)\n",
+        0,
+    ),
+    (
+        "cpuset.cpus.partition",
+        b"member invalid\n",
+        b"cgfile: refused at 6: line\n",
         1,
     ),
     (

@@ -3,30 +3,20 @@ use Rattle.cg_text.specs.Keyword.{text_of}
 use Rattle.cg_text.specs.declared.keyword.Keyword.TheVariants.{Root, Isolated}
 use Rattle.cg_join.specs.ApartLaws.{lacking_apart}
 use Rattle.cg_join.specs.BeginsLaws.{label_begins, maybe_begins_by}
-use Rattle.cg_join.specs.CutLaws.{label_spells}
 use Rattle.cg_join.specs.DisjointLaws.{fixed_disjoint}
-use Rattle.cg_join.specs.FilledLaws.{filled_spelled, first_filled, fixed_filled}
 use Rattle.cg_join.specs.LackingLaws.{either_lacking, fixed_lacking}
-use Rattle.cg_join.specs.MaybeLaws.{maybe_spells}
 use Rattle.cg_join.specs.Spelling.{apart_spells, none_spells, choice_spells, sequence_spells}
 use Rattle.cg_file.proofs.partition_file.root_text.Goals as goal
 
 pub new-role-requires-clause-apart : goal.new-role-requires-clause-apart
 new-role-requires-clause-apart c = none_spells c.new-root.ensures.spells c.new-isolated.ensures.spells (fixed_disjoint (text_of Root) (text_of Isolated) refl)
 
-pub new-requires-2 : goal.new-requires-2
-new-requires-2 c =
+pub new-requires : goal.new-requires
+new-requires c =
     let role = choice_spells c.new-root.ensures.spells c.new-isolated.ensures.spells c.new-role.ensures.spells in
-    let reason = maybe_spells (label_spells c.new.ensures.spells c.labelled.ensures.spells) c.new-reason.ensures.spells in
-    let invalid = maybe_spells (label_spells reason c.labelled-2.ensures.spells) c.new-invalid.ensures.spells in
-    apart_spells role invalid (lacking_apart (either_lacking (fixed_lacking 32 (text_of Root) refl) (fixed_lacking 32 (text_of Isolated) refl)) (maybe_begins_by (label_begins 32 _)))
-
-pub new-invalid-requires-clause-filled : goal.new-invalid-requires-clause-filled
-new-invalid-requires-clause-filled c = filled_spelled c.labelled-2.ensures.spells (first_filled (fixed_filled 32 _))
+    apart_spells role c.invalid_text.ensures.spells (lacking_apart (either_lacking (fixed_lacking 32 (text_of Root) refl) (fixed_lacking 32 (text_of Isolated) refl)) (maybe_begins_by (label_begins 32 _)))
 
 pub returns-clause-spells : goal.returns-clause-spells
 returns-clause-spells c =
     let role = choice_spells c.new-root.ensures.spells c.new-isolated.ensures.spells c.new-role.ensures.spells in
-    let reason = maybe_spells (label_spells c.new.ensures.spells c.labelled.ensures.spells) c.new-reason.ensures.spells in
-    let invalid = maybe_spells (label_spells reason c.labelled-2.ensures.spells) c.new-invalid.ensures.spells in
-    sequence_spells role invalid c.new-2.ensures.spells
+    sequence_spells role c.invalid_text.ensures.spells c.new.ensures.spells

@@ -16,4 +16,4 @@ returns-clause-same_size c = c.take_byte.ensures.same_size
 
 pub returns-clause-settled : goal.returns-clause-settled
 unfolding list_rests list_room
-returns-clause-settled c = on_ok_as c.take_byte.result (λ h v k. either (either same same) (either same same) (h v k)) c.take_byte.ensures.settled
+returns-clause-settled c = on_ok_as c.take_byte.result (λ h v k. either same (either same same) (h v k)) c.take_byte.ensures.settled

@@ -1,0 +1,22 @@
+-- What a run of bytes leaves of a reader.
+use Rattle.std.specs.Prelude.{◌≡◌, ℕ, ◌<◌, ◌⊎◌, List, [], ◌∷◌, ◌++◌, length, take, get_or, Option, Some, None}
+use Rattle.cg_text.specs.Texts.{Lacks, Next}
+use Rattle.cg_value.specs.Files.{KindFile}
+use Rattle.cg_value.specs.declared.kind.ReadForm.{ReadForm}
+use Rattle.cg_machine.specs.declared.machine.PushFault.{PushFault}
+use Rattle.cg_machine.specs.declared.machine.PushFault.TheVariants.{Refused, OutOfMemory}
+use Rattle.cg_line.specs.Reads.{Reads}
+use Rattle.cg_line.specs.declared.reader.PushedRun.{PushedRun}
+use Rattle.cg_line.specs.declared.reader.ValueReader.{ValueReader}
+
+-- Where a run ends, so many of whose bytes were taken: where no byte is left, or after its first newline; or before it at
+-- a byte with which no file of the kind goes on, or for which memory was refused.
+abbrev pub RunStops : ReadForm → List ℕ → List ℕ → ℕ → Option PushFault → Type 0
+RunStops kind taken bytes used None = ((used ≡ length bytes) × Lacks 10 bytes) ⊎ ((line : List ℕ) × (take used bytes ≡ line ++ 10 ∷ []) × Lacks 10 line)
+RunStops kind taken bytes used (Some Refused) = (used < length bytes) × Lacks 10 (take used bytes) × (Next (KindFile kind) (taken ++ take used bytes) (get_or bytes used 0) → ⊥)
+RunStops kind taken bytes used (Some OutOfMemory) = (used < length bytes) × Lacks 10 (take used bytes)
+
+-- The bytes that were taken, and why no more were.
+pub record IsPushedRun (r : ValueReader) (kind : ReadForm) (taken bytes : List ℕ) (run : PushedRun) : Type 0 where
+  pub reads : Reads r kind (taken ++ take run.used bytes)
+  pub stops : RunStops kind taken bytes run.used run.fault

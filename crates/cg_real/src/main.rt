@@ -1,0 +1,89 @@
+//! Reads files that real kernels printed, in both profiles, and writes each back. Prints a line for each that isn't given
+//! back byte for byte, and how many are.
+//!
+//! The names of the files come on standard input, one a line: `NAME.N` in `data` holds the whole content of one file of
+//! the name NAME, and N only tells several contents apart.
+#![tactic(auto)]
+
+use cg_line::{FileFault, decode_file};
+use cg_print::print_file;
+use cg_value::Profile;
+use std::alloc::Global;
+use std::process::ExitCode;
+use std::{fs, io};
+
+/// What became of a file.
+enum Fate {
+    Same,
+    /// It has no bytes, and one empty line is written.
+    EmptyLine,
+    /// The text that is written is another.
+    Other,
+    Unread(FileFault),
+    OutOfMemory,
+}
+
+/// Reads the bytes of a file of this name and writes its value back.
+fn fate_of(alloc: Global, profile: Profile, name: &[u8], bytes: &[u8]) -> Fate {
+    let value = match decode_file(alloc, profile, name, bytes) {
+        Ok(value) => value,
+        Err(fault) => return Fate::Unread(fault),
+    };
+    match print_file(alloc, &value) {
+        Ok(text) => {
+            if text.as_slice() == bytes {
+                Fate::Same
+            } else if bytes.is_empty() && text.as_slice() == b"\n".as_slice() {
+                Fate::EmptyLine
+            } else {
+                Fate::Other
+            }
+        }
+        Err(_) => Fate::OutOfMemory,
+    }
+}
+
+/// The name of the file whose content this one holds: what stands before the last dot.
+fn name_of(copy: &str) -> &str {
+    match copy.rfind('.') {
+        Some(dot) => &copy[..dot],
+        None => copy,
+    }
+}
+
+/// Whether a file is given back byte for byte. Prints a line where it isn't.
+fn is_given_back(rt: &HostRuntime, profile: Profile, copy: &str) -> io::Result<bool> {
+    let mut path = String::new(rt.alloc());
+    path.push_str("data/")?;
+    path.push_str(copy)?;
+    let bytes = fs::read(rt, path.as_str())?;
+    match fate_of(
+        rt.alloc(),
+        profile,
+        name_of(copy).as_bytes(),
+        bytes.as_slice(),
+    ) {
+        Fate::Same => return Ok(true),
+        Fate::EmptyLine => println!(rt; "{copy}: no bytes, written as one empty line")?,
+        Fate::Other => println!(rt; "{copy}: written otherwise")?,
+        Fate::Unread(fault) => println!(rt; "{copy}: {fault}")?,
+        Fate::OutOfMemory => println!(rt; "{copy}: out of memory")?,
+    }
+    Ok(false)
+}
+
+fn main(rt: HostRuntime) -> io::Result<ExitCode> {
+    let mut same: u64 = 0;
+    let mut all: u64 = 0;
+    for line in rt.lines(rt.alloc()) {
+        let copy = line?;
+        for profile in [Profile::One, Profile::Two] {
+            all = all.saturating_add(1);
+            if is_given_back(&rt, profile, copy.as_str())? {
+                same = same.saturating_add(1);
+            }
+        }
+    }
+    println!(rt; "{same} of {all} texts are written back byte for byte")?;
+    Ok(ExitCode::from(0))
+}

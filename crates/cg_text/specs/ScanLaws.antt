@@ -1,0 +1,36 @@
+-- What holds of the bytes that a raw line takes at once.
+use Rattle.std.proofs.Common.{◌≡◌, ◌≢◌, ℕ, zero, suc, ◌+◌, ◌≤◌, ◌<◌, ◌↔◌, Bool, true, false, ◌||◌, List, [], ◌∷◌, ◌++◌, length, take, get_or, Option, Some, None, refl, sym, ◌∙◌, append_assoc, arith, eq-eqb, nat_eq}
+use Rattle.memchr.specs.Find.{Nowhere, Passes, is_byte2}
+use Rattle.cg_text.specs.Raw.{IsRawLine}
+use Rattle.cg_text.specs.RawLaws.{raw_append}
+use Rattle.cg_text.specs.RawState.{IsRawRest}
+use Rattle.cg_text.specs.Texts.{Lacks}
+
+-- Where no byte in front of a place is 0 or a newline, those bytes are of a raw line.
+pub raw_front : (bytes : List ℕ) (n : ℕ) → ((i : ℕ) → get_or bytes i 0 < 256) → ((i : ℕ) → i < n → i < length bytes → (get_or bytes i 0 ≢ 0) × (get_or bytes i 0 ≢ 10)) → IsRawLine (take n bytes)
+raw_front [] zero small none = tt
+raw_front [] (suc n) small none = tt
+raw_front (c ∷ cs) zero small none = tt
+raw_front (c ∷ cs) (suc n) small none =
+    let first = none 0 (omega arith) (omega arith) in
+    (omega (arith, first.0), small 0, first.1, raw_front cs n (λ i. small (suc i)) (λ i h k. none (suc i) (omega (arith, h)) (omega (arith, k))))
+
+-- The same where a search for both finds nothing in front of the place.
+pub raw_searched : (bytes : List ℕ) (n : ℕ) → ((i : ℕ) → get_or bytes i 0 < 256) → Nowhere (Passes (is_byte2 0 10) bytes) 0 n → IsRawLine (take n bytes)
+raw_searched bytes n small none = raw_front bytes n small (λ i h k. (λ e. none i (omega arith) h (rw e refl), λ e. none i (omega arith) h (rw e refl)))
+
+-- A raw line has no newline.
+pub raw_plain : (xs : List ℕ) → IsRawLine xs → Lacks 10 xs
+raw_plain [] h = tt
+raw_plain (c ∷ cs) h = (h.2, raw_plain cs h.3)
+
+raw_rest : (xs ys : List ℕ) → IsRawLine (xs ++ ys) → IsRawLine ys
+raw_rest [] ys h = h
+raw_rest (x ∷ xs) ys h = raw_rest xs ys h.3
+
+-- What is left of a raw line after a run of its bytes.
+pub raw_run : (taken run rest line : List ℕ) → IsRawLine run → IsRawRest (taken ++ run) rest line ↔ IsRawRest taken (run ++ rest) line
+raw_run taken run rest line r = (
+  λ h. record { whole = h.whole ∙ append_assoc taken run rest; raw = raw_append run rest r h.raw },
+  λ h. record { whole = h.whole ∙ sym (append_assoc taken run rest); raw = raw_rest run rest h.raw },
+)

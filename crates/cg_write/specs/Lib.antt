@@ -1,0 +1,11 @@
+pub mod ControllerLaws
+pub mod DeviceLaws
+pub mod FollowedLaws
+pub mod NumberLaws
+pub mod PlainLaws
+pub mod Texts
+pub mod ToggleLaws
+pub mod TriggerLaws
+pub mod Turned
+pub mod WeightLaws
+pub mod WriteLaws

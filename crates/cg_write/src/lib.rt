@@ -1,0 +1,13 @@
+//! The text of one whole write of each kind, as a token.
+#![tactic(auto)]
+
+pub mod controllers;
+pub mod devices;
+pub mod followed;
+pub mod numbers;
+pub mod plain;
+#[cfg(test)]
+mod tests;
+pub mod toggle;
+pub mod trigger;
+pub mod weight;

@@ -1,0 +1,153 @@
+//! A controller that is enabled or disabled (cgroup-v2.rst, cgroup.subtree_control).
+ghost use Rattle.std.specs.Prelude.{◌≡◌, ◌+◌, ◌≤◌, ℕ, List, length, true};
+ghost use Rattle.cg_text.specs.Token.{Spells};
+ghost use Rattle.cg_write.specs.Texts.{IsSign, IsToggle};
+
+use cg_join::{Choice, Either, Mapped, Sequence, Start, Turn};
+use cg_text::{ByteText, Key, OutOfMemory, Token, WordText};
+use cg_value::Toggle;
+use std::alloc::Global;
+
+/// `+` or `-`.
+type SignText = Choice<ByteText, ByteText>;
+
+/// A sign and a controller's word, turned into the toggle.
+#[derive(Clone, Copy)]
+struct ToToggle;
+
+impl Turn<Sequence<SignText, WordText>> for ToToggle {
+    type To = Toggle;
+
+    ghost use Rattle.cg_write.specs.Turned.{toggle_of};
+    ghost use Rattle.std.proofs.Common.{arith};
+
+    ghost turned = { toggle_of };
+
+    ghost weight = { λ t. length t.name };
+
+    fn turn(value: (Either<(), ()>, Key)) -> Toggle {
+        let (sign, name) = value;
+        let on = match sign {
+            Either::Left(_) => true,
+            Either::Right(_) => false,
+        };
+        Toggle { on, name }
+    }
+
+    fn weight_of(value: &Toggle) -> u64 {
+        value.name.bytes().len() as u64
+    }
+
+    ghost no_more = { λ v. Prim.omega arith };
+}
+
+/// What the text of a toggle is made of.
+type Parts = Mapped<Sequence<SignText, WordText>, ToToggle>;
+
+/// A controller's word after a sign: `+` enables it for the groups below, and `-` disables it.
+#[derive(Drop)]
+pub struct ToggleText {
+    parts: Parts,
+}
+
+/// `+` or `-`.
+fn sign_text() -> SignText
+    ensures spells { Spells ⟦<SignText as Token>⟧.means result IsSign }
+    ensures size { ⟦<SignText as Token>⟧.size result ≡ 0 }
+{
+    Choice::new(ByteText::new(b'+'), ByteText::new(b'-'))
+}
+
+impl ToggleText {
+    /// A token of a sign and a controller's word.
+    pub fn new(alloc: Global) -> ToggleText
+        ensures spells { Spells ⟦<ToggleText as Token>⟧.means result IsToggle }
+        ensures size { ⟦<ToggleText as Token>⟧.size result ≡ 0 }
+    {
+        let name = WordText::new(alloc, true);
+        ToggleText {
+            parts: Mapped::new(Sequence::new(sign_text(), name)),
+        }
+    }
+}
+
+impl Token for ToggleText {
+    type Out = Toggle;
+
+    ghost use Rattle.cg_text.specs.WordLaws.{true_not_false};
+    ghost use Rattle.cg_write.specs.ToggleLaws.{sign_lawful, toggle_lawful};
+
+    ghost means = { λ s rest v. ⟦<Parts as Token>⟧.means s.parts rest v };
+
+    ghost size = { λ s. ⟦<Parts as Token>⟧.size s.parts };
+
+    ghost weight = { λ t. length t.name };
+
+    ghost ends = { λ s. ⟦<Parts as Token>⟧.ends s.parts };
+
+    ghost grows = { true };
+
+    #[inline(always)]
+    fn step(&mut self, byte: u8) -> Result<bool, OutOfMemory> {
+        self.parts.step(byte)
+    }
+
+    fn allows(&self, byte: u8) -> bool {
+        self.parts.allows(byte)
+    }
+
+    fn can_end(&self) -> bool {
+        self.parts.can_end()
+    }
+
+    fn held(&self) -> u64 {
+        self.parts.held()
+    }
+
+    fn take(self) -> Toggle {
+        self.parts.take()
+    }
+
+    fn weight_of(value: &Toggle) -> u64 {
+        value.name.bytes().len() as u64
+    }
+
+    ghost completes = { λ s. (let p = s.parts.token in let sign = sign_lawful p.first.left p.first.right p.first.left_lives p.first.right_lives p.first.some p.first.apart in toggle_lawful ⟦<SignText as Token>⟧.means p.first p.second p.in_second p.apart p.ended sign.completes sign.ends_is sign.one_value sign.holds_bytes).completes };
+
+    ghost no_size = { λ e _. absurd (true_not_false e) };
+
+    ghost ends_is = { λ s. (let p = s.parts.token in let sign = sign_lawful p.first.left p.first.right p.first.left_lives p.first.right_lives p.first.some p.first.apart in toggle_lawful ⟦<SignText as Token>⟧.means p.first p.second p.in_second p.apart p.ended sign.completes sign.ends_is sign.one_value sign.holds_bytes).ends_is };
+
+    ghost one_value = { λ s. (let p = s.parts.token in let sign = sign_lawful p.first.left p.first.right p.first.left_lives p.first.right_lives p.first.some p.first.apart in toggle_lawful ⟦<SignText as Token>⟧.means p.first p.second p.in_second p.apart p.ended sign.completes sign.ends_is sign.one_value sign.holds_bytes).one_value };
+
+    ghost holds_bytes = { λ s. (let p = s.parts.token in let sign = sign_lawful p.first.left p.first.right p.first.left_lives p.first.right_lives p.first.some p.first.apart in toggle_lawful ⟦<SignText as Token>⟧.means p.first p.second p.in_second p.apart p.ended sign.completes sign.ends_is sign.one_value sign.holds_bytes).holds_bytes };
+}
+
+/// Makes tokens of toggles.
+#[derive(Clone, Copy)]
+pub struct ToggleStart {
+    alloc: Global,
+}
+
+impl ToggleStart {
+    /// Toggles, whose names take their memory from `alloc`.
+    pub fn new(alloc: Global) -> ToggleStart {
+        ToggleStart { alloc }
+    }
+}
+
+impl Start<ToggleText> for ToggleStart {
+    ghost use Rattle.cg_write.specs.ToggleLaws.{some_toggle, one_toggle, toggle_bytes};
+
+    ghost texts = { λ _ text t. IsToggle text t };
+
+    fn start(&self) -> ToggleText {
+        ToggleText::new(self.alloc)
+    }
+
+    ghost some_text = { λ _. some_toggle };
+
+    ghost one_text = { λ _. one_toggle };
+
+    ghost text_bytes = { λ _. toggle_bytes };
+}
