@@ -1,10 +1,10 @@
 -- How the set of allowed bytes grows.
-use Rattle.std.proofs.Common.{◌≡◌, cond, zero, suc, true, false, IsTrue, refl, ℕ, ◌+◌, ◌<◌, ◌≤◌, ◌⊎◌, inl, inr, ◌↔◌, Bool, List, [], ◌∷◌, ◌++◌, arith, sym, append_assoc}
+use Rattle.std.proofs.Common.{◌≡◌, cond, zero, suc, true, false, refl, ℕ, ◌+◌, ◌<◌, ◌≤◌, ◌⊎◌, inl, inr, ◌↔◌, Bool, List, [], ◌∷◌, arith, append_assoc}
 use Rattle.std.proofs.lemmas.List.Sums.{sum_by-cons}
 use native.Mathlib.Decide.{dec_lt}
 use Prim.{yes, no}
 use Rattle.cg_text.specs.Bytes.{HasByte, count_of}
-use Rattle.cg_text.specs.Texts.{Viable, Next}
+use Rattle.cg_text.specs.Texts.{Next}
 use Rattle.cg_text.specs.Token.{AreBytes}
 use Rattle.cg_text.specs.TokenLaws.{bytes_inside}
 

@@ -1,5 +1,5 @@
 -- What becomes of the bytes of a file.
-use Rattle.std.specs.Prelude.{◌≡◌, ℕ, List, length, Option, Some, None, Result, Ok, Err}
+use Rattle.std.specs.Prelude.{◌≡◌, ℕ, List, length, Some, None, Result, Ok, Err}
 use Rattle.cg_text.specs.Texts.{Viable, FirstBad}
 use Rattle.cg_value.specs.Files.{KindText, KindFile, FileText, File}
 use Rattle.cg_value.specs.Table.{read_form_of}

@@ -4,14 +4,11 @@ use Rattle.cg_text.specs.Texts.{Lacks}
 use Rattle.cg_value.specs.Files.{ReadLines, KindText}
 use Rattle.cg_value.specs.Kind.{IsReadForm}
 use Rattle.cg_value.specs.Lines.{unlines}
-use Rattle.cg_value.specs.Print.{print_lines}
 use Rattle.cg_value.specs.PrintLaws.{one_text}
-use Rattle.cg_value.specs.Weight.{weight_of, weight_of_lines}
+use Rattle.cg_value.specs.Weight.{weight_of_lines}
 use Rattle.cg_value.specs.declared.kind.ReadForm.{ReadForm}
 use Rattle.cg_value.specs.declared.value.Value.{Value}
-use Rattle.cg_machine.specs.Machine.{IsRead}
-use Rattle.cg_machine.specs.MachineLaws.{is_value}
-use Rattle.cg_file.specs.Kinds.{TextsOf, HoldsLittle, held_of_whole}
+use Rattle.cg_file.specs.Kinds.{HoldsLittle, held_of_whole}
 
 -- A text is empty, or has a last byte.
 record HasLast (text : List ℕ) : Type 0 where

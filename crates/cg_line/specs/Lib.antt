@@ -1,6 +1,8 @@
 pub mod AllowedLaws
 pub mod Decode
 pub mod DecodeLaws
+pub mod DecodeWrite
+pub mod DecodeWriteLaws
 pub mod HeldLaws
 pub mod Place
 pub mod PlaceLaws
@@ -8,3 +10,5 @@ pub mod Reads
 pub mod ReadsLaws
 pub mod Runs
 pub mod RunsLaws
+pub mod Takes
+pub mod TakesLaws

@@ -1,9 +1,8 @@
 -- What holds of the places of readers.
 use Rattle.std.specs.List.{AllByRecursion}
-use Rattle.std.proofs.Common.{◌≡◌, ◌≢◌, ℕ, ◌⊎◌, inl, inr, ◌↔◌, List, [], ◌∷◌, ◌++◌, refl, sym, ◌∙◌, ap, append_assoc, append-nil}
+use Rattle.std.proofs.Common.{◌≡◌, ◌≢◌, ℕ, ◌⊎◌, inl, inr, List, [], ◌∷◌, ◌++◌, refl, sym, ◌∙◌, append_assoc}
 use Rattle.cg_text.specs.Texts.{Lacks, Viable, Next}
-use Rattle.cg_text.specs.TextsLaws.{only_at_end}
-use Rattle.cg_value.specs.Files.{KindText, KindFile}
+use Rattle.cg_value.specs.Files.{KindFile}
 use Rattle.cg_value.specs.Lines.{unlines}
 use Rattle.cg_value.specs.LineLaws.{plain_lines}
 use Rattle.cg_value.specs.declared.kind.ReadForm.{ReadForm}

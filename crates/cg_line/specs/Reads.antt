@@ -1,11 +1,8 @@
 -- What a reader took.
-use Rattle.std.specs.Prelude.{◌≡◌, ℕ, ◌+◌, ◌≤◌, List, ◌∷◌, ◌++◌, [], length, Result, Ok, Err}
-use Rattle.cg_text.specs.Texts.{Viable, Next, Lacks}
-use Rattle.cg_value.specs.Files.{ReadLines, KindText, KindFile}
+use Rattle.std.specs.Prelude.{ℕ, List, ◌∷◌, ◌++◌, [], Result, Ok, Err}
+use Rattle.cg_text.specs.Texts.{Viable, Next}
+use Rattle.cg_value.specs.Files.{KindFile}
 use Rattle.cg_value.specs.Kind.{IsReadForm}
-use Rattle.cg_value.specs.Lines.{unlines}
-use Rattle.cg_value.specs.Weight.{weight_of_lines}
-use Rattle.cg_value.specs.declared.value.Value.{Value}
 use Rattle.cg_value.specs.declared.kind.ReadForm.{ReadForm}
 use Rattle.cg_file.specs.Kinds.{TextsOf, HoldsLittle}
 use Rattle.cg_machine.specs.Machine.{IsRead}

@@ -1,7 +1,7 @@
 -- What a byte does to a reader.
-use Rattle.std.proofs.Common.{◌≡◌, ◌≢◌, ℕ, ◌<◌, ◌≤◌, ◌+◌, ◌↔◌, List, [], ◌∷◌, ◌++◌, length, Result, Ok, Err, refl, arith, IsTrue}
+use Rattle.std.proofs.Common.{◌≡◌, ℕ, ◌↔◌, List, [], ◌∷◌, ◌++◌, Ok, Err}
 use Rattle.cg_text.specs.Token.{Begins, Ends}
-use Rattle.cg_text.specs.Texts.{Viable, Next, TextOf}
+use Rattle.cg_text.specs.Texts.{Next}
 use Rattle.cg_value.specs.Files.{KindText, KindFile}
 use Rattle.cg_value.specs.declared.value.Value.{Value}
 use Rattle.cg_value.specs.declared.kind.ReadForm.{ReadForm}

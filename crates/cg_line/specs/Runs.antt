@@ -9,12 +9,16 @@ use Rattle.cg_line.specs.Reads.{Reads}
 use Rattle.cg_line.specs.declared.reader.PushedRun.{PushedRun}
 use Rattle.cg_line.specs.declared.reader.ValueReader.{ValueReader}
 
--- Where a run ends, so many of whose bytes were taken: where no byte is left, or after its first newline; or before it at
--- a byte with which no file of the kind goes on, or for which memory was refused.
+-- Where a run of bytes of a text of the set ends, so many of which were taken: where no byte is left, or after its first
+-- newline; or before it at a byte with which no text of the set goes on, or for which memory was refused.
+abbrev pub StopsAt : (List ℕ → Type 0) → List ℕ → List ℕ → ℕ → Option PushFault → Type 0
+StopsAt L taken bytes used None = ((used ≡ length bytes) × Lacks 10 bytes) ⊎ ((line : List ℕ) × (take used bytes ≡ line ++ 10 ∷ []) × Lacks 10 line)
+StopsAt L taken bytes used (Some Refused) = (used < length bytes) × Lacks 10 (take used bytes) × (Next L (taken ++ take used bytes) (get_or bytes used 0) → ⊥)
+StopsAt L taken bytes used (Some OutOfMemory) = (used < length bytes) × Lacks 10 (take used bytes)
+
+-- Where a run of bytes of a file of the kind ends.
 abbrev pub RunStops : ReadForm → List ℕ → List ℕ → ℕ → Option PushFault → Type 0
-RunStops kind taken bytes used None = ((used ≡ length bytes) × Lacks 10 bytes) ⊎ ((line : List ℕ) × (take used bytes ≡ line ++ 10 ∷ []) × Lacks 10 line)
-RunStops kind taken bytes used (Some Refused) = (used < length bytes) × Lacks 10 (take used bytes) × (Next (KindFile kind) (taken ++ take used bytes) (get_or bytes used 0) → ⊥)
-RunStops kind taken bytes used (Some OutOfMemory) = (used < length bytes) × Lacks 10 (take used bytes)
+RunStops kind = StopsAt (KindFile kind)
 
 -- The bytes that were taken, and why no more were.
 pub record IsPushedRun (r : ValueReader) (kind : ReadForm) (taken bytes : List ℕ) (run : PushedRun) : Type 0 where

@@ -1,6 +1,6 @@
 -- What holds of runs of bytes.
-use Rattle.std.proofs.Common.{◌≡◌, ◌≢◌, ℕ, suc, ◌+◌, ◌<◌, ◌≤◌, ◌↔◌, ◌⊎◌, inl, inr, List, [], ◌∷◌, ◌++◌, length, take, get_or, refl, sym, ◌∙◌, ap, append_assoc, append-nil, arith}
-use Rattle.std.proofs.lemmas.List.{take_all, take_more}
+use Rattle.std.proofs.Common.{◌≡◌, ◌≢◌, ℕ, ◌+◌, ◌<◌, ◌≤◌, ◌↔◌, inl, inr, List, [], ◌∷◌, ◌++◌, length, take, get_or, refl, sym, ◌∙◌, ap, append_assoc, append-nil, arith}
+use Rattle.std.proofs.lemmas.List.{take_more}
 use Rattle.cg_text.specs.Texts.{Lacks, Viable, TextOf}
 use Rattle.cg_value.specs.declared.kind.ReadForm.{ReadForm}
 use Rattle.cg_file.specs.Kinds.{TextsOf}
@@ -10,7 +10,6 @@ use Rattle.cg_machine.specs.declared.file_machine.FileMachine.{FileMachine}
 use Rattle.cg_line.specs.HeldLaws.{holds_run}
 use Rattle.cg_line.specs.Place.{IsPlace}
 use Rattle.cg_line.specs.Reads.{Reads, is_reads, reads_is}
-use Rattle.cg_line.specs.declared.place.Place.{Place}
 use Rattle.cg_line.specs.declared.place.Place.TheVariants.{InLine}
 use Rattle.cg_line.specs.declared.reader.ValueReader.{ValueReader}
 
@@ -75,5 +74,5 @@ plain_more bytes i within other plain = rw (take_more bytes i 0 within) (plain_j
     plain_joined (x ∷ xs) b other plain = (plain.0, plain_joined xs b other plain.1)
 
 -- One more byte was taken.
-pub run_more : (r : ValueReader) (kind : ReadForm) (taken bytes : List ℕ) (i : ℕ) → i < length bytes → Reads r kind ((taken ++ take i bytes) ++ get_or bytes i 0 ∷ []) → Reads r kind (taken ++ take (i + 1) bytes)
-run_more r kind taken bytes i within h = rw (take_more bytes i 0 within, ← append_assoc taken (take i bytes) (get_or bytes i 0 ∷ [])) h
+pub run_more : (Took : List ℕ → Type 0) (taken bytes : List ℕ) (i : ℕ) → i < length bytes → Took ((taken ++ take i bytes) ++ get_or bytes i 0 ∷ []) → Took (taken ++ take (i + 1) bytes)
+run_more Took taken bytes i within h = rw (take_more bytes i 0 within, ← append_assoc taken (take i bytes) (get_or bytes i 0 ∷ [])) h

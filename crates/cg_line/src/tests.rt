@@ -1,6 +1,6 @@
 //! Readers of files, byte by byte.
 use crate::{FileFault, PushFault, ValueReader, decode_file};
-use cg_text::Limit;
+use cg_text::{Amount, Device, Hundredths, Limit};
 use cg_value::{Profile, Value, read_kind};
 use std::alloc::Global;
 use std::process::Abort;
@@ -197,6 +197,27 @@ fn first_bad_bytes(rt: HostRuntime) {
     assert!(rt; more == Err(FileFault::Refused { at: 7 }));
     let open = decode_file(rt.alloc(), Profile::Two, b"cpuset.cpus", b"65535-");
     assert!(rt; open == Err(FileFault::Cut { at: 6 }));
+}
+
+/// What is looked up in values that were read.
+#[test]
+fn looked_up(rt: HostRuntime) -> Result<(), Fail> {
+    let alloc = rt.alloc();
+    let disk = Device { major: 8, minor: 0 };
+    let other = Device {
+        major: 8,
+        minor: 16,
+    };
+    let text = b"8:0 rbytes=1 cost.vrate=100.00\n7:0\n";
+    let stats = decode_file(alloc, Profile::One, b"io.stat", text)?;
+    let rate = Amount::Decimal(Hundredths { count: 10000 });
+    assert_eq!(rt; stats.amount_of(disk, b"cost.vrate"), Some(rate));
+    assert_eq!(rt; stats.amount_of(other, b"cost.vrate"), None);
+    let text = b"default 100\n8:16 200\n";
+    let weights = decode_file(alloc, Profile::One, b"io.weight", text)?;
+    assert_eq!(rt; weights.weight_of(other), Some(200));
+    assert_eq!(rt; weights.weight_of(disk), Some(100));
+    Ok(())
 }
 
 #[test]

@@ -7,7 +7,7 @@ mod limits_machine;
 mod list_machine;
 pub mod machine;
 mod nested_machine;
-mod one_of;
+pub mod one_of;
 mod partition_machine;
 mod pressure_machine;
 mod raw_machine;

@@ -134,7 +134,7 @@ const ROWS: [(&str, &[u8], &[u8], u8); 45] = [
 ];
 
 /// Rows of files of signed numbers, of pairs, devices, partitions and pressure.
-const KEYED_ROWS: [(&str, &[u8], &[u8], u8); 29] = [
+const KEYED_ROWS: [(&str, &[u8], &[u8], u8); 33] = [
     ("cpu.weight.nice", b"-20\n", b"-20\n", 0),
     (
         "cpu.weight.nice",
@@ -170,6 +170,25 @@ const KEYED_ROWS: [(&str, &[u8], &[u8], u8); 29] = [
         1,
     ),
     ("io.stat", b"8:0 \n", b"8:0 \n", 0),
+    (
+        "io.stat",
+        b"7:0 \n8:0  cost.usage=5\n",
+        b"7:0 \n8:0  cost.usage=5\n",
+        0,
+    ),
+    (
+        "io.stat",
+        b"8:0 x=1000000000.",
+        b"cgfile: refused at 16: line\n",
+        1,
+    ),
+    ("io.stat", b"8:0  \n", b"cgfile: refused at 5: line\n", 1),
+    (
+        "io.stat",
+        b"8:0 rbytes=1 \n",
+        b"cgfile: refused at 13: line\n",
+        1,
+    ),
     ("io.stat", b"", b"", 0),
     (
         "io.max",

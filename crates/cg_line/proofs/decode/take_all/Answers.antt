@@ -1,5 +1,6 @@
-use Rattle.std.proofs.Common.{◌≡◌, ◌≤◌, ◌<◌, ◌+◌, ap, drop, length, take, arith, length-drop}
-use Rattle.cg_line.specs.DecodeLaws.{reads_all, run_on, run_stopped}
+use Rattle.std.proofs.Common.{◌≡◌, ◌≤◌, ◌<◌, ap, drop, length, take, arith, length-drop}
+use Rattle.cg_line.specs.DecodeLaws.{took_all, run_on, run_stopped}
+use Rattle.cg_line.specs.Reads.{Reads}
 use Rattle.cg_line.proofs.decode.take_all.Goals as goal
 
 pub overflow_add-at : goal.overflow_add-at
@@ -22,7 +23,7 @@ loop-at-preserved c =
     let left : length c.split_at.result.1.now ≡ length (drop c.loop-at.at bytes) = ap length c.split_at.ensures.back in
     record {
       within = omega (arith, left, length-drop c.loop-at.at bytes, c.push_run-run.ensures.within, c.loop-at.invariant.within);
-      reads = λ kind h. run_on c.push_run-run.new.self kind bytes c.split_at.result.1.now c.loop-at.at c.push_run-run.result.used c.split_at.ensures.back
+      reads = λ kind h. run_on (Reads c.push_run-run.new.self kind) bytes c.split_at.result.1.now c.loop-at.at c.push_run-run.result.used c.split_at.ensures.back
           (c.push_run-run.ensures.pushed kind (take c.loop-at.at bytes) (c.loop-at.invariant.reads kind h)).reads;
     }
 
@@ -37,4 +38,4 @@ pub returns : goal.returns
 returns c kind h =
     let bytes = c.args.bytes.now in
     let done : length bytes ≤ c.loop-at.at = omega arith in
-    reads_all c.loop-at.reader kind bytes c.loop-at.at done (c.loop-at.invariant.reads kind h)
+    took_all (Reads c.loop-at.reader kind) bytes c.loop-at.at done (c.loop-at.invariant.reads kind h)

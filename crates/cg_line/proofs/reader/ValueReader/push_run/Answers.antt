@@ -1,4 +1,5 @@
-use Rattle.std.proofs.Common.{◌≡◌, ◌<◌, ◌≤◌, ◌++◌, inl, inr, length, take, refl, arith}
+use Rattle.std.proofs.Common.{◌<◌, ◌++◌, length, take, arith}
+use Rattle.cg_line.specs.Reads.{Reads}
 use Rattle.cg_line.specs.RunsLaws.{plain_more, run_more}
 use Rattle.cg_line.proofs.reader.ValueReader.push_run.Goals as goal
 
@@ -10,6 +11,6 @@ loop-used-preserved c =
     record {
       within = omega (arith, within);
       plain = plain_more bytes i within c.if-byte-eq10.false c.loop-used.invariant.plain;
-      reads = λ kind taken h. run_more c.push.new.self kind taken bytes i within (c.in-Ok.ensures.pushed kind (taken ++ take i bytes) (c.loop-used.invariant.reads kind taken h));
+      reads = λ kind taken h. run_more (Reads c.push.new.self kind) taken bytes i within (c.in-Ok.ensures.pushed kind (taken ++ take i bytes) (c.loop-used.invariant.reads kind taken h));
       held = omega (arith, c.loop-used.invariant.held, c.in-Ok.ensures.held);
     }

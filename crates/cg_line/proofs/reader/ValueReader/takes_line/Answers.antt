@@ -1,10 +1,9 @@
-use Rattle.std.proofs.Common.{◌≡◌, ◌<◌, arith}
+use Rattle.std.proofs.Common.{◌<◌}
 use Rattle.std.proofs.lemmas.Bool.{ltb-true, lt-ltb}
 use Rattle.cg_text.specs.Bytes.{count_of}
 use Rattle.cg_line.specs.AllowedLaws.{some_marked, marked_counts}
 use Rattle.cg_line.specs.PlaceLaws.{takes_where_next, next_where_takes, at_line_start, not_in_line}
 use Rattle.cg_line.specs.Reads.{is_reads}
-use Rattle.cg_line.specs.declared.place.Place.TheVariants.{InLine}
 use Rattle.cg_line.proofs.reader.ValueReader.takes_line.Goals as goal
 
 pub returns-then-is_in_line : goal.returns-then-is_in_line

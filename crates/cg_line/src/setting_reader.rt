@@ -1,0 +1,122 @@
+//! Readers of one write.
+ghost use Rattle.std.specs.Prelude.{◌≡◌, ◌≤◌, ◌<◌, ◌+◌, ◌↔◌, ℕ, List, [], length, MatchResult, IsTrue, IfNone, OnErr};
+ghost use Rattle.cg_text.specs.Bytes.{HasByte};
+ghost use Rattle.cg_text.specs.Texts.{Next};
+ghost use Rattle.cg_text.specs.Token.{told};
+ghost use Rattle.cg_value.specs.Settings.{WriteText, KindWrite};
+ghost use Rattle.cg_value.specs.declared.kind.WriteForm.{WriteForm};
+
+use crate::reader::PushedRun;
+use cg_machine::{PushFault, TextMachine};
+use cg_text::ByteSet;
+use cg_value::{Setting, WriteKind};
+use cg_write_machine::{WriteMachine, machine_of_write};
+use std::alloc::Global;
+
+/// A reader of the text of one write, which takes the bytes of its line and its newline.
+#[derive(Drop)]
+pub struct SettingReader {
+    machine: WriteMachine,
+}
+
+/// A reader whose bytes are no whole write, handed back.
+#[derive(Drop)]
+pub struct SettingCut {
+    pub reader: SettingReader,
+}
+
+impl SettingReader {
+    ghost use Rattle.cg_line.specs.Takes.{Takes, IsBytePushed, IsRunPushed, held_of};
+
+    /// A reader of a write of this kind, of which nothing was taken. It takes no memory.
+    pub fn new(alloc: Global, kind: WriteKind) -> SettingReader
+        ensures takes { Takes result kind [] }
+        ensures held { held_of result ≡ 0 }
+    {
+        SettingReader {
+            machine: machine_of_write(alloc, kind),
+        }
+    }
+
+    /// Takes a byte where some write of the kind goes on with it, and refuses every other.
+    /// After a refusal the reader is unchanged.
+    pub fn push(&mut self, byte: u8) -> Result<(), PushFault>
+        ensures pushed { (kind : WriteForm) (taken : List ℕ) → Takes self.old kind taken → IsBytePushed self.new kind taken byte result }
+        ensures held { held_of self.new ≤ held_of self.old + 1 }
+        ensures same_held { OnErr result (held_of self.new ≡ held_of self.old) }
+    {
+        self.machine.take_byte(byte)
+    }
+
+    /// Takes bytes from the front of `bytes` as `push` would take one after another: until a newline was taken, none is
+    /// left, or one is refused or memory is.
+    pub fn push_run(&mut self, bytes: &[u8]) -> PushedRun
+        ensures pushed { (kind : WriteForm) (taken : List ℕ) → Takes self.old kind taken → IsRunPushed self.new kind taken bytes.now result }
+        ensures within { result.used ≤ length bytes.now }
+        ensures goes_on { IfNone result.fault (0 < length bytes.now → 0 < result.used) }
+        ensures held { held_of self.new ≤ held_of self.old + result.used }
+    {
+        for used in 0..bytes.len() {
+            let byte = bytes[used];
+            match self.push(byte) {
+                Ok(()) => {}
+                Err(fault) => {
+                    return PushedRun {
+                        used,
+                        fault: Some(fault),
+                    };
+                }
+            }
+            if byte == b'\n' {
+                return PushedRun {
+                    used: used + 1,
+                    fault: None,
+                };
+            }
+        }
+        PushedRun {
+            used: bytes.len(),
+            fault: None,
+        }
+    }
+
+    /// Whether the bytes so far are a whole write. It takes no memory.
+    pub fn can_finish(&self) -> bool
+        ensures { (kind : WriteForm) (taken : List ℕ) → Takes self.now kind taken → (IsTrue result ↔ KindWrite kind taken) }
+    {
+        self.machine.is_whole()
+    }
+
+    /// The bytes with which some write of the kind goes on. It takes no memory.
+    pub fn allowed(&self) -> ByteSet
+        ensures { (kind : WriteForm) (taken : List ℕ) → Takes self.now kind taken → (byte : ℕ) → HasByte result byte ↔ Next (KindWrite kind) taken byte }
+    {
+        let mut set = ByteSet::new();
+        for number in 0..256u16 {
+            let byte = number as u8;
+            if self.machine.allows_byte(byte) {
+                set.insert(byte);
+            }
+        }
+        set
+    }
+
+    /// The sum of the lengths of its vectors, or `u64::MAX` where that is more. It takes no memory.
+    pub fn held(&self) -> u64
+        ensures exact { result ≡ told (held_of self.now) }
+        ensures most { (kind : WriteForm) (taken : List ℕ) → Takes self.now kind taken → held_of self.now ≤ length taken }
+    {
+        self.machine.all_held()
+    }
+
+    /// The setting of a whole write, or else the reader. It takes no memory.
+    pub fn finish(self) -> Result<Setting, SettingCut>
+        ensures { (kind : WriteForm) (taken : List ℕ) → Takes self kind taken → MatchResult result (λ s. WriteText kind s taken) (λ cut. (cut.reader ≡ self) × (KindWrite kind taken → ⊥)) }
+    {
+        if self.machine.is_whole() {
+            Ok(self.machine.into_value())
+        } else {
+            Err(SettingCut { reader: self })
+        }
+    }
+}

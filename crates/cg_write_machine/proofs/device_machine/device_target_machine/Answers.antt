@@ -1,0 +1,14 @@
+use Rattle.std.proofs.Common.{refl}
+use Rattle.cg_value.specs.Settings.{WriteText}
+use Rattle.cg_value.specs.declared.kind.WriteForm.TheVariants.{DeviceTarget}
+use Rattle.cg_machine.specs.MachineLaws.{new_read}
+use Rattle.cg_write_machine.specs.DeviceRests.{device_rests, device_room}
+use Rattle.cg_write_machine.proofs.device_machine.device_target_machine.Goals as goal
+
+pub returns-clause-rests : goal.returns-clause-rests
+unfolding device_rests
+returns-clause-rests c = new_read (λ text s. WriteText DeviceTarget s text) _ c.device_target_write.result c.new.result.token c.new.ensures.token c.device_target_write.ensures.spells c.new.ensures.goes
+
+pub returns-clause-size : goal.returns-clause-size
+unfolding device_room
+returns-clause-size c = refl
