@@ -1,8 +1,8 @@
 //! Reads files that real kernels printed, in both profiles, and writes each back. Prints a line for each that isn't given
 //! back byte for byte, and how many are.
 //!
-//! The names of the files come on standard input, one a line: `NAME.N` in `data` holds the whole content of one file of
-//! the name NAME, and N only tells several contents apart.
+//! It runs in the folder `data`. The names of its files come on standard input, one a line: `NAME.N` holds the whole
+//! content of one file of the name NAME, and N only tells several contents apart.
 #![tactic(auto)]
 
 use cg_line::{FileFault, decode_file};
@@ -53,10 +53,7 @@ fn name_of(copy: &str) -> &str {
 
 /// Whether a file is given back byte for byte. Prints a line where it isn't.
 fn is_given_back(rt: &HostRuntime, profile: Profile, copy: &str) -> io::Result<bool> {
-    let mut path = String::new(rt.alloc());
-    path.push_str("data/")?;
-    path.push_str(copy)?;
-    let bytes = fs::read(rt, path.as_str())?;
+    let bytes = fs::read(rt, copy)?;
     match fate_of(
         rt.alloc(),
         profile,
