@@ -1,4 +1,5 @@
 pub mod Builds
+pub mod KindsLemmas
 pub mod Known
 pub mod Made
 pub mod Profiles

@@ -1,42 +1,41 @@
 -- What is right for a run.
 use Rattle.std.proofs.Common.{◌≡◌, ℕ, ◌≤◌, Bool, true, false, List, [], ◌∷◌, ◌++◌, length, Option, Some, None, refl, sym, ap, ◌∙◌}
 use Rattle.std.specs.Io.KnownBytes.{IsAtEnd, Consumes, Appends}
-use Rattle.cg_value.specs.Files.{KindText, KindFile}
-use Rattle.cg_value.specs.Print.{print_of}
-use Rattle.cg_value.specs.declared.kind.ReadForm.{ReadForm}
+use Rattle.cg_text.specs.Texts.{TextOf}
 use Rattle.cg_snap.specs.Stop.{IsTextUnstopped, TextStopOf}
 use Rattle.cg_snap.specs.declared.stop.Stop.{Stop}
 use Rattle.cg_snap.specs.declared.stop.Stop.TheVariants as stop
 use Rattle.cgfile.specs.Outcome.{last_line}
-use Rattle.cgfile.specs.Run.{Reading, IsFileStop, IsFileRight, IsIdleRight, IsNameRight, Wrote, DidRun, joined}
+use Rattle.cgfile.specs.Run.{Reading, IsTextStop, IsTextRight, Wrote, DidRun}
 use Rattle.cgfile.specs.Ended.{IsEndRight}
 use Rattle.cgfile.specs.declared.outcome.Outcome.{Outcome}
 use Rattle.cgfile.specs.declared.outcome.Outcome.TheVariants as out
 use Rattle.cgfile.proofs.Took.{Consumes-nil}
 
--- A stop by a byte of the input.
-pub file_stop : (kind : ReadForm) (max : ℕ) (r : Reading) (s : Stop) → TextStopOf (KindFile kind) max r.bytes s → IsFileStop kind max r s
-file_stop kind max r (stop.Refused at why) h = h
-file_stop kind max r (stop.TooLong at) h = h
-file_stop kind max r (stop.TooMany at) h = h
-file_stop kind max r (stop.TooMuch at) h = h
-file_stop kind max r (stop.Cut at) h = absurd h.stops
+module _ {V : Type 0} (Text : List ℕ → V → Type 0) (print : V → List ℕ) (max : ℕ) (r : Reading) where
+  -- A stop by a byte of the input.
+  pub byte_stop : (s : Stop) → TextStopOf (TextOf Text) max r.bytes s → IsTextStop Text print max r s
+  byte_stop (stop.Refused at why) h = h
+  byte_stop (stop.TooLong at) h = h
+  byte_stop (stop.TooMany at) h = h
+  byte_stop (stop.TooMuch at) h = h
+  byte_stop (stop.Cut at) h = absurd h.stops
 
--- The end of the input.
-pub end_right : (kind : ReadForm) (max : ℕ) (r : Reading) → IsAtEnd r.left → r.failed ≡ false → IsTextUnstopped (KindFile kind) max r.bytes →
-    (o : Outcome) (parts : List (List ℕ)) → IsEndRight kind r.bytes o parts → IsFileRight kind max r o parts
-end_right kind max r ended works unstopped out.Done parts h = (print_of h.0, record { ended = (ended, works); unstopped = unstopped; value = h.0; spelled = h.1; part_is = refl }, h.2)
-end_right kind max r ended works unstopped (out.Findings n) parts h = absurd h
-end_right kind max r ended works unstopped (out.Stopped (stop.Refused at why)) parts h = absurd h
-end_right kind max r ended works unstopped (out.Stopped (stop.TooLong at)) parts h = absurd h
-end_right kind max r ended works unstopped (out.Stopped (stop.TooMany at)) parts h = absurd h
-end_right kind max r ended works unstopped (out.Stopped (stop.TooMuch at)) parts h = absurd h
-end_right kind max r ended works unstopped (out.Stopped (stop.Cut at)) parts h = (record { ended = (ended, works); unstopped = unstopped; not_whole = h.0; at_end = h.1 }, h.2)
-end_right kind max r ended works unstopped out.NotReadable parts h = absurd h
-end_right kind max r ended works unstopped out.NotWritable parts h = absurd h
-end_right kind max r ended works unstopped out.ReadFault parts h = absurd h
-end_right kind max r ended works unstopped (out.WriteFault n) parts h = absurd h
-end_right kind max r ended works unstopped out.OutOfMemory parts h = rw h tt
+  -- The end of the input.
+  pub end_right : IsAtEnd r.left → r.failed ≡ false → IsTextUnstopped (TextOf Text) max r.bytes →
+      (o : Outcome) (parts : List (List ℕ)) → IsEndRight Text print r.bytes o parts → IsTextRight Text print max r o parts
+  end_right ended works unstopped out.Done parts h = (print h.0, record { ended = (ended, works); unstopped = unstopped; value = h.0; spelled = h.1; part_is = refl }, h.2)
+  end_right ended works unstopped (out.Findings n) parts h = absurd h
+  end_right ended works unstopped (out.Stopped (stop.Refused at why)) parts h = absurd h
+  end_right ended works unstopped (out.Stopped (stop.TooLong at)) parts h = absurd h
+  end_right ended works unstopped (out.Stopped (stop.TooMany at)) parts h = absurd h
+  end_right ended works unstopped (out.Stopped (stop.TooMuch at)) parts h = absurd h
+  end_right ended works unstopped (out.Stopped (stop.Cut at)) parts h = (record { ended = (ended, works); unstopped = unstopped; not_whole = h.0; at_end = h.1 }, h.2)
+  end_right ended works unstopped out.NotReadable parts h = absurd h
+  end_right ended works unstopped out.NotWritable parts h = absurd h
+  end_right ended works unstopped out.ReadFault parts h = absurd h
+  end_right ended works unstopped (out.WriteFault n) parts h = absurd h
+  end_right ended works unstopped out.OutOfMemory parts h = rw h tt
 
 -- Nothing was read, and the last line alone was written.
 pub idle_ran : (Right : Reading → Outcome → List (List ℕ) → Type 0) (coming : Option (List ℕ)) (read_failed : Bool) (taken now : Option (List ℕ)) (write_failed : Bool) (wanted o : Outcome) →

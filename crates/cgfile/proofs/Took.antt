@@ -1,51 +1,43 @@
 -- How a piece is taken.
 use Rattle.std.proofs.Common.{◌≡◌, ℕ, zero, suc, Bool, ◌+◌, ◌-◌, ◌<◌, ◌≤◌, List, [], ◌∷◌, ◌++◌, take, drop, length, get_or, Option, Some, None, refl, sym, ap, ◌∙◌, append_assoc, append-nil, arith, length-append, length-drop, length-take}
 use Rattle.std.proofs.Math.Seq.{take-add}
-use Rattle.std.proofs.lemmas.List.{get_or-drop, get_or-take, take_more, take_all}
-use Rattle.cg_text.specs.Texts.{Next}
-use Rattle.cg_value.specs.Files.{KindFile}
-use Rattle.cg_value.specs.declared.kind.ReadForm.{ReadForm}
+use Rattle.std.proofs.lemmas.List.{get_or-drop, get_or-take, take_all}
+use Rattle.std.specs.Io.KnownBytes.{Consumes, Keeps}
+use Rattle.cg_text.specs.Texts.{Viable, Next}
 use Rattle.cg_machine.specs.declared.machine.PushFault.{PushFault}
 use Rattle.cg_machine.specs.declared.machine.PushFault.TheVariants as push
-use Rattle.cg_line.specs.Reads.{Reads, reads_viable}
-use Rattle.cg_line.specs.Runs.{RunStops}
-use Rattle.cg_line.specs.declared.reader.ValueReader.{ValueReader}
+use Rattle.cg_line.specs.Runs.{StopsAt}
 use Rattle.cg_snap.specs.Stop.{IsTextUnstopped, TextStopOf}
 use Rattle.cg_snap.specs.declared.stop.Stop.{Stop}
-use Rattle.cg_snap.specs.declared.stop.Stop.TheVariants.{Refused, TooMuch}
+use Rattle.cg_snap.specs.declared.stop.Stop.TheVariants.{Refused}
 use Rattle.cg_snap.specs.declared.stop.Why.TheVariants.{Line}
-use Rattle.std.specs.Io.KnownBytes.{Consumes, Keeps}
 use Rattle.cgfile.specs.Reading.{ending_of, GoesOn, TookPiece, EndsBy}
 use Rattle.cgfile.specs.declared.reading.Ending.{Ending}
 use Rattle.cgfile.specs.declared.reading.Ending.TheVariants.{End, Stopped, ReadFault, OutOfMemory}
 use Rattle.cgfile.proofs.Stops.{unstopped, stop_refused, stop_longer, piece_at}
 
-pub goes_unstopped : (kind : ReadForm) (max : ℕ) (reader : ValueReader) (taken : List ℕ) → GoesOn kind max reader taken → IsTextUnstopped (KindFile kind) max taken
-goes_unstopped kind max reader taken h = unstopped (KindFile kind) max taken (reads_viable reader kind taken h.0) h.1
+-- L is the set of the texts, and Took says of some bytes that the reader took them.
+module _ (L Took : List ℕ → Type 0) (viable : (taken : List ℕ) → Took taken → Viable L taken) (max : ℕ) where
+  pub goes_unstopped : (taken : List ℕ) → GoesOn Took max taken → IsTextUnstopped L max taken
+  goes_unstopped taken h = unstopped L max taken (viable taken h.0) h.1
 
-pub goes_first : (kind : ReadForm) (max : ℕ) (reader : ValueReader) (taken piece : List ℕ) → GoesOn kind max reader taken → GoesOn kind max reader (taken ++ take 0 piece)
-goes_first kind max reader taken piece h = rw (append-nil taken) h
+  -- A byte of the piece was refused.
+  piece_refused : (taken piece : List ℕ) (i place : ℕ) → i < length piece → place ≡ length taken + i →
+      GoesOn Took max (taken ++ take i piece) → (Next L (taken ++ take i piece) (get_or piece i 0) → ⊥) → TextStopOf L max (taken ++ piece) (Refused place Line)
+  piece_refused taken piece i place within e h none =
+      let at : place ≡ length (taken ++ take i piece) = omega (arith, e, within, length-append taken (take i piece), length-take i piece) in
+      let here = stop_refused L max (taken ++ take i piece) (get_or piece i 0) (viable _ h.0) h.1 none in
+      rw (at, ← piece_at taken piece i within) (stop_longer L max _ (drop (i + 1) piece) _ here)
 
--- One more byte of the piece was taken.
-pub goes_more : (kind : ReadForm) (max : ℕ) (reader new : ValueReader) (taken piece : List ℕ) (i : ℕ) → i < length piece → length taken + i < max →
-    GoesOn kind max reader (taken ++ take i piece) → Reads new kind ((taken ++ take i piece) ++ get_or piece i 0 ∷ []) → GoesOn kind max new (taken ++ take (i + 1) piece)
-goes_more kind max reader new taken piece i within room h k =
-    let same : (taken ++ take i piece) ++ get_or piece i 0 ∷ [] ≡ taken ++ take (i + 1) piece = append_assoc taken (take i piece) (get_or piece i 0 ∷ []) ∙ ap (λ t. taken ++ t) (sym (take_more piece i 0 within)) in
-    (rw same at k, omega (arith, length-append taken (take (i + 1) piece), length-take (i + 1) piece))
+module _ (Took : List ℕ → Type 0) (max : ℕ) (taken piece : List ℕ) where
+  pub goes_first : GoesOn Took max taken → GoesOn Took max (taken ++ take 0 piece)
+  goes_first h = rw (append-nil taken) h
 
-pub goes_all : (kind : ReadForm) (max : ℕ) (reader : ValueReader) (taken piece : List ℕ) (i : ℕ) → length piece ≤ i → GoesOn kind max reader (taken ++ take i piece) → GoesOn kind max reader (taken ++ piece)
-goes_all kind max reader taken piece i done h = rw (take_all i piece done) at h
+  pub goes_all : (i : ℕ) → length piece ≤ i → GoesOn Took max (taken ++ take i piece) → GoesOn Took max (taken ++ piece)
+  goes_all i done h = rw (take_all i piece done) at h
 
 pub place_is : (taken piece : List ℕ) (i : ℕ) → i < length piece → length (taken ++ take i piece) ≡ length taken + i
 place_is taken piece i within = omega (arith, length-append taken (take i piece), length-take i piece)
-
--- A byte of the piece was refused.
-pub piece_refused : (kind : ReadForm) (max : ℕ) (reader : ValueReader) (taken piece : List ℕ) (i place : ℕ) → i < length piece → place ≡ length taken + i →
-    GoesOn kind max reader (taken ++ take i piece) → (Next (KindFile kind) (taken ++ take i piece) (get_or piece i 0) → ⊥) → TextStopOf (KindFile kind) max (taken ++ piece) (Refused place Line)
-piece_refused kind max reader taken piece i place within e h none =
-    let at : place ≡ length (taken ++ take i piece) = e ∙ sym (place_is taken piece i within) in
-    let here = stop_refused (KindFile kind) max (taken ++ take i piece) (get_or piece i 0) (reads_viable reader kind _ h.0) h.1 none in
-    rw (at, ← piece_at taken piece i within) (stop_longer (KindFile kind) max _ (drop (i + 1) piece) _ here)
 
 -- ---- A run of the piece's bytes: so many of those in front of what is left of it
 
@@ -68,32 +60,32 @@ module _ (piece rest front : List ℕ) (used n : ℕ) (rest_is : rest ≡ drop u
   front_within = omega (arith, ap length front_is, length-take (length front) rest, ap length rest_is, length-drop used piece)
 
   -- It was taken.
-  pub goes_run : (kind : ReadForm) (max : ℕ) (new : ValueReader) (taken : List ℕ) → n ≤ length front → length taken + used + n ≤ max → Reads new kind ((taken ++ take used piece) ++ take n front) → GoesOn kind max new (taken ++ take (used + n) piece)
-  goes_run kind max new taken within room h =
+  pub goes_run : (Took : List ℕ → Type 0) (max : ℕ) (taken : List ℕ) → n ≤ length front → length taken + used + n ≤ max → Took ((taken ++ take used piece) ++ take n front) → GoesOn Took max (taken ++ take (used + n) piece)
+  goes_run Took max taken within room h =
       let same : (taken ++ take used piece) ++ take n front ≡ taken ++ take (used + n) piece = append_assoc taken (take used piece) (take n front) ∙ ap (λ t. taken ++ t) (sym (run_front within)) in
       (rw same at h, omega (arith, room, length-append taken (take (used + n) piece), length-take (used + n) piece))
 
   -- The byte after it was not.
-  pub run_stopped : (kind : ReadForm) (max at place : ℕ) (new : ValueReader) (taken : List ℕ) (fault : PushFault) → at ≡ length taken → place ≡ at + used → used ≤ length piece → place + n ≤ max → n ≤ length front →
-      Reads new kind ((taken ++ take used piece) ++ take n front) → RunStops kind (taken ++ take used piece) front n (Some fault) → TookPiece kind max taken piece new (Some (ending_of fault (place + n)))
-  run_stopped kind max at place new taken push.Refused e f here room most h stops =
+  pub run_stopped : (L Took : List ℕ → Type 0) → ((taken : List ℕ) → Took taken → Viable L taken) → (max at place : ℕ) (taken : List ℕ) (fault : PushFault) → at ≡ length taken → place ≡ at + used → used ≤ length piece → place + n ≤ max → n ≤ length front →
+      Took ((taken ++ take used piece) ++ take n front) → StopsAt L (taken ++ take used piece) front n (Some fault) → TookPiece L Took max taken piece (Some (ending_of fault (place + n)))
+  run_stopped L Took viable max at place taken push.Refused e f here room most h stops =
       let same : (taken ++ take used piece) ++ take n front ≡ taken ++ take (used + n) piece = append_assoc taken (take used piece) (take n front) ∙ ap (λ t. taken ++ t) (sym (run_front most)) in
-      let goes = goes_run kind max new taken most (omega (arith, e, f, room)) h in
-      piece_refused kind max new taken piece (used + n) (place + n) (omega (arith, stops.0, front_within, here)) (omega (arith, e, f)) goes (rw (same, front_byte stops.0) at stops.2)
-  run_stopped kind max at place new taken push.OutOfMemory e f here room most h stops = tt
+      let goes = goes_run Took max taken most (omega (arith, e, f, room)) h in
+      piece_refused L Took viable max taken piece (used + n) (place + n) (omega (arith, stops.0, front_within, here)) (omega (arith, e, f)) goes (rw (same, front_byte stops.0) at stops.2)
+  run_stopped L Took viable max at place taken push.OutOfMemory e f here room most h stops = tt
 
--- A stop at a byte of the piece.
-pub piece_stopped : (kind : ReadForm) (max : ℕ) (taken piece : List ℕ) (i place : ℕ) (stop : Stop) → i < length piece → place ≡ max →
-    TextStopOf (KindFile kind) place ((taken ++ take i piece) ++ get_or piece i 0 ∷ []) stop → TextStopOf (KindFile kind) max (taken ++ piece) stop
-piece_stopped kind max taken piece i place stop within e h =
-    rw (← e, ← piece_at taken piece i within) (stop_longer (KindFile kind) place _ (drop (i + 1) piece) stop h)
+module _ (L : List ℕ → Type 0) (max : ℕ) (taken piece : List ℕ) where
+  -- A stop at a byte of the piece.
+  pub piece_stopped : (i place : ℕ) (stop : Stop) → i < length piece → place ≡ max →
+      TextStopOf L place ((taken ++ take i piece) ++ get_or piece i 0 ∷ []) stop → TextStopOf L max (taken ++ piece) stop
+  piece_stopped i place stop within e h = rw (← e, ← piece_at taken piece i within) (stop_longer L place _ (drop (i + 1) piece) stop h)
 
--- Why a piece wasn't taken whole ends reading.
-pub ended_piece : (kind : ReadForm) (max : ℕ) (taken piece : List ℕ) (reader : ValueReader) (left : Option (List ℕ)) (failed : Bool) (e : Ending) → TookPiece kind max taken piece reader (Some e) → EndsBy kind max (taken ++ piece) reader left failed e
-ended_piece kind max taken piece reader left failed (End at) h = absurd h
-ended_piece kind max taken piece reader left failed (Stopped stop) h = h
-ended_piece kind max taken piece reader left failed ReadFault h = absurd h
-ended_piece kind max taken piece reader left failed OutOfMemory h = tt
+  -- Why a piece wasn't taken whole ends reading.
+  pub ended_piece : (Took : List ℕ → Type 0) (left : Option (List ℕ)) (failed : Bool) (e : Ending) → TookPiece L Took max taken piece (Some e) → EndsBy L Took max (taken ++ piece) left failed e
+  ended_piece Took left failed (End at) h = absurd h
+  ended_piece Took left failed (Stopped stop) h = h
+  ended_piece Took left failed ReadFault h = absurd h
+  ended_piece Took left failed OutOfMemory h = tt
 
 -- What a source gives.
 pub Consumes-nil : (a : Option (List ℕ)) → Consumes a a []

@@ -1,6 +1,8 @@
 pub mod CommandLine
 pub mod Ended
+pub mod Kinds
 pub mod Outcome
 pub mod Reading
 pub mod Run
 pub mod Source
+pub mod TextReader

@@ -1,6 +1,6 @@
 //! The program's command line, as a `clap` command.
 ghost use Rattle.std.specs.Prelude.{◌≡◌, IfOk, false};
-ghost use Rattle.clap.specs.Words.{rule_of, app_of};
+ghost use Rattle.clap.specs.Words.{rule_of, app_of, new_app};
 ghost use Rattle.clap.specs.declared.builder.command.Command.TheViews.{out-Command as fields_of};
 ghost use Rattle.cgfile.specs.CommandLine.{count_rule, profile_rule, name_rule, named_app, start_app, with_options, cgfile_app};
 
@@ -50,6 +50,14 @@ fn named<'a>(alloc: Global, name: &'a str) -> Result<Command<'a>, AllocError>
     Command::new(alloc, name).arg(name_argument(alloc))
 }
 
+/// A subcommand without arguments.
+fn plain<'a>(alloc: Global, name: &'a str) -> Command<'a>
+    ensures app { app_of result ≡ new_app name.entry.now }
+    ensures local { (fields_of result).has_globals ≡ false }
+{
+    Command::new(alloc, name)
+}
+
 /// The command with no option and no subcommand.
 fn start<'a>(alloc: Global) -> Command<'a>
     ensures app { app_of result ≡ start_app }
@@ -81,5 +89,8 @@ pub(crate) fn command_line<'a>(
     ensures app { IfOk result (λ c. app_of c ≡ cgfile_app profiles.entry) }
     ensures local { IfOk result (λ c. (fields_of c).has_globals ≡ false) }
 {
-    optioned(alloc, profiles)?.subcommand(named(alloc, "file")?)
+    optioned(alloc, profiles)?
+        .subcommand(named(alloc, "file")?)?
+        .subcommand(named(alloc, "setting")?)?
+        .subcommand(plain(alloc, "kinds"))
 }

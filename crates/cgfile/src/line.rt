@@ -1,4 +1,4 @@
-//! The last line of a run, which takes no memory.
+//! Short lines, which take no memory: the last line of a run.
 ghost use Rattle.std.specs.Prelude.{◌≡◌, ◌++◌, [], ◌≤◌, ◌+◌, length, decimal, codes};
 ghost use Rattle.cgfile.specs.Outcome.{why_words, stop_line, last_line};
 
@@ -26,7 +26,7 @@ impl Model for Line {
 
 impl Line {
     /// The empty line.
-    fn new() -> Line
+    pub(crate) fn new() -> Line
         ensures { result ≡ [] }
     {
         Line {
@@ -36,7 +36,7 @@ impl Line {
     }
 
     /// Adds bytes.
-    fn add(&mut self, bytes: &[u8])
+    pub(crate) fn add(&mut self, bytes: &[u8])
         requires { length self.old + length bytes.now ≤ 80 }
         ensures { self.new ≡ self.old ++ bytes.now }
     {

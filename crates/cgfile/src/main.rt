@@ -3,16 +3,20 @@
 
 mod command_line;
 mod cut;
+mod kinds;
 mod line;
 mod outcome;
 mod plain;
 mod reading;
 mod run;
+#[cfg(test)]
+mod setting_tests;
 mod source;
 #[cfg(test)]
 mod starved;
 #[cfg(test)]
 mod tests;
+mod text_reader;
 mod words;
 
 use cg_print::{PlainWriter, Sink, write_text};

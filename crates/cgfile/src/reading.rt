@@ -1,13 +1,12 @@
-//! Reading one file from a source.
+//! Reading one text from a source.
 ghost use Rattle.std.specs.Prelude.{◌≡◌, ◌≤◌, ◌<◌, ◌+◌, ℕ, List, [], ◌∷◌, ◌++◌, false, length, take, IfNone};
-ghost use Rattle.cg_value.specs.declared.kind.ReadForm.{ReadForm};
-ghost use Rattle.cg_value.specs.Files.{KindFile};
-ghost use Rattle.cg_line.specs.Reads.{Reads};
+ghost use Rattle.cg_text.specs.Texts.{TextOf};
 ghost use Rattle.cg_snap.specs.Stop.{TextStopOf};
 ghost use Rattle.cgfile.specs.Reading.{ending_of, GoesOn, TookPiece, HasRead};
 
 use crate::source::Source;
-use cg_line::{PushFault, ValueReader};
+use crate::text_reader::TextReader;
+use cg_line::PushFault;
 use cg_print::Failed;
 use cg_snap::{Stop, Why};
 
@@ -24,8 +23,8 @@ pub(crate) enum Ending {
 }
 
 /// How the byte whose place is the limit of the stream stops it: by the grammar first.
-fn stop_at_limit(reader: &ValueReader, byte: u8, at: u64) -> Stop
-    ensures { (kind : ReadForm) (taken : List ℕ) → Reads reader.now kind taken → at ≡ length taken → TextStopOf (KindFile kind) at (taken ++ byte ∷ []) result }
+fn stop_at_limit<T: TextReader>(reader: &T, byte: u8, at: u64) -> Stop
+    ensures { (form : T.Form) (taken : List ℕ) → T.took reader.now form taken → at ≡ length taken → TextStopOf (TextOf (T.text form)) at (taken ++ byte ∷ []) result }
 {
     if reader.allowed().contains(byte) {
         Stop::TooMuch { at }
@@ -58,9 +57,10 @@ fn ending_at(fault: PushFault, at: u64) -> Ending
 }
 
 /// Takes the bytes of a piece, of which the first has the place `at`.
-fn take_piece(reader: &mut ValueReader, piece: &[u8], at: u64, max: u64) -> Option<Ending>
+fn take_piece<T: TextReader>(reader: &mut T, piece: &[u8], at: u64, max: u64) -> Option<Ending>
     requires { at ≤ max }
-    ensures took { (kind : ReadForm) (taken : List ℕ) → at ≡ length taken → GoesOn kind max reader.old taken → TookPiece kind max taken piece.now reader.new result }
+    ensures took { (form : T.Form) (taken : List ℕ) → at ≡ length taken → GoesOn (T.took reader.old form) max taken →
+        TookPiece (TextOf (T.text form)) (T.took reader.new form) max taken piece.now result }
     ensures room { IfNone result (at + length piece.now ≤ max) }
 {
     let mut used = 0;
@@ -80,16 +80,16 @@ fn take_piece(reader: &mut ValueReader, piece: &[u8], at: u64, max: u64) -> Opti
     None
 }
 
-/// Reads a file to the end of its source, or until something stops it.
-pub(crate) fn read_all<R: Source>(
-    reader: &mut ValueReader,
+/// Reads a text to the end of its source, or until something stops it.
+pub(crate) fn read_all<T: TextReader, R: Source>(
+    reader: &mut T,
     source: &mut R,
     buffer: &mut [u8],
     max: u64,
 ) -> Ending
     requires { 0 < length buffer.old }
-    ensures read { (kind : ReadForm) → Reads reader.old kind [] → R.has_failed source.old ≡ false →
-        HasRead kind max reader.new (R.coming source.old) (R.coming source.new) (R.has_failed source.new) result }
+    ensures read { (form : T.Form) → T.took reader.old form [] → R.has_failed source.old ≡ false →
+        HasRead (TextOf (T.text form)) (T.took reader.new form) max (R.coming source.old) (R.coming source.new) (R.has_failed source.new) result }
     ensures asks { R.asks source.new ≤ R.asks source.old + max + 1 }
 {
     let mut at = 0;

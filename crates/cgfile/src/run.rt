@@ -1,22 +1,21 @@
 //! The program's run.
-ghost use Rattle.std.specs.Prelude.{◌≡◌, ◌≢◌, ◌≤◌, ◌+◌, ℕ, List, false, None, length};
-ghost use Rattle.cg_value.specs.Table.{read_form_of};
+ghost use Rattle.std.specs.Prelude.{◌≡◌, ◌≢◌, ◌≤◌, ◌+◌, ℕ, List, [], false, None, length};
+ghost use Rattle.cg_value.specs.Table.{read_form_of, write_form_of};
 ghost use Rattle.cgfile.specs.Outcome.{last_line, is_write_fault};
-ghost use Rattle.cg_line.specs.Reads.{Reads};
-ghost use Rattle.cg_value.specs.Files.{KindText};
-ghost use Rattle.cg_value.specs.declared.kind.ReadForm.{ReadForm};
-ghost use Rattle.cgfile.specs.Run.{Ran, DidRun, Wrote, IsIdle, IsFileRight, IsNameRight};
+ghost use Rattle.cgfile.specs.Run.{Ran, DidRun, Wrote, IsIdle, IsTextRight, IsFileRight, IsWriteRight};
 ghost use Rattle.cgfile.specs.Ended.{HasEnded};
 
+use crate::kinds::told_kinds;
 use crate::line::last_line_of;
 use crate::outcome::Outcome;
 use crate::reading::{Ending, read_all};
 use crate::source::Source;
+use crate::text_reader::TextReader;
 use crate::words::Command;
-use cg_line::ValueReader;
-use cg_print::{Sink, WriteStopped, print_file, write_text};
+use cg_line::{SettingReader, ValueReader};
+use cg_print::{Sink, WriteStopped, write_text};
 use cg_snap::{Limits, Stop};
-use cg_value::{Profile, ReadKind, Value, read_kind};
+use cg_value::{Profile, read_kind, write_kind};
 use std::alloc::Global;
 
 /// How many bytes are read at once.
@@ -42,42 +41,45 @@ fn told_line<W: Sink>(writer: &mut W, outcome: Outcome) -> Outcome
     told(writer, line.bytes(), outcome)
 }
 
-/// What is written of the value of a whole file.
-fn told_value<W: Sink>(alloc: Global, value: &Value, writer: &mut W) -> Outcome
-    ensures { (kind : ReadForm) (bytes : List ℕ) → KindText kind value.now bytes →
-        HasEnded kind bytes (W.taken writer.old) (W.taken writer.new) (W.has_failed writer.new) result }
+/// What is written of what a whole text spells.
+fn told_spelled<T: TextReader, W: Sink>(
+    alloc: Global,
+    spelled: &T::Spelled,
+    writer: &mut W,
+) -> Outcome
+    ensures { (form : T.Form) (bytes : List ℕ) → T.text form bytes spelled.now →
+        HasEnded (T.text form) T.printed bytes (W.taken writer.old) (W.taken writer.new) (W.has_failed writer.new) result }
 {
-    match print_file(alloc, value) {
+    match T::print(alloc, spelled) {
         Ok(text) => told(writer, text.as_slice(), Outcome::Done),
         Err(_) => told_line(writer, Outcome::OutOfMemory),
     }
 }
 
-/// What is written once a file's input has ended at this place.
-fn told_end<W: Sink>(alloc: Global, reader: ValueReader, at: u64, writer: &mut W) -> Outcome
-    ensures { (kind : ReadForm) (bytes : List ℕ) → Reads reader kind bytes → at ≡ length bytes →
-        HasEnded kind bytes (W.taken writer.old) (W.taken writer.new) (W.has_failed writer.new) result }
+/// What is written once the input of a text has ended at this place.
+fn told_end<T: TextReader, W: Sink>(alloc: Global, text: T, at: u64, writer: &mut W) -> Outcome
+    ensures { (form : T.Form) (bytes : List ℕ) → T.took text form bytes → at ≡ length bytes →
+        HasEnded (T.text form) T.printed bytes (W.taken writer.old) (W.taken writer.new) (W.has_failed writer.new) result }
 {
-    match reader.finish() {
-        Ok(value) => told_value(alloc, &value, writer),
-        Err(_) => told_line(writer, Outcome::Stopped(Stop::Cut { at })),
+    match text.finish() {
+        Some(spelled) => told_spelled::<T, W>(alloc, &spelled, writer),
+        None => told_line(writer, Outcome::Stopped(Stop::Cut { at })),
     }
 }
 
-/// Reads a file of this kind and writes its canonical text after the end of input.
-fn run_kind<R: Source, W: Sink>(
+/// Reads a text and writes its canonical text after the end of input.
+fn run_text<T: TextReader, R: Source, W: Sink>(
     alloc: Global,
-    kind: ReadKind,
+    mut text: T,
     reader: &mut R,
     writer: &mut W,
     max: u64,
 ) -> Outcome
-    ensures ran { R.has_failed reader.old ≡ false → DidRun (IsFileRight kind max)
+    ensures ran { (form : T.Form) → T.took text form [] → R.has_failed reader.old ≡ false → DidRun (IsTextRight (T.text form) T.printed max)
         (R.coming reader.old) (R.coming reader.new) (R.has_failed reader.new)
         (W.taken writer.old) (W.taken writer.new) (W.has_failed writer.new) result }
     ensures asks { R.asks reader.new ≤ R.asks reader.old + max + 1 }
 {
-    let mut text = ValueReader::new(alloc, kind);
     let mut buffer = [0; PIECE];
     match read_all(&mut text, reader, &mut buffer, max) {
         Ending::End { at } => told_end(alloc, text, at, writer),
@@ -96,7 +98,7 @@ fn run_file<R: Source, W: Sink>(
     writer: &mut W,
     max: u64,
 ) -> Outcome
-    ensures ran { R.has_failed reader.old ≡ false → DidRun (IsNameRight (read_form_of profile name.now) max)
+    ensures ran { R.has_failed reader.old ≡ false → DidRun (IsFileRight (read_form_of profile name.now) max)
         (R.coming reader.old) (R.coming reader.new) (R.has_failed reader.new)
         (W.taken writer.old) (W.taken writer.new) (W.has_failed writer.new) result }
     ensures asks { R.asks reader.new ≤ R.asks reader.old + max + 1 }
@@ -104,8 +106,30 @@ fn run_file<R: Source, W: Sink>(
     ensures no_memory { read_form_of profile name.now ≡ None → result ≢ Outcome.OutOfMemory }
 {
     match read_kind(profile, name) {
-        Ok(kind) => run_kind(alloc, kind, reader, writer, max),
+        Ok(kind) => run_text(alloc, ValueReader::new(alloc, kind), reader, writer, max),
         Err(_) => told_line(writer, Outcome::NotReadable),
+    }
+}
+
+/// Reads one write to the file of this name, where it can be written.
+fn run_setting<R: Source, W: Sink>(
+    alloc: Global,
+    profile: Profile,
+    name: &[u8],
+    reader: &mut R,
+    writer: &mut W,
+    max: u64,
+) -> Outcome
+    ensures ran { R.has_failed reader.old ≡ false → DidRun (IsWriteRight (write_form_of profile name.now) max)
+        (R.coming reader.old) (R.coming reader.new) (R.has_failed reader.new)
+        (W.taken writer.old) (W.taken writer.new) (W.has_failed writer.new) result }
+    ensures asks { R.asks reader.new ≤ R.asks reader.old + max + 1 }
+    ensures unasked { write_form_of profile name.now ≡ None → R.asks reader.new ≡ R.asks reader.old }
+    ensures no_memory { write_form_of profile name.now ≡ None → result ≢ Outcome.OutOfMemory }
+{
+    match write_kind(profile, name) {
+        Ok(kind) => run_text(alloc, SettingReader::new(alloc, kind), reader, writer, max),
+        Err(_) => told_line(writer, Outcome::NotWritable),
     }
 }
 
@@ -127,22 +151,16 @@ pub fn run<R: Source, W: Sink>(
     ensures unasked { IsIdle profile command.now → R.asks reader.new ≡ R.asks reader.old }
     ensures no_memory { IsIdle profile command.now → result ≢ Outcome.OutOfMemory }
 {
+    let max = limits.max_stream;
     match command {
-        Command::File { name } => {
-            run_file(
-                alloc,
-                profile,
-                name.as_slice(),
-                reader,
-                writer,
-                limits.max_stream,
-            )
+        Command::File { name } => run_file(alloc, profile, name.as_slice(), reader, writer, max),
+        Command::Setting { name } => {
+            run_setting(alloc, profile, name.as_slice(), reader, writer, max)
         }
-        Command::Setting { .. } => told_line(writer, Outcome::NotWritable),
+        Command::Kinds => told_kinds(profile, writer),
         Command::Plan => told_line(writer, Outcome::NotWritable),
         Command::Show => told_line(writer, Outcome::NotReadable),
         Command::Json => told_line(writer, Outcome::NotReadable),
         Command::Check => told_line(writer, Outcome::NotReadable),
-        Command::Kinds => told_line(writer, Outcome::NotReadable),
     }
 }

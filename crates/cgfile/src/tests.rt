@@ -17,7 +17,22 @@ fn file(alloc: Global, name: &[u8]) -> Result<Command, AllocError> {
     })
 }
 
-/// A run of `file NAME` over these bytes, which a source gives and a sink takes a few at a time.
+/// A run of a command over these bytes, which a source gives and a sink takes a few at a time.
+pub(crate) fn run_over(
+    alloc: Global,
+    profile: Profile,
+    command: &Command,
+    input: &[u8],
+    limits: Limits,
+    step: usize,
+) -> (Outcome, CutSink) {
+    let mut source = CutSource::new(input, usize::MAX, step);
+    let mut sink = CutSink::new(usize::MAX, step);
+    let outcome = run(alloc, profile, command, &mut source, &mut sink, limits);
+    (outcome, sink)
+}
+
+/// A run of `file NAME` over these bytes.
 fn run_file(
     alloc: Global,
     name: &[u8],
@@ -26,17 +41,7 @@ fn run_file(
     step: usize,
 ) -> Result<(Outcome, CutSink), AllocError> {
     let command = file(alloc, name)?;
-    let mut source = CutSource::new(input, usize::MAX, step);
-    let mut sink = CutSink::new(usize::MAX, step);
-    let outcome = run(
-        alloc,
-        Profile::One,
-        &command,
-        &mut source,
-        &mut sink,
-        limits,
-    );
-    Ok((outcome, sink))
+    Ok(run_over(alloc, Profile::One, &command, input, limits, step))
 }
 
 /// Rows of one file: its name, its bytes, what is written and the status.
@@ -448,7 +453,6 @@ fn commands_that_are_not_built(rt: HostRuntime) -> Result<(), Fail> {
         (Command::Show, Outcome::NotReadable),
         (Command::Json, Outcome::NotReadable),
         (Command::Check, Outcome::NotReadable),
-        (Command::Kinds, Outcome::NotReadable),
         (Command::Plan, Outcome::NotWritable),
     ];
     for (command, wanted) in commands {
@@ -487,28 +491,18 @@ pub(crate) fn hog(alloc: Global) -> Result<Vec<Vec<u8>>, AllocError> {
     Ok(held)
 }
 
-/// Runs a row without memory, gives back a block after each refusal, and runs it again. Answers how often memory was
-/// refused, and whether the last run wrote what the row says.
-fn starved(
+/// Runs a command without memory, gives back a block after each refusal, and runs it again. Answers how often memory was
+/// refused, and whether the last run wrote this.
+pub(crate) fn starved(
     alloc: Global,
-    name: &[u8],
+    command: &Command,
     input: &[u8],
     written: &[u8],
 ) -> Result<(u64, bool), AllocError> {
-    let command = file(alloc, name)?;
     let mut held = hog(alloc)?;
     let mut refusals: u64 = 0;
     for _ in 0..5000 {
-        let mut source = CutSource::new(input, usize::MAX, 4096);
-        let mut sink = CutSink::new(usize::MAX, 4096);
-        let outcome = run(
-            alloc,
-            Profile::One,
-            &command,
-            &mut source,
-            &mut sink,
-            Limits::DEFAULT,
-        );
+        let (outcome, sink) = run_over(alloc, Profile::One, command, input, Limits::DEFAULT, 4096);
         if outcome != Outcome::OutOfMemory {
             return Ok((refusals, sink.bytes() == written));
         }
@@ -530,7 +524,8 @@ fn wants_of_memory(rt: HostRuntime) -> Result<(), Fail> {
         (b"hugetlb.2MB.max", b"ab\nc\n", b"ab\nc\n"),
     ];
     for (name, input, written) in rows {
-        let (refusals, right) = starved(rt.alloc(), name, input, written)?;
+        let command = file(rt.alloc(), name)?;
+        let (refusals, right) = starved(rt.alloc(), &command, input, written)?;
         assert!(rt; right, "{name:?}");
         assert!(rt; refusals > 0, "{name:?} {refusals}");
     }

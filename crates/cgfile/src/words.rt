@@ -226,6 +226,19 @@ mod tests {
         named && read == profile && taken == limits
     }
 
+    /// Whether the words ask for one write to the file of this name, or for the list of the kinds, in this profile.
+    fn is_other(parsed: Parsed, profile: Profile, name: Option<&[u8]>) -> bool {
+        let Ok((read, command, _)) = parsed else {
+            return false;
+        };
+        let named = match command {
+            Command::Setting { name: held } => name == Some(held.as_slice()),
+            Command::Kinds => name.is_none(),
+            _ => false,
+        };
+        named && read == profile
+    }
+
     fn is_bad(parsed: Parsed) -> bool {
         matches!(parsed, Err(UsageFault::Bad))
     }
@@ -290,12 +303,24 @@ mod tests {
     }
 
     #[test]
+    fn settings_and_kinds(rt: HostRuntime) {
+        let name: &[u8] = b"cpu.max";
+        let plain = parsed(rt.alloc(), &["setting", "cpu.max"]);
+        assert!(rt; is_other(plain, Profile::One, Some(name)));
+        let two = parsed(rt.alloc(), &["--profile", "2", "setting", "cpu.max"]);
+        assert!(rt; is_other(two, Profile::Two, Some(name)));
+        assert!(rt; is_other(parsed(rt.alloc(), &["kinds"]), Profile::One, None));
+        assert!(rt; is_bad(parsed(rt.alloc(), &["setting"])));
+        assert!(rt; is_bad(parsed(rt.alloc(), &["kinds", "cpu.max"])));
+        assert!(rt; is_bad(parsed(rt.alloc(), &["--profile", "3", "kinds"])));
+    }
+
+    #[test]
     fn commands_that_are_not_there(rt: HostRuntime) {
-        for name in ["show", "json", "check", "plan", "kinds"] {
+        for name in ["show", "json", "check", "plan"] {
             let words = [name];
             assert!(rt; is_bad(parsed(rt.alloc(), words.as_slice())), "{name}");
         }
-        assert!(rt; is_bad(parsed(rt.alloc(), &["setting", "cpu.max"])));
     }
 
     #[test]

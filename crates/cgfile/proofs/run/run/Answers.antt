@@ -1,13 +1,15 @@
-use Rattle.std.proofs.Common.{refl}
-use Rattle.cgfile.specs.Run.{IsRight}
+use Rattle.std.proofs.Common.{[], refl, append-nil}
+use Rattle.cgfile.specs.Kinds.{kinds_lines}
+use Rattle.cgfile.specs.Run.{IsRight, joined}
 use Rattle.cgfile.specs.declared.outcome.Outcome.TheVariants as out
 use Rattle.cgfile.proofs.RunLemmas.{idle_ran}
+use Rattle.cgfile.proofs.Took.{Consumes-nil}
 use Rattle.cgfile.proofs.run.run.Goals as goal
 
 pub returns-in-Plan-clause-ran : goal.returns-in-Plan-clause-ran
 returns-in-Plan-clause-ran g c fresh =
-    idle_ran (IsRight c.args.profile c.args.command.now c.args.limits) _ _ _ _ _ out.NotWritable c.told_line-in-Plan.result
-    (rw c.in-Plan.is (record { outcome = refl; unread = refl; none = refl })) c.told_line-in-Plan.ensures
+    idle_ran (IsRight c.args.profile c.args.command.now c.args.limits) _ _ _ _ _ out.NotWritable c.told_line.result
+    (rw c.in-Plan.is (record { outcome = refl; unread = refl; none = refl })) c.told_line.ensures
 
 pub returns-in-Show-clause-ran : goal.returns-in-Show-clause-ran
 returns-in-Show-clause-ran g c fresh =
@@ -25,6 +27,11 @@ returns-in-Check-clause-ran g c fresh =
     (rw c.in-Check.is (record { outcome = refl; unread = refl; none = refl })) c.told_line-in-Check.ensures
 
 pub returns-in-Kinds-clause-ran : goal.returns-in-Kinds-clause-ran
-returns-in-Kinds-clause-ran g c fresh =
-    idle_ran (IsRight c.args.profile c.args.command.now c.args.limits) _ _ _ _ _ out.NotReadable c.told_line-in-Kinds.result
-    (rw c.in-Kinds.is (record { outcome = refl; unread = refl; none = refl })) c.told_line-in-Kinds.ensures
+returns-in-Kinds-clause-ran g c fresh = record {
+  read = [];
+  consumed = Consumes-nil (g.R.Source.coming c.args.reader.now);
+  wanted = out.Done;
+  parts = kinds_lines c.args.profile;
+  right = rw c.in-Kinds.is (record { outcome = refl; unread = refl; lines = refl });
+  wrote = rw (append-nil (joined (kinds_lines c.args.profile))) c.told_kinds.ensures;
+}
