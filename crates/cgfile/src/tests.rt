@@ -492,13 +492,15 @@ pub(crate) fn hog(alloc: Global) -> Result<Vec<Vec<u8>>, AllocError> {
 }
 
 /// Runs a command without memory, gives back a block after each refusal, and runs it again. Answers how often memory was
-/// refused, and whether the last run wrote this.
+/// refused, and whether the last run wrote this. A first run with memory lets the stack grow to what a run needs: later
+/// it couldn't.
 pub(crate) fn starved(
     alloc: Global,
     command: &Command,
     input: &[u8],
     written: &[u8],
 ) -> Result<(u64, bool), AllocError> {
+    let _ = run_over(alloc, Profile::One, command, input, Limits::DEFAULT, 4096);
     let mut held = hog(alloc)?;
     let mut refusals: u64 = 0;
     for _ in 0..5000 {
