@@ -7,6 +7,7 @@ pub mod NestedRests
 pub mod PartitionRests
 pub mod PressureRests
 pub mod RawRests
+pub mod RunLaws
 pub mod ScalarRests
 pub mod SignedRests
 pub mod StatsRests

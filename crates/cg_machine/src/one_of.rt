@@ -53,6 +53,21 @@ impl<T: Settled> TextMachine for Whole<T> {
         }
     }
 
+    /// Steps the token until a newline, or a byte that is refused or for which memory is: `take_byte` meets it again.
+    fn take_run(&mut self, bytes: &[u8]) -> usize {
+        for (used, byte) in bytes.iter().enumerate() {
+            if *byte == b'\n' {
+                return used;
+            }
+            match self.token.step(*byte) {
+                Ok(true) => {}
+                Ok(false) => return used,
+                Err(_) => return used,
+            }
+        }
+        bytes.len()
+    }
+
     fn allows_byte(&self, byte: u8) -> bool {
         self.token.allows(byte)
     }
