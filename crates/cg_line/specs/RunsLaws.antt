@@ -65,14 +65,6 @@ module _ (r : ValueReader) (m : FileMachine) (kind : ReadForm) (taken run : List
 
 -- ---- How far a run got
 
--- One more byte, which is no newline.
-pub plain_more : (bytes : List ℕ) (i : ℕ) → i < length bytes → get_or bytes i 0 ≢ 10 → Lacks 10 (take i bytes) → Lacks 10 (take (i + 1) bytes)
-plain_more bytes i within other plain = rw (take_more bytes i 0 within) (plain_joined (take i bytes) (get_or bytes i 0) other plain)
-  where
-    plain_joined : (xs : List ℕ) (b : ℕ) → b ≢ 10 → Lacks 10 xs → Lacks 10 (xs ++ b ∷ [])
-    plain_joined [] b other plain = (other, tt)
-    plain_joined (x ∷ xs) b other plain = (plain.0, plain_joined xs b other plain.1)
-
 -- One more byte was taken.
 pub run_more : (Took : List ℕ → Type 0) (taken bytes : List ℕ) (i : ℕ) → i < length bytes → Took ((taken ++ take i bytes) ++ get_or bytes i 0 ∷ []) → Took (taken ++ take (i + 1) bytes)
 run_more Took taken bytes i within h = rw (take_more bytes i 0 within, ← append_assoc taken (take i bytes) (get_or bytes i 0 ∷ [])) h
