@@ -44,10 +44,6 @@ impl TextMachine for ListMachine {
         self.tree.take_byte(byte)
     }
 
-    fn take_run(&mut self, bytes: &[u8]) -> usize {
-        self.tree.take_run(bytes)
-    }
-
     fn allows_byte(&self, byte: u8) -> bool {
         self.tree.allows_byte(byte)
     }

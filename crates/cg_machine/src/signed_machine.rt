@@ -38,10 +38,6 @@ impl TextMachine for SignedMachine {
         self.text.take_byte(byte)
     }
 
-    fn take_run(&mut self, bytes: &[u8]) -> usize {
-        self.text.take_run(bytes)
-    }
-
     fn allows_byte(&self, byte: u8) -> bool {
         self.text.allows_byte(byte)
     }
