@@ -1,5 +1,5 @@
 -- How the list of the kinds grows by a line.
-use Rattle.std.proofs.Common.{◌≡◌, ℕ, ◌+◌, ◌<◌, ◌≤◌, Bool, true, false, List, [], ◌∷◌, ◌++◌, take, length, get_or, map, nat_lt, drop, drop-cons, take-append-drop, suc, refl, sym, ap, ◌∙◌, append_assoc, append-nil, arith, ltb-true, length-append, true≢false}
+use Rattle.std.proofs.Common.{◌≡◌, ℕ, ◌+◌, ◌<◌, ◌≤◌, Bool, true, false, List, [], ◌∷◌, ◌++◌, take, length, get_or, nat_lt, drop, drop-cons, take-append-drop, suc, refl, sym, ap, ◌∙◌, append_assoc, append-nil, arith, ltb-true, length-append, true≢false}
 use Rattle.std.proofs.lemmas.List.{get_or-map, length-map, take_more, take_all, take-append-le}
 use Rattle.std.proofs.lemmas.List.Folds.{list_all_at}
 use Rattle.std.proofs.Math.Seq.{take-append-add}

@@ -1,6 +1,6 @@
 -- What is right for a run.
-use Rattle.std.proofs.Common.{◌≡◌, ℕ, ◌≤◌, Bool, true, false, List, [], ◌∷◌, ◌++◌, length, Option, Some, None, refl, sym, ap, ◌∙◌}
-use Rattle.std.specs.Io.KnownBytes.{IsAtEnd, Consumes, Appends}
+use Rattle.std.proofs.Common.{◌≡◌, ℕ, Bool, false, List, [], Option, refl}
+use Rattle.std.specs.Io.KnownBytes.{IsAtEnd}
 use Rattle.cg_text.specs.Texts.{TextOf}
 use Rattle.cg_snap.specs.Stop.{IsTextUnstopped, TextStopOf}
 use Rattle.cg_snap.specs.declared.stop.Stop.{Stop}

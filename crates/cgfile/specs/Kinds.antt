@@ -1,5 +1,5 @@
 -- The list of the kinds of files, a line for each row of the file table.
-use Rattle.std.specs.Prelude.{ℕ, List, ◌∷◌, ◌++◌, [], Option, Some, None, codes, map}
+use Rattle.std.specs.Prelude.{ℕ, List, ◌++◌, Option, Some, None, codes, map}
 use Rattle.cg_value.specs.Kind.{read_word, write_word}
 use Rattle.cg_value.specs.Table.{Row, rows, read_form_of, write_form_of}
 use Rattle.cg_value.specs.declared.profile.Profile.{Profile}

@@ -1,7 +1,6 @@
-use Rattle.std.proofs.Common.{◌≡◌, ◌+◌, ◌*◌, ◌≤◌, ◌++◌, refl, sym, ap, ◌∙◌, take, length, length-append, arith, min}
+use Rattle.std.proofs.Common.{◌≡◌, ◌+◌, ◌≤◌, ◌++◌, refl, sym, ap, ◌∙◌, take, length, length-append, arith}
 use Rattle.std.proofs.Math.Nat.{min-eq_left}
 use Rattle.cg_print.proofs.Known.{Appends-trans}
-use Rattle.cg_text.specs.Token.{told}
 use Rattle.cg_value.specs.TableRows.{table_name_at}
 use Rattle.cgfile.specs.Kinds.{kinds_line, kinds_lines}
 use Rattle.cgfile.specs.Run.{joined}

@@ -1,4 +1,4 @@
-use Rattle.std.proofs.Common.{◌≡◌, ◌++◌, ◌∙◌, length}
+use Rattle.std.proofs.Common.{◌++◌}
 use Rattle.cg_text.specs.Texts.{TextOf}
 use Rattle.cgfile.proofs.Took.{Consumes-trans, Consumes-kept, ended_piece, goes_unstopped}
 use Rattle.cgfile.proofs.reading.read_all.Goals as goal
