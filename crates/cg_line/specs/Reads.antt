@@ -10,7 +10,7 @@ use Rattle.cg_line.specs.Place.{IsPlace}
 use Rattle.cg_machine.specs.declared.machine.PushFault.{PushFault}
 use Rattle.cg_machine.specs.declared.machine.PushFault.TheVariants.{Refused, OutOfMemory}
 use Rattle.cg_line.specs.declared.reader.ValueReader.{ValueReader}
-use Rattle.cg_machine.specs.contracts.file_machine.FileMachineTextMachine.TheImpl.{ghosts}
+use Rattle.cg_file_machine.specs.contracts.file_machine.FileMachineTextMachine.TheImpl.{ghosts}
 
 -- The machine has the rests of a file of this kind after these bytes, and the place is that of the bytes.
 pub record HasTaken (r : ValueReader) (kind : ReadForm) (taken : List ℕ) : Type 0 where

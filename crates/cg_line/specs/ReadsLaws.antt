@@ -10,12 +10,12 @@ use Rattle.cg_machine.specs.MachineLaws.{pushed, whole_is, value_is, next_is}
 use Rattle.cg_line.specs.Place.{IsPlace}
 use Rattle.cg_file.specs.Kinds.{TextsOf, HoldsLittle}
 use Rattle.cg_line.specs.Reads.{HasTaken, Reads, IsPushed, reads_is, is_reads}
-use Rattle.cg_machine.specs.declared.file_machine.FileMachine.{FileMachine}
+use Rattle.cg_file_machine.specs.declared.file_machine.FileMachine.{FileMachine}
 use Rattle.cg_machine.specs.declared.machine.PushFault.{PushFault}
 use Rattle.cg_machine.specs.declared.machine.PushFault.TheVariants.{Refused, OutOfMemory}
 use Rattle.cg_line.specs.declared.place.Place.{Place}
 use Rattle.cg_line.specs.declared.reader.ValueReader.{ValueReader}
-use Rattle.cg_machine.specs.contracts.file_machine.FileMachineTextMachine.TheImpl.{ghosts}
+use Rattle.cg_file_machine.specs.contracts.file_machine.FileMachineTextMachine.TheImpl.{ghosts}
 
 -- The byte was taken.
 pub pushed_on : (r : ValueReader) (m : FileMachine) (p : Place) (kind : ReadForm) (taken : List ℕ) (b : ℕ) → Pushes (ghosts.means r.machine) b (ghosts.means m) (Ok tt) →

@@ -5,8 +5,8 @@ use Rattle.cg_text.specs.Texts.{Lacks, Viable, TextOf}
 use Rattle.cg_value.specs.declared.kind.ReadForm.{ReadForm}
 use Rattle.cg_file.specs.Kinds.{TextsOf}
 use Rattle.cg_machine.specs.Machine.{Goes, IsRead, Runs}
-use Rattle.cg_machine.specs.contracts.file_machine.FileMachineTextMachine.TheImpl.{ghosts}
-use Rattle.cg_machine.specs.declared.file_machine.FileMachine.{FileMachine}
+use Rattle.cg_file_machine.specs.contracts.file_machine.FileMachineTextMachine.TheImpl.{ghosts}
+use Rattle.cg_file_machine.specs.declared.file_machine.FileMachine.{FileMachine}
 use Rattle.cg_line.specs.HeldLaws.{holds_run}
 use Rattle.cg_line.specs.Place.{IsPlace}
 use Rattle.cg_line.specs.Reads.{Reads, is_reads, reads_is}

@@ -11,7 +11,8 @@ ghost use Rattle.cg_value.specs.declared.kind.ReadForm.{ReadForm};
 ghost use Rattle.cg_line.specs.Place.{TakesLine};
 
 use crate::place::Place;
-use cg_machine::{FileMachine, PushFault, TextMachine, machine_of};
+use cg_file_machine::{FileMachine, machine_of};
+use cg_machine::{PushFault, TextMachine};
 use cg_text::ByteSet;
 use cg_value::{ReadKind, Value};
 use std::alloc::Global;

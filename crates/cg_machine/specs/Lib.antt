@@ -1,15 +1,3 @@
-pub mod FlatRests
-pub mod LimitsRests
-pub mod ListRests
 pub mod Machine
 pub mod MachineLaws
-pub mod NestedRests
-pub mod PartitionRests
-pub mod PressureRests
-pub mod RawRests
 pub mod RunLaws
-pub mod ScalarRests
-pub mod SignedRests
-pub mod StatsRests
-pub mod TargetsRests
-pub mod WeightsRests

@@ -2,7 +2,7 @@ use Rattle.std.proofs.Common.{[], ◌∷◌, ◌++◌}
 use Rattle.cg_line.specs.HeldLaws.{holds_more}
 use Rattle.cg_file.specs.Kinds.{TextsOf}
 use Rattle.cg_machine.specs.MachineLaws.{is_value}
-use Rattle.cg_machine.specs.contracts.file_machine.FileMachineTextMachine.TheImpl.{ghosts}
+use Rattle.cg_file_machine.specs.contracts.file_machine.FileMachineTextMachine.TheImpl.{ghosts}
 use Rattle.cg_line.specs.Reads.{is_reads, held_by}
 use Rattle.cg_line.specs.ReadsLaws.{pushed_on, refused_byte}
 use Rattle.cg_line.proofs.reader.ValueReader.push.Goals as goal

@@ -1,7 +1,7 @@
 use Rattle.std.proofs.Common.{◌≡◌, ◌<◌, ◌≤◌, ◌+◌, [], refl, length, take, length-take, arith}
 use Rattle.cg_line.specs.Reads.{held_by}
 use Rattle.cg_line.specs.RunsLaws.{ran_none, ran_on}
-use Rattle.cg_machine.specs.contracts.file_machine.FileMachineTextMachine.TheImpl.{ghosts}
+use Rattle.cg_file_machine.specs.contracts.file_machine.FileMachineTextMachine.TheImpl.{ghosts}
 use Rattle.cg_line.proofs.reader.ValueReader.scan.Goals as goal
 
 pub returns-then-used-gt0-clause-reads : goal.returns-then-used-gt0-clause-reads

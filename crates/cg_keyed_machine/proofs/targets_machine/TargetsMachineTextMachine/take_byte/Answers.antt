@@ -1,0 +1,18 @@
+use Rattle.cg_keyed_machine.specs.TargetsRests.{targets_rests, targets_room}
+use Rattle.cg_keyed_machine.proofs.targets_machine.TargetsMachineTextMachine.take_byte.Goals as goal
+
+pub returns-clause-pushes : goal.returns-clause-pushes
+unfolding targets_rests
+returns-clause-pushes c = c.take_byte.ensures.pushes
+
+pub returns-clause-size : goal.returns-clause-size
+unfolding targets_room
+returns-clause-size c = c.take_byte.ensures.size
+
+pub returns-clause-same_size : goal.returns-clause-same_size
+unfolding targets_room
+returns-clause-same_size c = c.take_byte.ensures.same_size
+
+pub returns-clause-settled : goal.returns-clause-settled
+unfolding targets_rests targets_room
+returns-clause-settled c = c.take_byte.ensures.settled

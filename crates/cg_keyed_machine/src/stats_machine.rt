@@ -1,0 +1,72 @@
+//! The machine of the file of the statistics of devices.
+ghost use Rattle.std.specs.Prelude.{◌≡◌, ◌≤◌, []};
+ghost use Rattle.cg_value.specs.declared.kind.ReadForm.TheVariants.{DeviceStats as DeviceStatsForm};
+ghost use Rattle.cg_file.specs.Kinds.{TextsOf, held_of_whole};
+ghost use Rattle.cg_machine.specs.Machine.{IsRead};
+
+use cg_file::stat_file::{StatsFile, stats_file};
+use cg_machine::machine::Opened;
+use cg_machine::one_of::Whole;
+use cg_machine::{PushFault, TextMachine};
+use cg_value::Value;
+use std::alloc::Global;
+
+/// A machine over the whole text of the file of the statistics of devices.
+#[derive(Drop)]
+pub struct StatsMachine {
+    text: Whole<StatsFile>,
+}
+
+impl Opened for StatsMachine {
+    type Spelled = Value;
+
+    ghost rests = { λ s. ⟦<Whole<StatsFile> as TextMachine>⟧.means s.text };
+
+    ghost room = { λ s. ⟦<Whole<StatsFile> as TextMachine>⟧.size s.text };
+}
+
+impl TextMachine for StatsMachine {
+    type Out = Value;
+
+    ghost use Rattle.cg_keyed_machine.specs.StatsRests.{stats_rests, stats_room};
+
+    ghost means = { stats_rests };
+
+    ghost size = { stats_room };
+
+    ghost holds = { λ v n. n ≤ held_of_whole v };
+
+    fn take_byte(&mut self, byte: u8) -> Result<(), PushFault> {
+        self.text.take_byte(byte)
+    }
+
+    fn take_run(&mut self, bytes: &[u8]) -> usize {
+        self.text.take_run(bytes)
+    }
+
+    fn allows_byte(&self, byte: u8) -> bool {
+        self.text.allows_byte(byte)
+    }
+
+    fn is_whole(&self) -> bool {
+        self.text.is_whole()
+    }
+
+    fn all_held(&self) -> u64 {
+        self.text.all_held()
+    }
+
+    fn into_value(self) -> Value {
+        self.text.into_value()
+    }
+}
+
+/// The machine of the file of the statistics of devices.
+pub fn stats_machine(alloc: Global) -> StatsMachine
+    ensures rests { IsRead (TextsOf DeviceStatsForm) (⟦<StatsMachine as TextMachine>⟧.means result) [] }
+    ensures size { ⟦<StatsMachine as TextMachine>⟧.size result ≡ 0 }
+{
+    StatsMachine {
+        text: Whole::new(stats_file(alloc)),
+    }
+}

@@ -1,0 +1,19 @@
+use Rattle.cg_plain_machine.specs.ListRests.{list_rests, list_room}
+use Rattle.cg_file.specs.WeighLaws.{either, on_ok_as, same}
+use Rattle.cg_plain_machine.proofs.list_machine.ListMachineTextMachine.take_byte.Goals as goal
+
+pub returns-clause-pushes : goal.returns-clause-pushes
+unfolding list_rests
+returns-clause-pushes c = c.take_byte.ensures.pushes
+
+pub returns-clause-size : goal.returns-clause-size
+unfolding list_room
+returns-clause-size c = c.take_byte.ensures.size
+
+pub returns-clause-same_size : goal.returns-clause-same_size
+unfolding list_room
+returns-clause-same_size c = c.take_byte.ensures.same_size
+
+pub returns-clause-settled : goal.returns-clause-settled
+unfolding list_rests list_room
+returns-clause-settled c = on_ok_as c.take_byte.result (λ h v k. either same (either same same) (h v k)) c.take_byte.ensures.settled
