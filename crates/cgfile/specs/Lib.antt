@@ -1,4 +1,3 @@
-pub mod CommandLine
 pub mod Ended
 pub mod Kinds
 pub mod Outcome

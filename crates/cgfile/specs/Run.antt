@@ -18,8 +18,8 @@ use Rattle.cgfile.specs.Kinds.{kinds_lines}
 use Rattle.cgfile.specs.Outcome.{last_line}
 use Rattle.cgfile.specs.declared.outcome.Outcome.{Outcome}
 use Rattle.cgfile.specs.declared.outcome.Outcome.TheVariants as out
-use Rattle.cgfile.specs.declared.words.Command.{Command}
-use Rattle.cgfile.specs.declared.words.Command.TheVariants as command
+use Rattle.cg_command.specs.declared.words.Command.{Command}
+use Rattle.cg_command.specs.declared.words.Command.TheVariants as command
 
 -- The bytes that were read, and how reading ended: what the source has left, and whether it has failed.
 pub record Reading : Type 0 where

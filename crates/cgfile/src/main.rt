@@ -1,7 +1,6 @@
 //! A reader and writer of cgroup interface files.
 #![tactic(auto)]
 
-mod command_line;
 mod cut;
 mod kinds;
 mod line;
@@ -17,15 +16,14 @@ mod starved;
 #[cfg(test)]
 mod tests;
 mod text_reader;
-mod words;
 
+use cg_command::{UsageFault, parse_words};
 use cg_print::{PlainWriter, Sink, write_text};
 use outcome::status;
 use plain::PlainReader;
 use run::run;
 use std::io;
 use std::process::ExitCode;
-use words::{UsageFault, parse_words};
 
 /// The words after the program's name.
 fn words_of(rt: &HostRuntime) -> io::Result<Vec<String>> {

@@ -11,7 +11,7 @@ use crate::outcome::Outcome;
 use crate::reading::{Ending, read_all};
 use crate::source::Source;
 use crate::text_reader::TextReader;
-use crate::words::Command;
+use cg_command::Command;
 use cg_line::{SettingReader, ValueReader};
 use cg_print::{Sink, WriteStopped, write_text};
 use cg_snap::{Limits, Stop};

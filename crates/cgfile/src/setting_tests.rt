@@ -3,7 +3,7 @@ use crate::cut::CutSource;
 use crate::outcome::{Outcome, status};
 use crate::run::run;
 use crate::tests::{run_over, starved};
-use crate::words::Command;
+use cg_command::Command;
 use cg_print::CutSink;
 use cg_snap::Limits;
 use cg_value::Profile;

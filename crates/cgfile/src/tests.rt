@@ -2,7 +2,7 @@
 use crate::cut::CutSource;
 use crate::outcome::{Outcome, status};
 use crate::run::run;
-use crate::words::Command;
+use cg_command::Command;
 use cg_print::CutSink;
 use cg_snap::{Limits, Stop, Why};
 use cg_value::Profile;

@@ -9,10 +9,10 @@ use Rattle.std.specs.Str.Parse.{digits_value, without_leading_plus}
 use Rattle.cg_snap.specs.declared.limits.Limits.{Limits}
 use Rattle.cg_value.specs.declared.profile.Profile.{Profile}
 use Rattle.cg_value.specs.declared.profile.Profile.TheVariants.{One, Two}
-use Rattle.cgfile.specs.declared.words.Command.{Command}
-use Rattle.cgfile.specs.declared.words.Command.TheVariants.{File, Setting, Show, Json, Check, Plan, Kinds}
-use Rattle.cgfile.specs.declared.words.UsageFault.{UsageFault}
-use Rattle.cgfile.specs.declared.words.UsageFault.TheVariants.{OutOfMemory}
+use Rattle.cg_command.specs.declared.words.Command.{Command}
+use Rattle.cg_command.specs.declared.words.Command.TheVariants.{File, Setting, Show, Json, Check, Plan, Kinds}
+use Rattle.cg_command.specs.declared.words.UsageFault.{UsageFault}
+use Rattle.cg_command.specs.declared.words.UsageFault.TheVariants.{OutOfMemory}
 use Rattle.clap.specs.Words.{App, Row, Rule, Text, first_of, one_of, new_app, new_rule, with_rule, with_subcommand, matches_of, subcommand_of, takes}
 use Rattle.clap.specs.declared.builder.action.ArgAction.TheVariants.{Set}
 use Rattle.clap.specs.declared.builder.value_parser.ValueParser.TheVariants as vp

@@ -8,7 +8,7 @@ use Rattle.clap.specs.Words.{App, Rule, Text, AddsArg, AddsSubcommand, app_of, r
 use Rattle.clap.specs.declared.builder.command.Command.{Command}
 use Rattle.clap.specs.declared.builder.arg.Arg.{Arg}
 use Rattle.clap.specs.declared.builder.command.Command.TheViews.{out-Command}
-use Rattle.cgfile.specs.CommandLine.{number_in, number_or}
+use Rattle.cg_command.specs.CommandLine.{number_in, number_or}
 
 pub arg_app : (old new : Command) (a : Arg) (x : App) (r : Rule) → AddsArg old a new → app_of old ≡ x → rule_of a ≡ r → a.global ≡ false → app_of new ≡ with_rule x r
 arg_app old new a x r h e f g = h.shape g ∙ ap₂ with_rule e f

@@ -2,7 +2,7 @@ use Rattle.std.proofs.Common.{[], Option, unwrap_or, ap, ◌∙◌, codes}
 use Rattle.std.proofs.lemmas.Result.{IfOk-weaker}
 use Rattle.clap.specs.Words.{Text, found_of}
 use Rattle.clap.proofs.WalkLemmas.{first_value-rows}
-use Rattle.cgfile.proofs.words.name_given.Goals as goal
+use Rattle.cg_command.proofs.words.name_given.Goals as goal
 
 pub returns-in-Some : goal.returns-in-Some
 returns-in-Some c =

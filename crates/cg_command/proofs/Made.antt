@@ -4,8 +4,8 @@ use Rattle.std.specs.Prelude.{IfSome}
 use Rattle.clap.specs.Words.{Row, Text}
 use Rattle.cg_snap.specs.declared.limits.Limits.{Limits}
 use Rattle.cg_value.specs.declared.profile.Profile.{Profile}
-use Rattle.cgfile.specs.declared.words.Command.{Command}
-use Rattle.cgfile.specs.CommandLine.{IsMadeFrom, IsCommand, profile_of, limits_of}
+use Rattle.cg_command.specs.declared.words.Command.{Command}
+use Rattle.cg_command.specs.CommandLine.{IsMadeFrom, IsCommand, profile_of, limits_of}
 
 pub made_alike : (rows rows' : List Row) (sub sub' : Option (Text × List Row)) (r : Profile × Command × Limits) → rows ≡ rows' → sub ≡ sub' → IsMadeFrom rows sub r → IsMadeFrom rows' sub' r
 made_alike rows rows' sub sub' r e f made = record {

@@ -1,6 +1,6 @@
-use Rattle.cgfile.proofs.Builds.{read_some, read_none}
+use Rattle.cg_command.proofs.Builds.{read_some, read_none}
 use Rattle.clap.proofs.WalkLemmas.{one_text-rows}
-use Rattle.cgfile.proofs.words.number_at.Goals as goal
+use Rattle.cg_command.proofs.words.number_at.Goals as goal
 
 pub returns-in-Some : goal.returns-in-Some
 returns-in-Some c = rw (← one_text-rows _ _) (read_some c.args.given _ _ c.in-Some.ensures.none (λ t e. (c.in-Some.ensures.value t e).0))

@@ -2,9 +2,9 @@ use Rattle.std.proofs.Common.{◌≡◌, ◌∙◌, ap, codes, rules, true, fals
 use Rattle.std.specs.Str.{bytes_eq}
 use Rattle.clap.specs.Words.{found_of}
 use Rattle.clap.proofs.WalkLemmas.{first_value-rows}
-use Rattle.cgfile.specs.CommandLine.{profile_named}
-use Rattle.cgfile.proofs.Profiles.{is_two, is_one}
-use Rattle.cgfile.proofs.words.profile_given.Goals as goal
+use Rattle.cg_command.specs.CommandLine.{profile_named}
+use Rattle.cg_command.proofs.Profiles.{is_two, is_one}
+use Rattle.cg_command.proofs.words.profile_given.Goals as goal
 
 pub returns-then-eq : goal.returns-then-eq
 returns-then-eq c =

@@ -2,7 +2,7 @@
 ghost use Rattle.std.specs.Prelude.{◌≡◌, IfOk, false};
 ghost use Rattle.clap.specs.Words.{rule_of, app_of, new_app};
 ghost use Rattle.clap.specs.declared.builder.command.Command.TheViews.{out-Command as fields_of};
-ghost use Rattle.cgfile.specs.CommandLine.{count_rule, profile_rule, name_rule, named_app, start_app, with_options, cgfile_app};
+ghost use Rattle.cg_command.specs.CommandLine.{count_rule, profile_rule, name_rule, named_app, start_app, with_options, cgfile_app};
 
 use clap::builder::ValueParser;
 use clap::{Arg, ArgAction, Command, value_parser};

@@ -1,7 +1,7 @@
 use Rattle.std.proofs.Common.{List, ap, map}
 use Rattle.std.specs.Borrow.{Bor}
 use Rattle.clap.specs.Words.{Text}
-use Rattle.cgfile.proofs.words.parse_words.Goals as goal
+use Rattle.cg_command.proofs.words.parse_words.Goals as goal
 
 pub returns : goal.returns
 returns c = (

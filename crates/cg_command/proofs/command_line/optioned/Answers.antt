@@ -1,6 +1,6 @@
 use Rattle.std.proofs.lemmas.Result.{IfOk-weaker}
-use Rattle.cgfile.proofs.Builds.{arg_app, arg_local}
-use Rattle.cgfile.proofs.command_line.optioned.Goals as goal
+use Rattle.cg_command.proofs.Builds.{arg_app, arg_local}
+use Rattle.cg_command.proofs.command_line.optioned.Goals as goal
 
 pub returns-clause-app : goal.returns-clause-app
 returns-clause-app c =

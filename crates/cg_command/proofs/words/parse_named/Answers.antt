@@ -2,10 +2,10 @@ use Rattle.std.proofs.Common.{◌≡◌, ◌∙◌, ap, sym, true, map, string_b
 use Rattle.std.proofs.lemmas.Result.{IfOk-weaker}
 use Rattle.clap.specs.Words.{App, Text, takes, is_simple, matches_of, subcommand_of, subcommand_rows_of}
 use Rattle.clap.proofs.CallerLemmas.{subcommand_required}
-use Rattle.cgfile.specs.CommandLine.{cgfile_app, is_met}
-use Rattle.cgfile.proofs.Known.{simple_app, met_is_known, some_rows}
-use Rattle.cgfile.proofs.Made.{made_alike}
-use Rattle.cgfile.proofs.words.parse_named.Goals as goal
+use Rattle.cg_command.specs.CommandLine.{cgfile_app, is_met}
+use Rattle.cg_command.proofs.Known.{simple_app, met_is_known, some_rows}
+use Rattle.cg_command.proofs.Made.{made_alike}
+use Rattle.cg_command.proofs.words.parse_named.Goals as goal
 
 pub returns-in-Ok-clause-made : goal.returns-in-Ok-clause-made
 returns-in-Ok-clause-made c =

@@ -1,7 +1,7 @@
 //! What the words of a command line ask for.
 ghost use Rattle.std.specs.Prelude.{◌≡◌, IfOk, IfErr, IfSome, is_some, string_bytes, true, map, []};
 ghost use Rattle.clap.specs.Words.{one_of, rows_of, found_of, takes, kind_of, subcommand_rows_of};
-ghost use Rattle.cgfile.specs.CommandLine.{cgfile_app, number_or, profile_of, name_in, IsCommand, is_known, is_plain_name, is_met, IsMadeFrom, IsMadeOf, Answers};
+ghost use Rattle.cg_command.specs.CommandLine.{cgfile_app, number_or, profile_of, name_in, IsCommand, is_known, is_plain_name, is_met, IsMadeFrom, IsMadeOf, Answers};
 
 use crate::command_line::command_line;
 use cg_snap::Limits;
@@ -45,7 +45,7 @@ pub enum UsageFault {
 
 impl From<AllocError> for UsageFault {
     ghost use Rattle.std.specs.Prelude.{◌≡◌};
-    ghost use Rattle.cgfile.specs.declared.words.UsageFault.TheVariants.{OutOfMemory};
+    ghost use Rattle.cg_command.specs.declared.words.UsageFault.TheVariants.{OutOfMemory};
 
     ghost from_gives = { λ _ e. e ≡ OutOfMemory };
 

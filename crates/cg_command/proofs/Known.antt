@@ -6,7 +6,7 @@ use Rattle.clap.specs.Words.{App, Text, Shape, is_simple, subcommand_of, built}
 use Rattle.clap.specs.Simple.{entered, rows_at, argument_words, names_of}
 use Rattle.clap.specs.Walk.{stop_after}
 use Rattle.clap.proofs.OnLiterals.{clap_on_literals}
-use Rattle.cgfile.specs.CommandLine.{Lent, cgfile_app, is_known, is_met}
+use Rattle.cg_command.specs.CommandLine.{Lent, cgfile_app, is_known, is_met}
 
 pub simple_app : (names : Lent) → is_simple (cgfile_app names) ≡ true
 unfolding clap_on_literals

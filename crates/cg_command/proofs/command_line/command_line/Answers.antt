@@ -1,6 +1,6 @@
 use Rattle.std.proofs.lemmas.Result.{IfOk-weaker}
-use Rattle.cgfile.proofs.Builds.{sub_app, sub_local}
-use Rattle.cgfile.proofs.command_line.command_line.Goals as goal
+use Rattle.cg_command.proofs.Builds.{sub_app, sub_local}
+use Rattle.cg_command.proofs.command_line.command_line.Goals as goal
 
 pub returns-clause-app : goal.returns-clause-app
 returns-clause-app c =

@@ -1,0 +1,4 @@
+pub mod Builds
+pub mod Known
+pub mod Made
+pub mod Profiles
