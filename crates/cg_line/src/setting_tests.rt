@@ -1,6 +1,6 @@
 //! Readers of writes, byte by byte.
 use crate::{PushFault, PushedRun, SettingFault, SettingReader, decode_setting};
-use cg_text::{Clamp, Device, Hundredths, Limit};
+use cg_text::{ByteSet, Clamp, Device, Hundredths, Limit};
 use cg_value::{Profile, Role, Setting, write_kind};
 use std::alloc::{AllocError, Global};
 use std::process::Abort;
@@ -11,7 +11,15 @@ const DISK: Device = Device {
     minor: 16,
 };
 
-/// A reader of a write that took these bytes.
+/// Pushes bytes that are all taken.
+fn push_all(rt: &impl Abort, reader: &mut SettingReader, bytes: &[u8]) {
+    for byte in bytes {
+        assert_eq!(rt; reader.push(*byte), Ok(()), "{bytes:?}");
+    }
+}
+
+/// A reader of a write that took these bytes. The loops below have no reader of their own, but call functions that
+/// do: what drops a reader is slow to check, the more so in a loop.
 fn reader(
     rt: &impl Abort,
     alloc: Global,
@@ -19,12 +27,41 @@ fn reader(
     name: &[u8],
     bytes: &[u8],
 ) -> Result<SettingReader, Fail> {
-    let kind = write_kind(profile, name)?;
-    let mut reader = SettingReader::new(alloc, kind);
-    for byte in bytes {
-        assert_eq!(rt; reader.push(*byte), Ok(()), "{bytes:?}");
-    }
+    let mut reader = SettingReader::new(alloc, write_kind(profile, name)?);
+    push_all(rt, &mut reader, bytes);
     Ok(reader)
+}
+
+/// What may follow these bytes of a write.
+fn allowed_after(
+    rt: &impl Abort,
+    alloc: Global,
+    name: &[u8],
+    bytes: &[u8],
+) -> Result<ByteSet, Fail> {
+    Ok(reader(rt, alloc, Profile::One, name, bytes)?.allowed())
+}
+
+/// Why a write is refused.
+fn fault_of(alloc: Global, profile: Profile, name: &[u8], bytes: &[u8]) -> Option<SettingFault> {
+    match decode_setting(alloc, profile, name, bytes) {
+        Ok(_) => None,
+        Err(fault) => Some(fault),
+    }
+}
+
+/// Whether a write has this setting.
+fn has_setting(
+    alloc: Global,
+    profile: Profile,
+    name: &[u8],
+    bytes: &[u8],
+    setting: &Setting,
+) -> bool {
+    match &decode_setting(alloc, profile, name, bytes) {
+        Ok(decoded) => *decoded == *setting,
+        Err(_) => false,
+    }
 }
 
 /// A setting of one number, limit or word, by the text of its write.
@@ -65,13 +102,12 @@ fn plain_settings(rt: HostRuntime) {
             },
         ),
     ];
-    for (name, bytes, wanted) in rows {
+    for (name, bytes, setting) in &rows {
         for profile in [Profile::One, Profile::Two] {
-            let decoded = decode_setting(rt.alloc(), profile, name, bytes);
-            match &decoded {
-                Ok(setting) => assert!(rt; *setting == wanted, "{bytes:?}"),
-                Err(_) => assert!(rt; false, "{bytes:?}"),
-            }
+            assert!(rt;
+                has_setting(rt.alloc(), profile, name, bytes, setting),
+                "{bytes:?}"
+            );
         }
     }
 }
@@ -149,15 +185,22 @@ fn settings_of_parts(rt: HostRuntime) {
             },
         ),
     ];
-    for (name, bytes, wanted) in rows {
+    for (name, bytes, setting) in &rows {
         for profile in [Profile::One, Profile::Two] {
-            let decoded = decode_setting(rt.alloc(), profile, name, bytes);
-            match &decoded {
-                Ok(setting) => assert!(rt; *setting == wanted, "{bytes:?}"),
-                Err(_) => assert!(rt; false, "{bytes:?}"),
-            }
+            assert!(rt;
+                has_setting(rt.alloc(), profile, name, bytes, setting),
+                "{bytes:?}"
+            );
         }
     }
+}
+
+/// Whether a write is that of a set of these ranges.
+fn has_ranges(alloc: Global, profile: Profile, bytes: &[u8], ranges: &[(u32, u32)]) -> bool {
+    is_set(
+        &decode_setting(alloc, profile, b"cpuset.cpus", bytes),
+        ranges,
+    )
 }
 
 /// Whether a set was decoded, of these ranges.
@@ -179,8 +222,7 @@ fn settings_of_lists(rt: HostRuntime) {
         (Profile::Two, b"1048575\n", &[(1048575, 1048575)]),
     ];
     for (profile, bytes, ranges) in rows {
-        let decoded = decode_setting(rt.alloc(), profile, b"cpuset.cpus", bytes);
-        assert!(rt; is_set(&decoded, ranges), "{bytes:?}");
+        assert!(rt; has_ranges(rt.alloc(), profile, bytes, ranges), "{bytes:?}");
     }
     let name: &[u8] = b"cgroup.subtree_control";
     let toggled = decode_setting(rt.alloc(), Profile::One, name, b"+cpu -io +cpu\n");
@@ -227,14 +269,15 @@ fn first_bad_bytes(rt: HostRuntime) {
         (b"cpu.weight", b"1\n1\n", 2),
     ];
     for (name, bytes, at) in rows {
-        let decoded = decode_setting(rt.alloc(), Profile::One, name, bytes);
-        assert!(rt;
-            decoded == Err(SettingFault::Refused { at }),
+        let fault = fault_of(rt.alloc(), Profile::One, name, bytes);
+        assert_eq!(rt;
+            fault,
+            Some(SettingFault::Refused { at }),
             "{name:?} {bytes:?}"
         );
     }
-    let more = decode_setting(rt.alloc(), Profile::Two, b"cpuset.cpus", b"1048576\n");
-    assert!(rt; more == Err(SettingFault::Refused { at: 6 }));
+    let more = fault_of(rt.alloc(), Profile::Two, b"cpuset.cpus", b"1048576\n");
+    assert_eq!(rt; more, Some(SettingFault::Refused { at: 6 }));
 }
 
 /// Writes that end too early, and names that can't be written.
@@ -252,8 +295,8 @@ fn no_writes(rt: HostRuntime) {
     ];
     for (name, bytes, fault) in rows {
         for profile in [Profile::One, Profile::Two] {
-            let decoded = decode_setting(rt.alloc(), profile, name, bytes);
-            assert!(rt; decoded == Err(fault), "{name:?} {bytes:?}");
+            let told = fault_of(rt.alloc(), profile, name, bytes);
+            assert_eq!(rt; told, Some(fault), "{name:?} {bytes:?}");
         }
     }
 }
@@ -275,14 +318,50 @@ fn allowed_bytes(rt: HostRuntime) -> Result<(), Fail> {
         (b"io.weight", b"8:16 ", b"123456789d"),
     ];
     for (name, bytes, wanted) in rows {
-        let allowed = reader(&rt, rt.alloc(), Profile::One, name, bytes)?.allowed();
+        let allowed = allowed_after(&rt, rt.alloc(), name, bytes)?;
         assert_eq!(rt; allowed.len() as usize, wanted.len(), "{bytes:?}");
         for byte in wanted {
             assert!(rt; allowed.contains(*byte), "{bytes:?} {byte}");
         }
     }
-    let raw = reader(&rt, rt.alloc(), Profile::One, b"hugetlb.2MB.max", b"")?.allowed();
+    let raw = allowed_after(&rt, rt.alloc(), b"hugetlb.2MB.max", b"")?;
     assert!(rt; raw.len() == 255 && !raw.contains(0));
+    Ok(())
+}
+
+/// Whether a byte is taken after these bytes of a write.
+fn is_taken(
+    rt: &impl Abort,
+    alloc: Global,
+    name: &[u8],
+    front: &[u8],
+    byte: u8,
+) -> Result<bool, Fail> {
+    Ok(reader(rt, alloc, Profile::One, name, front)?.push(byte) == Ok(()))
+}
+
+/// Pushes each byte that isn't allowed, which is refused.
+fn push_others(rt: &impl Abort, reader: &mut SettingReader, allowed: &ByteSet) {
+    for byte in 0..=u8::MAX {
+        if !allowed.contains(byte) {
+            assert_eq!(rt; reader.push(byte), Err(PushFault::Refused), "{byte}");
+        }
+    }
+}
+
+/// After the bytes in front those that aren't allowed are refused, and the rest may still follow, and ends the write.
+fn refuses_others(
+    rt: &impl Abort,
+    alloc: Global,
+    name: &[u8],
+    front: &[u8],
+    rest: &[u8],
+) -> Result<(), Fail> {
+    let mut tried = reader(rt, alloc, Profile::One, name, front)?;
+    let allowed = tried.allowed();
+    push_others(rt, &mut tried, &allowed);
+    push_all(rt, &mut tried, rest);
+    assert!(rt; tried.can_finish(), "{front:?}");
     Ok(())
 }
 
@@ -293,24 +372,31 @@ fn refused_bytes(rt: HostRuntime) -> Result<(), Fail> {
     for (name, text) in rows {
         for end in 0..=text.len() {
             let (front, rest) = text.split_at(end);
-            let allowed = reader(&rt, rt.alloc(), Profile::One, name, front)?.allowed();
-            let mut tried = reader(&rt, rt.alloc(), Profile::One, name, front)?;
+            refuses_others(&rt, rt.alloc(), name, front, rest)?;
+            let allowed = allowed_after(&rt, rt.alloc(), name, front)?;
             for byte in 0..=u8::MAX {
-                if !allowed.contains(byte) {
-                    let refused = tried.push(byte);
-                    assert_eq!(rt; refused, Err(PushFault::Refused), "{end} {byte}");
-                } else {
-                    let mut other = reader(&rt, rt.alloc(), Profile::One, name, front)?;
-                    assert_eq!(rt; other.push(byte), Ok(()), "{end} {byte}");
-                }
+                let taken = is_taken(&rt, rt.alloc(), name, front, byte)?;
+                assert_eq!(rt; taken, allowed.contains(byte), "{end} {byte}");
             }
-            for next in rest {
-                assert_eq!(rt; tried.push(*next), Ok(()), "{end}");
-            }
-            assert!(rt; tried.can_finish(), "{end}");
         }
     }
     Ok(())
+}
+
+/// Whether a write may end after these bytes, of which it holds at most as many; if not, the reader is handed back.
+fn checked_end(rt: &impl Abort, alloc: Global, name: &[u8], front: &[u8]) -> Result<bool, Fail> {
+    let taken = reader(rt, alloc, Profile::One, name, front)?;
+    let can_finish = taken.can_finish();
+    let held = taken.held();
+    assert!(rt; held <= front.len() as u64, "{front:?} {held}");
+    match taken.finish() {
+        Ok(_) => assert!(rt; can_finish),
+        Err(cut) => {
+            assert!(rt; !can_finish);
+            assert_eq!(rt; cut.reader.held(), held);
+        }
+    }
+    Ok(can_finish)
 }
 
 /// Where a write may end, what is held until then, and what is handed back.
@@ -324,17 +410,8 @@ fn ends_of_writes(rt: HostRuntime) -> Result<(), Fail> {
     for (name, text) in rows {
         for end in 0..=text.len() {
             let (front, _) = text.split_at(end);
-            let taken = reader(&rt, rt.alloc(), Profile::One, name, front)?;
-            assert_eq!(rt; taken.can_finish(), end == text.len());
-            let held = taken.held();
-            assert!(rt; held <= end as u64, "{end} {held}");
-            match taken.finish() {
-                Ok(_) => assert_eq!(rt; end, text.len()),
-                Err(cut) => {
-                    assert!(rt; end < text.len());
-                    assert_eq!(rt; cut.reader.held(), held);
-                }
-            }
+            let ends = checked_end(&rt, rt.alloc(), name, front)?;
+            assert_eq!(rt; ends, end == text.len(), "{end}");
         }
     }
     let number = reader(&rt, rt.alloc(), Profile::One, b"cpu.weight", b"100\n")?;
@@ -350,6 +427,13 @@ fn ends_of_writes(rt: HostRuntime) -> Result<(), Fail> {
 #[test]
 fn runs_of_bytes(rt: HostRuntime) -> Result<(), Fail> {
     let mut taken = reader(&rt, rt.alloc(), Profile::One, b"cpu.weight", b"")?;
+    push_runs(&rt, &mut taken);
+    assert!(rt; taken.can_finish());
+    Ok(())
+}
+
+/// Pushes runs of bytes of a weight, one after another.
+fn push_runs(rt: &impl Abort, taken: &mut SettingReader) {
     let refused = Some(PushFault::Refused);
     let rows: [(&[u8], usize, Option<PushFault>); 6] = [
         (b"", 0, None),
@@ -363,8 +447,6 @@ fn runs_of_bytes(rt: HostRuntime) -> Result<(), Fail> {
         let run = taken.push_run(bytes);
         assert_eq!(rt; run, PushedRun { used, fault }, "{bytes:?}");
     }
-    assert!(rt; taken.can_finish());
-    Ok(())
 }
 
 /// Takes all memory that is to be had, in blocks of falling size.
@@ -392,11 +474,12 @@ fn wants_of_memory(rt: HostRuntime) -> Result<(), Fail> {
     let mut held = hog(rt.alloc())?;
     let mut refusals: u64 = 0;
     for _ in 0..5000 {
-        let decoded = decode_setting(rt.alloc(), Profile::One, b"cpuset.cpus", b"9,3-5,4\n");
-        if decoded != Err(SettingFault::OutOfMemory) {
-            assert!(rt; refusals > 0 && is_set(&decoded, &[(3, 5), (9, 9)]));
+        if has_ranges(rt.alloc(), Profile::One, b"9,3-5,4\n", &[(3, 5), (9, 9)]) {
+            assert!(rt; refusals > 0);
             return Ok(());
         }
+        let fault = fault_of(rt.alloc(), Profile::One, b"cpuset.cpus", b"9,3-5,4\n");
+        assert_eq!(rt; fault, Some(SettingFault::OutOfMemory));
         refusals = refusals.saturating_add(1);
         let _ = held.pop();
     }
@@ -409,8 +492,18 @@ fn wants_of_memory(rt: HostRuntime) -> Result<(), Fail> {
 fn pushes_without_memory(rt: HostRuntime) -> Result<(), Fail> {
     let mut taken = reader(&rt, rt.alloc(), Profile::One, b"cpuset.cpus", b"")?;
     let mut held = hog(rt.alloc())?;
+    push_starved(&rt, &mut taken, &mut held, b"9,3-5,4\n");
+    let finished = taken.finish();
+    match &finished {
+        Ok(Setting::Set(set)) => { assert!(rt; set.ranges() == [(3, 5), (9, 9)].as_slice()) }
+        _ => assert!(rt; false),
+    }
+    Ok(())
+}
+
+/// Pushes bytes that are all taken once there is memory, of which a block is given back after each refusal.
+fn push_starved(rt: &impl Abort, taken: &mut SettingReader, held: &mut Vec<Vec<u8>>, bytes: &[u8]) {
     let mut refusals: u64 = 0;
-    let bytes: &[u8] = b"9,3-5,4\n";
     let mut at = 0;
     for _ in 0..5000 {
         if at >= bytes.len() {
@@ -425,11 +518,5 @@ fn pushes_without_memory(rt: HostRuntime) -> Result<(), Fail> {
             }
         }
     }
-    assert!(rt; refusals > 0);
-    let finished = taken.finish();
-    match &finished {
-        Ok(Setting::Set(set)) => { assert!(rt; set.ranges() == [(3, 5), (9, 9)].as_slice()) }
-        _ => assert!(rt; false),
-    }
-    Ok(())
+    assert!(rt; refusals > 0 && at == bytes.len());
 }

@@ -1,29 +1,58 @@
 //! Readers of files, byte by byte.
-use crate::{FileFault, PushFault, ValueReader, decode_file};
-use cg_text::{Amount, Device, Hundredths, Limit};
+use crate::{FileFault, PushFault, PushedRun, ValueReader, decode_file};
+use cg_text::{Amount, ByteSet, Device, Hundredths, Limit};
 use cg_value::{Profile, Value, read_kind};
 use std::alloc::Global;
 use std::process::Abort;
 use std::test::Fail;
 
-/// A reader of a file that took these bytes.
-fn reader(rt: &impl Abort, alloc: Global, name: &[u8], bytes: &[u8]) -> Result<ValueReader, Fail> {
-    reader_in(rt, alloc, Profile::One, name, bytes)
+/// Pushes bytes that are all taken.
+fn push_all(rt: &impl Abort, reader: &mut ValueReader, bytes: &[u8]) {
+    for byte in bytes {
+        assert_eq!(rt; reader.push(*byte), Ok(()), "{bytes:?}");
+    }
 }
 
-fn reader_in(
+/// A reader of a file that took these bytes. The loops below have no reader of their own, but call functions that
+/// do: what drops a reader is slow to check, the more so in a loop.
+fn reader(rt: &impl Abort, alloc: Global, name: &[u8], bytes: &[u8]) -> Result<ValueReader, Fail> {
+    let mut reader = ValueReader::new(alloc, read_kind(Profile::One, name)?);
+    push_all(rt, &mut reader, bytes);
+    Ok(reader)
+}
+
+/// What becomes of a run of bytes at the begin of a file.
+fn first_run(rt: &impl Abort, alloc: Global, name: &[u8], bytes: &[u8]) -> Result<PushedRun, Fail> {
+    Ok(reader(rt, alloc, name, b"")?.push_run(bytes))
+}
+
+/// What may follow these bytes of a file.
+fn allowed_after(
     rt: &impl Abort,
     alloc: Global,
     profile: Profile,
     name: &[u8],
     bytes: &[u8],
-) -> Result<ValueReader, Fail> {
-    let kind = read_kind(profile, name)?;
-    let mut reader = ValueReader::new(alloc, kind);
-    for byte in bytes {
-        assert_eq!(rt; reader.push(*byte), Ok(()), "{bytes:?}");
+) -> Result<ByteSet, Fail> {
+    let mut reader = ValueReader::new(alloc, read_kind(profile, name)?);
+    push_all(rt, &mut reader, bytes);
+    Ok(reader.allowed())
+}
+
+/// Why a file is refused.
+fn fault_of(alloc: Global, profile: Profile, name: &[u8], bytes: &[u8]) -> Option<FileFault> {
+    match decode_file(alloc, profile, name, bytes) {
+        Ok(_) => None,
+        Err(fault) => Some(fault),
     }
-    Ok(reader)
+}
+
+/// Whether a file has this value.
+fn has_value(alloc: Global, profile: Profile, name: &[u8], bytes: &[u8], value: &Value) -> bool {
+    match &decode_file(alloc, profile, name, bytes) {
+        Ok(decoded) => *decoded == *value,
+        Err(_) => false,
+    }
 }
 
 /// Runs of bytes, with how many are taken of each and why no more are.
@@ -39,9 +68,8 @@ fn runs_of_bytes(rt: HostRuntime) -> Result<(), Fail> {
         (b"cgroup.procs", b"78", 2, None),
     ];
     for (name, bytes, used, fault) in rows {
-        let run = reader(&rt, rt.alloc(), name, b"")?.push_run(bytes);
-        assert_eq!(rt; run.used, used, "{name:?} {bytes:?}");
-        assert_eq!(rt; run.fault, fault, "{name:?} {bytes:?}");
+        let run = first_run(&rt, rt.alloc(), name, bytes)?;
+        assert_eq!(rt; run, PushedRun { used, fault }, "{name:?} {bytes:?}");
     }
     Ok(())
 }
@@ -73,7 +101,7 @@ fn allowed_bytes(rt: HostRuntime) -> Result<(), Fail> {
         (b"io.latency", b"8:16 ", b"t"),
     ];
     for (name, bytes, wanted) in rows {
-        let allowed = reader(&rt, rt.alloc(), name, bytes)?.allowed();
+        let allowed = allowed_after(&rt, rt.alloc(), Profile::One, name, bytes)?;
         assert_eq!(rt; allowed.len() as usize, wanted.len(), "{bytes:?}");
         for byte in wanted {
             assert!(rt; allowed.contains(*byte), "{bytes:?} {byte}");
@@ -87,8 +115,7 @@ fn allowed_bytes(rt: HostRuntime) -> Result<(), Fail> {
 fn allowed_numbers(rt: HostRuntime) -> Result<(), Fail> {
     let rows: [(&[u8], &[u8]); 2] = [(b"65534", b"0123456789,-\n"), (b"65533,", b"123456789")];
     for (bytes, wanted) in rows {
-        let taken = reader_in(&rt, rt.alloc(), Profile::Two, b"cpuset.cpus", bytes)?;
-        let allowed = taken.allowed();
+        let allowed = allowed_after(&rt, rt.alloc(), Profile::Two, b"cpuset.cpus", bytes)?;
         assert_eq!(rt; allowed.len() as usize, wanted.len(), "{bytes:?}");
         for byte in wanted {
             assert!(rt; allowed.contains(*byte), "{bytes:?} {byte}");
@@ -97,23 +124,55 @@ fn allowed_numbers(rt: HostRuntime) -> Result<(), Fail> {
     Ok(())
 }
 
+/// Whether the byte is refused after the bytes in front; if so, the rest may follow them instead, and ends the file.
+fn is_refused(
+    rt: &impl Abort,
+    alloc: Global,
+    front: &[u8],
+    byte: u8,
+    rest: &[u8],
+) -> Result<bool, Fail> {
+    let mut tried = reader(rt, alloc, b"cpu.weight", front)?;
+    if tried.push(byte) != Err(PushFault::Refused) {
+        return Ok(false);
+    }
+    push_all(rt, &mut tried, rest);
+    assert!(rt; tried.can_finish(), "{front:?} {byte}");
+    Ok(true)
+}
+
 /// After each byte, each of the 256 bytes is refused exactly where it isn't allowed, and another may be tried.
 #[test]
 fn refused_bytes(rt: HostRuntime) -> Result<(), Fail> {
     let text = b"10000\n";
     for end in 0..=text.len() {
         let (front, rest) = text.split_at(end);
-        let allowed = reader(&rt, rt.alloc(), b"cpu.weight", front)?.allowed();
+        let allowed = allowed_after(&rt, rt.alloc(), Profile::One, b"cpu.weight", front)?;
         for byte in 0..=u8::MAX {
-            let mut tried = reader(&rt, rt.alloc(), b"cpu.weight", front)?;
-            let refused = tried.push(byte) == Err(PushFault::Refused);
+            let refused = is_refused(&rt, rt.alloc(), front, byte, rest)?;
             assert_eq!(rt; refused, !allowed.contains(byte), "{end} {byte}");
-            if refused {
-                for next in rest {
-                    assert_eq!(rt; tried.push(*next), Ok(()), "{end} {byte}");
-                }
-                assert!(rt; tried.can_finish(), "{end} {byte}");
-            }
+        }
+    }
+    Ok(())
+}
+
+/// Where a line may begin and where the file may end after these bytes of a weight, of which nothing is held.
+fn checked_ends(
+    rt: &impl Abort,
+    alloc: Global,
+    bytes: &[u8],
+    takes_line: bool,
+    can_finish: bool,
+) -> Result<(), Fail> {
+    let taken = reader(rt, alloc, b"cpu.weight", bytes)?;
+    assert_eq!(rt; taken.takes_line(), takes_line, "{bytes:?}");
+    assert_eq!(rt; taken.can_finish(), can_finish, "{bytes:?}");
+    assert_eq!(rt; taken.held(), 0);
+    match taken.finish() {
+        Ok(value) => assert!(rt; can_finish && value == Value::Number(10000)),
+        Err(cut) => {
+            assert!(rt; !can_finish);
+            assert_eq!(rt; cut.reader.takes_line(), takes_line);
         }
     }
     Ok(())
@@ -129,19 +188,20 @@ fn lines_and_ends(rt: HostRuntime) -> Result<(), Fail> {
         (b"10000\n", false, true),
     ];
     for (bytes, takes_line, can_finish) in rows {
-        let taken = reader(&rt, rt.alloc(), b"cpu.weight", bytes)?;
-        assert_eq!(rt; taken.takes_line(), takes_line, "{bytes:?}");
-        assert_eq!(rt; taken.can_finish(), can_finish, "{bytes:?}");
-        assert_eq!(rt; taken.held(), 0);
-        match taken.finish() {
-            Ok(value) => assert!(rt; can_finish && value == Value::Number(10000)),
-            Err(cut) => {
-                assert!(rt; !can_finish);
-                assert_eq!(rt; cut.reader.takes_line(), takes_line);
-            }
-        }
+        checked_ends(&rt, rt.alloc(), bytes, takes_line, can_finish)?;
     }
     Ok(())
+}
+
+/// Whether a line may begin after these bytes, and whether the file may end.
+fn ends_after(
+    rt: &impl Abort,
+    alloc: Global,
+    name: &[u8],
+    bytes: &[u8],
+) -> Result<(bool, bool), Fail> {
+    let taken = reader(rt, alloc, name, bytes)?;
+    Ok((taken.takes_line(), taken.can_finish()))
 }
 
 /// Where a line may begin and where a file may end, of files that hold vectors.
@@ -158,9 +218,8 @@ fn lines_and_ends_of_lists(rt: HostRuntime) -> Result<(), Fail> {
         (b"hugetlb.2MB.max", b"ab\n", true, true),
     ];
     for (name, bytes, takes_line, can_finish) in rows {
-        let taken = reader(&rt, rt.alloc(), name, bytes)?;
-        assert_eq!(rt; taken.takes_line(), takes_line, "{name:?} {bytes:?}");
-        assert_eq!(rt; taken.can_finish(), can_finish, "{name:?} {bytes:?}");
+        let ends = ends_after(&rt, rt.alloc(), name, bytes)?;
+        assert_eq!(rt; ends, (takes_line, can_finish), "{name:?} {bytes:?}");
     }
     Ok(())
 }
@@ -187,16 +246,17 @@ fn first_bad_bytes(rt: HostRuntime) {
         (b"cpuset.cpus", b"0\n0\n", 2),
     ];
     for (name, bytes, at) in rows {
-        let decoded = decode_file(rt.alloc(), Profile::One, name, bytes);
-        assert!(rt;
-            decoded == Err(FileFault::Refused { at }),
+        let fault = fault_of(rt.alloc(), Profile::One, name, bytes);
+        assert_eq!(rt;
+            fault,
+            Some(FileFault::Refused { at }),
             "{name:?} {bytes:?}"
         );
     }
-    let more = decode_file(rt.alloc(), Profile::Two, b"cpuset.cpus", b"1048574,");
-    assert!(rt; more == Err(FileFault::Refused { at: 7 }));
-    let open = decode_file(rt.alloc(), Profile::Two, b"cpuset.cpus", b"65535-");
-    assert!(rt; open == Err(FileFault::Cut { at: 6 }));
+    let more = fault_of(rt.alloc(), Profile::Two, b"cpuset.cpus", b"1048574,");
+    assert_eq!(rt; more, Some(FileFault::Refused { at: 7 }));
+    let open = fault_of(rt.alloc(), Profile::Two, b"cpuset.cpus", b"65535-");
+    assert_eq!(rt; open, Some(FileFault::Cut { at: 6 }));
 }
 
 /// What is looked up in values that were read.
@@ -220,22 +280,38 @@ fn looked_up(rt: HostRuntime) -> Result<(), Fail> {
     Ok(())
 }
 
+/// Files of one line, in both profiles.
 #[test]
 fn whole_files(rt: HostRuntime) {
-    let rows: [(&[u8], &[u8], Result<Value, FileFault>); 8] = [
-        (b"cpu.weight", b"10000\n", Ok(Value::Number(10000))),
-        (b"cpu.weight", b"10001\n", Err(FileFault::Refused { at: 4 })),
-        (b"cpu.weight", b"", Err(FileFault::Cut { at: 0 })),
-        (b"cpu.weight", b"12", Err(FileFault::Cut { at: 2 })),
-        (b"cgroup.kill", b"1\n", Err(FileFault::NotReadable)),
-        (b"memory.max", b"max\n", Ok(Value::Limit(Limit::Max))),
-        (b"memory.max", b"5\n", Ok(Value::Limit(Limit::At(5)))),
-        (b"memory.max", b"m5\n", Err(FileFault::Refused { at: 1 })),
+    let rows: [(&[u8], &[u8], Value); 3] = [
+        (b"cpu.weight", b"10000\n", Value::Number(10000)),
+        (b"memory.max", b"max\n", Value::Limit(Limit::Max)),
+        (b"memory.max", b"5\n", Value::Limit(Limit::At(5))),
     ];
-    for (name, bytes, wanted) in rows {
+    for (name, bytes, value) in &rows {
         for profile in [Profile::One, Profile::Two] {
-            let decoded = decode_file(rt.alloc(), profile, name, bytes);
-            assert!(rt; decoded == wanted, "{bytes:?}");
+            assert!(rt;
+                has_value(rt.alloc(), profile, name, bytes, value),
+                "{bytes:?}"
+            );
+        }
+    }
+}
+
+/// Texts that are no file of the name, in both profiles.
+#[test]
+fn no_files(rt: HostRuntime) {
+    let rows: [(&[u8], &[u8], FileFault); 5] = [
+        (b"cpu.weight", b"10001\n", FileFault::Refused { at: 4 }),
+        (b"cpu.weight", b"", FileFault::Cut { at: 0 }),
+        (b"cpu.weight", b"12", FileFault::Cut { at: 2 }),
+        (b"cgroup.kill", b"1\n", FileFault::NotReadable),
+        (b"memory.max", b"m5\n", FileFault::Refused { at: 1 }),
+    ];
+    for (name, bytes, fault) in rows {
+        for profile in [Profile::One, Profile::Two] {
+            let told = fault_of(rt.alloc(), profile, name, bytes);
+            assert_eq!(rt; told, Some(fault), "{bytes:?}");
         }
     }
 }

@@ -1,8 +1,7 @@
 //! Whole runs of `setting NAME` and `kinds`.
 use crate::cut::CutSource;
 use crate::outcome::{Outcome, status};
-use crate::run::run;
-use crate::tests::{run_over, starved};
+use crate::tests::{ran, run_over, starved};
 use cg_command::Command;
 use cg_print::CutSink;
 use cg_snap::Limits;
@@ -180,7 +179,7 @@ fn nothing_is_read(rt: HostRuntime) -> Result<(), Fail> {
     for (command, wanted) in commands {
         let mut source = CutSource::new(b"1\n", 0, 4096);
         let mut sink = CutSink::new(usize::MAX, 4096);
-        let outcome = run(
+        let outcome = ran(
             rt.alloc(),
             Profile::Two,
             &command,
@@ -201,7 +200,7 @@ fn each_read_failing(rt: HostRuntime) -> Result<(), Fail> {
     for budget in 0..=8 {
         let mut source = CutSource::new(b"9,3-5,4\n", budget, 1);
         let mut sink = CutSink::new(usize::MAX, 4096);
-        let outcome = run(
+        let outcome = ran(
             rt.alloc(),
             Profile::One,
             &command,
@@ -231,7 +230,7 @@ fn each_write_failing(rt: HostRuntime) -> Result<(), Fail> {
         for budget in 0..whole.bytes().len() {
             let mut source = CutSource::new(b"9,3-5,4\n", usize::MAX, 4096);
             let mut sink = CutSink::new(budget, 50);
-            let outcome = run(
+            let outcome = ran(
                 rt.alloc(),
                 Profile::One,
                 command,

@@ -17,6 +17,18 @@ fn file(alloc: Global, name: &[u8]) -> Result<Command, AllocError> {
     })
 }
 
+/// A run of a command. It promises nothing, so that the tests that call it are quick to check.
+pub(crate) fn ran(
+    alloc: Global,
+    profile: Profile,
+    command: &Command,
+    source: &mut CutSource<'_>,
+    sink: &mut CutSink,
+    limits: Limits,
+) -> Outcome {
+    run(alloc, profile, command, source, sink, limits)
+}
+
 /// A run of a command over these bytes, which a source gives and a sink takes a few at a time.
 pub(crate) fn run_over(
     alloc: Global,
@@ -28,7 +40,7 @@ pub(crate) fn run_over(
 ) -> (Outcome, CutSink) {
     let mut source = CutSource::new(input, usize::MAX, step);
     let mut sink = CutSink::new(usize::MAX, step);
-    let outcome = run(alloc, profile, command, &mut source, &mut sink, limits);
+    let outcome = ran(alloc, profile, command, &mut source, &mut sink, limits);
     (outcome, sink)
 }
 
@@ -334,7 +346,7 @@ fn nothing_is_read_without_a_form(rt: HostRuntime) -> Result<(), Fail> {
     let command = file(rt.alloc(), b"cgroup.kill")?;
     let mut source = CutSource::new(b"1\n", usize::MAX, 4096);
     let mut sink = CutSink::new(usize::MAX, 4096);
-    let outcome = run(
+    let outcome = ran(
         rt.alloc(),
         Profile::Two,
         &command,
@@ -355,7 +367,7 @@ fn each_read_failing(rt: HostRuntime) -> Result<(), Fail> {
         for step in [1, 4] {
             let mut source = CutSource::new(b"10000\n", budget, step);
             let mut sink = CutSink::new(usize::MAX, 4096);
-            let outcome = run(
+            let outcome = ran(
                 rt.alloc(),
                 Profile::One,
                 &command,
@@ -376,7 +388,7 @@ fn a_refusal_comes_before_a_failing_read(rt: HostRuntime) -> Result<(), Fail> {
     let command = file(rt.alloc(), b"cpu.weight")?;
     let mut source = CutSource::new(b"x", 1, 1);
     let mut sink = CutSink::new(usize::MAX, 4096);
-    let outcome = run(
+    let outcome = ran(
         rt.alloc(),
         Profile::One,
         &command,
@@ -403,7 +415,7 @@ fn each_write_failing(rt: HostRuntime) -> Result<(), Fail> {
         for budget in 0..text.len() {
             let mut source = CutSource::new(input, usize::MAX, 4096);
             let mut sink = CutSink::new(budget, 2);
-            let outcome = run(
+            let outcome = ran(
                 rt.alloc(),
                 Profile::One,
                 &command,
@@ -432,7 +444,7 @@ fn asks_are_few(rt: HostRuntime) -> Result<(), Fail> {
         };
         let mut source = CutSource::new(&digits, usize::MAX, 1);
         let mut sink = CutSink::new(usize::MAX, 4096);
-        let outcome = run(
+        let outcome = ran(
             rt.alloc(),
             Profile::One,
             &command,
@@ -458,7 +470,7 @@ fn commands_that_are_not_built(rt: HostRuntime) -> Result<(), Fail> {
     for (command, wanted) in commands {
         let mut source = CutSource::new(b"x", usize::MAX, 1);
         let mut sink = CutSink::new(usize::MAX, 4096);
-        let outcome = run(
+        let outcome = ran(
             rt.alloc(),
             Profile::One,
             &command,
