@@ -10,6 +10,8 @@ pub mod setting_reader;
 mod setting_tests;
 #[cfg(test)]
 mod tests;
+#[cfg(test)]
+mod value_tests;
 
 pub use cg_machine::PushFault;
 pub use decode::{FileFault, decode_file};

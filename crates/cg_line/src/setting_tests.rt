@@ -115,7 +115,7 @@ fn plain_settings(rt: HostRuntime) {
 /// A setting of several parts, by the text of its write.
 #[test]
 fn settings_of_parts(rt: HostRuntime) {
-    let rows: [(&[u8], &[u8], Setting); 8] = [
+    let rows: [(&[u8], &[u8], Setting); 9] = [
         (
             b"cpu.max",
             b"max\n",
@@ -153,6 +153,15 @@ fn settings_of_parts(rt: HostRuntime) {
             b"some 150000 1000000\n",
             Setting::Trigger {
                 full: false,
+                stall: 150000,
+                window: 1000000,
+            },
+        ),
+        (
+            b"cpu.pressure",
+            b"full 150000 1000000\n",
+            Setting::Trigger {
+                full: true,
                 stall: 150000,
                 window: 1000000,
             },
@@ -246,7 +255,7 @@ fn settings_of_lists(rt: HostRuntime) {
 /// The place of the first byte with which no write of the name goes on.
 #[test]
 fn first_bad_bytes(rt: HostRuntime) {
-    let rows: [(&[u8], &[u8], u64); 20] = [
+    let rows: [(&[u8], &[u8], u64); 31] = [
         (b"cpuset.cpus", b"65536\n", 4),
         (b"cpuset.cpus", b"5-3,", 3),
         (b"cpu.pressure", b"some 9999999 2", 13),
@@ -267,6 +276,17 @@ fn first_bad_bytes(rt: HostRuntime) {
         (b"cpuset.cpus.partition", b"root invalid\n", 4),
         (b"hugetlb.2MB.max", b"a\0\n", 1),
         (b"cpu.weight", b"1\n1\n", 2),
+        (b"cgroup.subtree_control", b"cpu\n", 0),
+        (b"cgroup.subtree_control", b"++cpu\n", 1),
+        (b"cgroup.subtree_control", b"+\n", 1),
+        (b"cgroup.subtree_control", b"+cpu  -io\n", 5),
+        (b"io.max", b"8:16\n", 4),
+        (b"io.max", b"8:16 \n", 5),
+        (b"io.max", b"8:16 rbps=0\n", 10),
+        (b"io.max", b"8:16 rbps=1 rbps=2\n", 13),
+        (b"io.latency", b"8:16 target=max\n", 12),
+        (b"io.weight", b"default\n", 7),
+        (b"io.weight", b"8:16 0\n", 5),
     ];
     for (name, bytes, at) in rows {
         let fault = fault_of(rt.alloc(), Profile::One, name, bytes);

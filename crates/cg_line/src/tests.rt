@@ -1,7 +1,7 @@
 //! Readers of files, byte by byte.
 use crate::{FileFault, PushFault, PushedRun, ValueReader, decode_file};
-use cg_text::{Amount, ByteSet, Device, Hundredths, Limit};
-use cg_value::{Profile, Value, read_kind};
+use cg_text::{Amount, ByteSet, Clamp, Device, Hundredths, Limit};
+use cg_value::{GroupMode, Profile, Value, read_kind};
 use std::alloc::Global;
 use std::process::Abort;
 use std::test::Fail;
@@ -227,7 +227,7 @@ fn lines_and_ends_of_lists(rt: HostRuntime) -> Result<(), Fail> {
 /// The place of the first byte with which no file of the name goes on.
 #[test]
 fn first_bad_bytes(rt: HostRuntime) {
-    let rows: [(&[u8], &[u8], u64); 16] = [
+    let rows: [(&[u8], &[u8], u64); 35] = [
         (b"cpuset.cpus", b"0-3,4\n", 5),
         (b"cpuset.cpus", b"65534,", 5),
         (b"cpuset.cpus", b"65535-", 5),
@@ -244,6 +244,25 @@ fn first_bad_bytes(rt: HostRuntime) {
         (b"cgroup.procs", b"7 \n", 1),
         (b"cgroup.events.local", b"a\0\n", 1),
         (b"cpuset.cpus", b"0\n0\n", 2),
+        (b"cpu.weight.nice", b"-21\n", 2),
+        (b"memory.stat", b"anon 1\nfile 2\nanon 3\n", 18),
+        (b"memory.stat", b"anon\n", 4),
+        (b"memory.stat", b"anon 1 2\n", 6),
+        (b"memory.stat", b"anon 01\n", 6),
+        (b"memory.stat", b"\n", 0),
+        (b"cpuset.cpus.partition", b"\n", 0),
+        (b"cpuset.cpus.partition", b"member invalid\n", 6),
+        (b"cpuset.cpus.partition", b"root (x)\n", 5),
+        (b"cpuset.cpus.partition", b"root invalid (x\n", 15),
+        (b"cpuset.cpus.partition", b"root invalid (x) \n", 17),
+        (b"cpuset.cpus.partition", b"isolatedinvalid\n", 8),
+        (b"io.stat", b"8:0   a=1\n", 5),
+        (b"io.stat", b"8:0  \n", 5),
+        (b"io.stat", b"8:0 a=1 a=2\n", 9),
+        (b"io.stat", b"8:0 a=1 \n", 8),
+        (b"io.stat", b"8:0 a=\n", 6),
+        (b"io.stat", b"8:0 =1\n", 4),
+        (b"io.stat", b"\n", 0),
     ];
     for (name, bytes, at) in rows {
         let fault = fault_of(rt.alloc(), Profile::One, name, bytes);
@@ -257,6 +276,22 @@ fn first_bad_bytes(rt: HostRuntime) {
     assert_eq!(rt; more, Some(FileFault::Refused { at: 7 }));
     let open = fault_of(rt.alloc(), Profile::Two, b"cpuset.cpus", b"65535-");
     assert_eq!(rt; open, Some(FileFault::Cut { at: 6 }));
+}
+
+/// The first bad bytes of files that only the second profile reads by keys.
+#[test]
+fn first_bad_bytes_of_nodes(rt: HostRuntime) {
+    let rows: [(&[u8], u64); 5] = [
+        (b"anon N0=1\nanon N0=2\n", 14),
+        (b"anon N0=1 N0=2\n", 12),
+        (b"anon \n", 5),
+        (b"anon N0=\n", 8),
+        (b"\n", 0),
+    ];
+    for (bytes, at) in rows {
+        let fault = fault_of(rt.alloc(), Profile::Two, b"memory.numa_stat", bytes);
+        assert_eq!(rt; fault, Some(FileFault::Refused { at }), "{bytes:?}");
+    }
 }
 
 /// What is looked up in values that were read.
@@ -283,10 +318,36 @@ fn looked_up(rt: HostRuntime) -> Result<(), Fail> {
 /// Files of one line, in both profiles.
 #[test]
 fn whole_files(rt: HostRuntime) {
-    let rows: [(&[u8], &[u8], Value); 3] = [
+    let rows: [(&[u8], &[u8], Value); 10] = [
         (b"cpu.weight", b"10000\n", Value::Number(10000)),
         (b"memory.max", b"max\n", Value::Limit(Limit::Max)),
         (b"memory.max", b"5\n", Value::Limit(Limit::At(5))),
+        (b"cpu.weight.nice", b"-20\n", Value::Signed(-20)),
+        (b"cpu.uclamp.max", b"max\n", Value::Clamp(Clamp::Max)),
+        (
+            b"cpu.max",
+            b"max 100000\n",
+            Value::CpuMax {
+                quota: Limit::Max,
+                period: 100000,
+            },
+        ),
+        (b"cgroup.type", b"domain\n", Value::Mode(GroupMode::Domain)),
+        (
+            b"cgroup.type",
+            b"domain threaded\n",
+            Value::Mode(GroupMode::DomainThreaded),
+        ),
+        (
+            b"cgroup.type",
+            b"domain invalid\n",
+            Value::Mode(GroupMode::DomainInvalid),
+        ),
+        (
+            b"cgroup.type",
+            b"threaded\n",
+            Value::Mode(GroupMode::Threaded),
+        ),
     ];
     for (name, bytes, value) in &rows {
         for profile in [Profile::One, Profile::Two] {
@@ -301,12 +362,18 @@ fn whole_files(rt: HostRuntime) {
 /// Texts that are no file of the name, in both profiles.
 #[test]
 fn no_files(rt: HostRuntime) {
-    let rows: [(&[u8], &[u8], FileFault); 5] = [
+    let rows: [(&[u8], &[u8], FileFault); 7] = [
         (b"cpu.weight", b"10001\n", FileFault::Refused { at: 4 }),
         (b"cpu.weight", b"", FileFault::Cut { at: 0 }),
         (b"cpu.weight", b"12", FileFault::Cut { at: 2 }),
         (b"cgroup.kill", b"1\n", FileFault::NotReadable),
         (b"memory.max", b"m5\n", FileFault::Refused { at: 1 }),
+        (b"cgroup.controllers", b"cpu", FileFault::Cut { at: 3 }),
+        (
+            b"cpuset.cpus.partition",
+            b"root invalid (x)",
+            FileFault::Cut { at: 16 },
+        ),
     ];
     for (name, bytes, fault) in rows {
         for profile in [Profile::One, Profile::Two] {

@@ -6,8 +6,6 @@ pub mod devices;
 pub mod followed;
 pub mod numbers;
 pub mod plain;
-#[cfg(test)]
-mod tests;
 pub mod toggle;
 pub mod trigger;
 pub mod weight;
