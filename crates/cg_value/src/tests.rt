@@ -4,6 +4,7 @@ use crate::{
     read_kind, table_name, write_kind,
 };
 use cg_text::{Items, Limit};
+use std::alloc::Global;
 use std::test::Fail;
 
 /// The words of what a file of the name holds when it is read and when it is written, `-` for neither.
@@ -59,52 +60,97 @@ fn kinds(rt: HostRuntime) -> Result<(), Fail> {
     Ok(())
 }
 
+/// Whether a value is one of a file of the name, and how many lines it has.
+fn fits_in(name: &str, value: Value) -> Result<(bool, u64), Fail> {
+    let kind = read_kind(Profile::One, name.as_bytes())?;
+    Ok((value.fits(kind), value.line_count()))
+}
+
 #[test]
-fn fits(rt: HostRuntime) -> Result<(), Fail> {
+fn numbers_fit(rt: HostRuntime) -> Result<(), Fail> {
     let rows = [
-        ("cpu.weight", Value::Number(10000), true),
-        ("cpu.weight", Value::Number(10001), false),
-        ("cpu.idle", Value::Number(2), false),
-        ("memory.current", Value::Number(u64::MAX), true),
-        ("memory.current", Value::Limit(Limit::Max), false),
-        ("memory.max", Value::Limit(Limit::Max), true),
-        ("memory.max", Value::Limit(Limit::At(u64::MAX)), true),
-        ("memory.max", Value::Number(1), false),
-        ("cpu.weight.nice", Value::Signed(-20), true),
-        ("cpu.weight.nice", Value::Signed(20), false),
+        ("cpu.weight", 10000, true),
+        ("cpu.weight", 10001, false),
+        ("cpu.idle", 2, false),
+        ("memory.current", u64::MAX, true),
+        ("memory.max", 1, false),
     ];
-    for (name, value, wanted) in rows {
-        let kind = read_kind(Profile::One, name.as_bytes())?;
-        assert_eq!(rt; value.fits(kind), wanted, "{name} {value:?}");
-        assert_eq!(rt; value.line_count(), 1);
+    for (name, number, wanted) in rows {
+        assert_eq!(rt;
+            fits_in(name, Value::Number(number))?,
+            (wanted, 1),
+            "{name} {number}"
+        );
     }
     Ok(())
 }
 
-/// What is refused as an entry is handed back.
+#[test]
+fn limits_fit(rt: HostRuntime) -> Result<(), Fail> {
+    let rows = [
+        ("memory.current", Limit::Max, false),
+        ("memory.max", Limit::Max, true),
+        ("memory.max", Limit::At(u64::MAX), true),
+    ];
+    for (name, limit, wanted) in rows {
+        assert_eq!(rt;
+            fits_in(name, Value::Limit(limit))?,
+            (wanted, 1),
+            "{name} {limit:?}"
+        );
+    }
+    Ok(())
+}
+
+#[test]
+fn signed_numbers_fit(rt: HostRuntime) -> Result<(), Fail> {
+    for (number, wanted) in [(-20, true), (20, false)] {
+        let fits = fits_in("cpu.weight.nice", Value::Signed(number))?;
+        assert_eq!(rt; fits, (wanted, 1), "{number}");
+    }
+    Ok(())
+}
+
+/// Why a path and its value are refused as an entry, where the path is handed back.
+fn entry_fault(alloc: Global, path: &str, value: Value) -> Result<Option<EntryFault>, Fail> {
+    let given = path.as_bytes().to_vec(alloc)?;
+    match Entry::new(Profile::One, given, value) {
+        Ok(_entry) => Ok(None),
+        Err(refused) => {
+            let back = refused.path.as_slice() == path.as_bytes();
+            Ok(if back { Some(refused.why) } else { None })
+        }
+    }
+}
+
 #[test]
 fn refused_entries(rt: HostRuntime) -> Result<(), Fail> {
     let rows = [
-        ("a/", Value::Number(1), EntryFault::BadPath),
-        ("cgroup.kill", Value::Number(1), EntryFault::NotReadable),
-        ("cpu.weight", Value::Number(10001), EntryFault::WrongKind),
-        (
-            "cgroup.procs",
-            Value::Numbers(Items::new(rt.alloc())),
-            EntryFault::NoLines,
-        ),
+        ("a/", 1, EntryFault::BadPath),
+        ("cgroup.kill", 1, EntryFault::NotReadable),
+        ("cpu.weight", 10001, EntryFault::WrongKind),
     ];
-    for (path, value, why) in rows {
-        let given = path.as_bytes().to_vec(rt.alloc())?;
-        match Entry::new(Profile::One, given, value) {
-            Ok(_) => assert!(rt; false, "{path}"),
-            Err(refused) => {
-                assert_eq!(rt; refused.why, why, "{path}");
-                assert!(rt; refused.path.as_slice() == path.as_bytes(), "{path}");
-            }
+    for (path, number, why) in rows {
+        let fault = entry_fault(rt.alloc(), path, Value::Number(number))?;
+        assert_eq!(rt; fault, Some(why), "{path}");
+    }
+    let none = Value::Numbers(Items::new(rt.alloc()));
+    let fault = entry_fault(rt.alloc(), "cgroup.procs", none)?;
+    assert_eq!(rt; fault, Some(EntryFault::NoLines));
+    Ok(())
+}
+
+/// Why a path and a number are refused as a write, where both are handed back.
+fn item_fault(alloc: Global, path: &str, number: u64) -> Result<Option<ItemFault>, Fail> {
+    let given = path.as_bytes().to_vec(alloc)?;
+    match PlanItem::new(Profile::One, given, Setting::Number(number)) {
+        Ok(_item) => Ok(None),
+        Err(refused) => {
+            let path_back = refused.path.as_slice() == path.as_bytes();
+            let back = path_back && refused.setting == Setting::Number(number);
+            Ok(if back { Some(refused.why) } else { None })
         }
     }
-    Ok(())
 }
 
 #[test]
@@ -115,15 +161,8 @@ fn refused_items(rt: HostRuntime) -> Result<(), Fail> {
         ("cpu.weight", ItemFault::WrongKind, 0),
     ];
     for (path, why, number) in rows {
-        let given = path.as_bytes().to_vec(rt.alloc())?;
-        match PlanItem::new(Profile::One, given, Setting::Number(number)) {
-            Ok(_) => assert!(rt; false, "{path}"),
-            Err(refused) => {
-                assert_eq!(rt; refused.why, why, "{path}");
-                assert!(rt; refused.path.as_slice() == path.as_bytes(), "{path}");
-                assert!(rt; refused.setting == Setting::Number(number), "{path}");
-            }
-        }
+        let fault = item_fault(rt.alloc(), path, number)?;
+        assert_eq!(rt; fault, Some(why), "{path}");
     }
     Ok(())
 }
