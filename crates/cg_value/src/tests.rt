@@ -112,7 +112,7 @@ fn signed_numbers_fit(rt: HostRuntime) -> Result<(), Fail> {
 }
 
 /// Why a path and its value are refused as an entry, where the path is handed back.
-fn entry_fault(alloc: Global, path: &str, value: Value) -> Result<Option<EntryFault>, Fail> {
+fn entry_refusal(alloc: Global, path: &str, value: Value) -> Result<Option<EntryFault>, Fail> {
     let given = path.as_bytes().to_vec(alloc)?;
     match Entry::new(Profile::One, given, value) {
         Ok(_entry) => Ok(None),
@@ -131,17 +131,17 @@ fn refused_entries(rt: HostRuntime) -> Result<(), Fail> {
         ("cpu.weight", 10001, EntryFault::WrongKind),
     ];
     for (path, number, why) in rows {
-        let fault = entry_fault(rt.alloc(), path, Value::Number(number))?;
+        let fault = entry_refusal(rt.alloc(), path, Value::Number(number))?;
         assert_eq!(rt; fault, Some(why), "{path}");
     }
     let none = Value::Numbers(Items::new(rt.alloc()));
-    let fault = entry_fault(rt.alloc(), "cgroup.procs", none)?;
+    let fault = entry_refusal(rt.alloc(), "cgroup.procs", none)?;
     assert_eq!(rt; fault, Some(EntryFault::NoLines));
     Ok(())
 }
 
 /// Why a path and a number are refused as a write, where both are handed back.
-fn item_fault(alloc: Global, path: &str, number: u64) -> Result<Option<ItemFault>, Fail> {
+fn item_refusal(alloc: Global, path: &str, number: u64) -> Result<Option<ItemFault>, Fail> {
     let given = path.as_bytes().to_vec(alloc)?;
     match PlanItem::new(Profile::One, given, Setting::Number(number)) {
         Ok(_item) => Ok(None),
@@ -161,7 +161,7 @@ fn refused_items(rt: HostRuntime) -> Result<(), Fail> {
         ("cpu.weight", ItemFault::WrongKind, 0),
     ];
     for (path, why, number) in rows {
-        let fault = item_fault(rt.alloc(), path, number)?;
+        let fault = item_refusal(rt.alloc(), path, number)?;
         assert_eq!(rt; fault, Some(why), "{path}");
     }
     Ok(())
