@@ -244,6 +244,17 @@ module _ {S T V W : Type 0} (first : S → List ℕ → V → Type 0) (second : 
   pub both_begin : (s : S) (t : T) (b : ℕ) (y : Bool) → Ends first s → IsTrue y ↔ Begins second t b → IsTrue y ↔ ((rest : List ℕ) × (v : Option V × Option W) × OneOrBothRest first second Both s t (b ∷ rest) v.0 v.1)
   both_begin s t b y e g = (λ h. (let j = g.0 h in (j.0, (Some e.0, Some j.1), (refl, (e.1, j.2)))), λ h. both_of s t b y g.1 h.0 (h.1.0) (h.1.1) h.2)
 
+  -- ---- What goes on with a byte of one of the two
+
+  pub start_goes : (s : S) (t : T) (b : ℕ) → Begins first s b → (rest : List ℕ) × (v : Option V × Option W) × OneOrBothRest first second Start s t (b ∷ rest) v.0 v.1
+  start_goes s t b j = (j.0, (Some j.1, None), (refl, alone s t (b ∷ j.0) j.1 j.2))
+
+  pub first_goes : (s : S) (t : T) (b : ℕ) → Begins first s b → (rest : List ℕ) × (v : Option V × Option W) × OneOrBothRest first second First s t (b ∷ rest) v.0 v.1
+  first_goes s t b j = (j.0, (Some j.1, None), (refl, alone s t (b ∷ j.0) j.1 j.2))
+
+  pub later_goes : (s : S) (t : T) (b : ℕ) → Ends first s → Begins second t b → (rest : List ℕ) × (v : Option V × Option W) × OneOrBothRest first second First s t (b ∷ rest) v.0 v.1
+  later_goes s t b i j = (j.0, (Some i.0, Some j.1), (refl, record { front = []; back = b ∷ j.0; whole = refl; begins = i.1; ends = j.2 }))
+
 -- ---- Texts that relations give
 
 module _ {S T V W : Type 0} {A : S → List ℕ → V → Type 0} {B : T → List ℕ → W → Type 0} {s : S} {t : T} {R : List ℕ → V → Type 0} {Q : List ℕ → W → Type 0} where

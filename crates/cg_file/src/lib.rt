@@ -2,16 +2,27 @@
 #![tactic(auto)]
 
 pub mod branch;
-pub mod files;
-pub mod flat_file;
-pub mod many_files;
-pub mod nested_file;
-pub mod one_line_files;
+pub mod clamp;
+pub mod cpu_max;
+pub mod device_limits;
+pub mod device_stats;
+pub mod device_targets;
+pub mod device_weights;
+pub mod file_text;
+pub mod flat;
+pub mod limit;
+pub mod mode;
+pub mod nested;
+pub mod number;
+pub mod numbers;
 pub mod one_or_both;
 pub mod pad;
-pub mod partition_file;
-pub mod pressure_file;
-pub mod stat_file;
-pub mod turned;
-mod weigh;
-pub mod words_file;
+pub mod partition;
+pub mod pressure;
+pub mod raw;
+mod run;
+pub mod set;
+pub mod signed;
+pub mod words;
+
+pub use file_text::FileText;

@@ -1,5 +1,6 @@
 -- What holds of a token after a fixed text.
 use Rattle.std.proofs.Common.{◌≡◌, ℕ, ◌↔◌, inl, inr, Bool, true, false, ◌&&◌, List, [], ◌∷◌, ◌++◌, drop, refl, sym, ◌∙◌, ap, IsTrue, IsFalse, Ok, Err}
+use Rattle.std.specs.Prelude.{OnErr}
 use Rattle.std.specs.declared.result.Result.{Result}
 use Rattle.cg_text.specs.Keyword.{text_of}
 use Rattle.cg_text.specs.Token.{IfTaken, IfRefused, UnlessTaken, Follows, NoneBegins, Same, Begins, Ends, Completes, HasOneValue, HoldsBytes, Spells}
@@ -86,6 +87,10 @@ module _ {T W : Type 0} (M : T → List ℕ → W → Type 0) (label : KeywordTe
 
 -- What follows from what a step promises, whatever it answered.
 module _ {E P Q : Type 0} where
+  pub if_err_as : (r : Result Bool E) → (P → Q) → OnErr r P → OnErr r Q
+  if_err_as (Ok b) f h = h
+  if_err_as (Err e) f h = f h
+
   pub if_taken_as : (r : Result Bool E) → (P → Q) → IfTaken r P → IfTaken r Q
   if_taken_as (Ok true) f h = f h
   if_taken_as (Ok false) f h = h

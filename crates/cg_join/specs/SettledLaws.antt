@@ -156,3 +156,7 @@ keyed_settled key given items P R end Before kept f g m k v none new_key new_val
     rw (← out) (alone_held m (items_weight f kept) k v (g (given items)) (nothing_kept f kept none) (new_key refl) (new_value refl) h)
 keyed_settled key given items P R end InWord kept f g m k v none new_key new_value h y t = absurd (true_false (lines_over_all P R end true t.1.0.0 t.1.0.2).0)
 keyed_settled key given items P R end InValue kept f g m k v none new_key new_value h y t = absurd (true_false (lines_over_all P R end true t.1.0.0 t.1.0.2).0)
+
+-- Of a value that is turned into another.
+pub turned_settled : {V W : Type 0} (turned : V → W) (n : ℕ) (f : V → ℕ) (g : W → ℕ) (v : V) (w : W) → turned v ≡ w → n ≤ f v → f v ≤ g (turned v) → n ≤ g w
+turned_settled turned n f g v w e h k = rw (← e) (least_most n (f v) (g (turned v)) h k)

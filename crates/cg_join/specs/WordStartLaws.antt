@@ -1,9 +1,9 @@
 -- What holds of words as the texts of repetitions.
-use Rattle.std.proofs.Common.{◌≡◌, ℕ, ◌+◌, ◌<◌, Bool, List, [], ◌∷◌, ◌++◌, length, refl, sym, ◌∙◌, ap, arith}
+use Rattle.std.proofs.Common.{◌≡◌, ℕ, ◌+◌, ◌<◌, ◌↔◌, IsTrue, Bool, List, [], ◌∷◌, ◌++◌, length, refl, sym, ◌∙◌, ap, arith}
 use Rattle.cg_text.specs.Token.{AreBytes, HasOneText}
 use Rattle.cg_text.specs.Word.{AreWordBytes, IsWordByte, IsWordText}
-use Rattle.cg_text.specs.WordState.{IsWordRest}
-use Rattle.cg_text.specs.WordLaws.{text_word, total_length, word_above, word_longer, words_bytes}
+use Rattle.cg_text.specs.WordState.{IsWordFront, IsWordRest, is_taken}
+use Rattle.cg_text.specs.WordLaws.{is_taken_is, text_word, total_length, word_above, word_longer, words_bytes}
 use Rattle.cg_join.specs.Distinct.{LacksValue}
 use Rattle.cg_join.specs.Line.{LacksByte}
 use Rattle.cg_join.specs.Repeat.{LacksEmpty}
@@ -44,3 +44,7 @@ word_only controller b other front more word h = other (word_byte_inside front m
 -- A word isn't empty.
 pub word_filled : (controller : Bool) → LacksEmpty (SpellsWord controller)
 word_filled controller word h = absurd (omega (arith, (text_word controller [] h.1).0))
+
+-- What was taken is a word exactly where the empty rest has it as its value.
+pub taken_is : (controller : Bool) (taken : List ℕ) → IsWordFront controller taken → (word : List ℕ) → IsTrue (is_taken taken word) ↔ IsWordRest controller taken [] word
+taken_is controller taken sound word = is_taken_is controller taken word sound

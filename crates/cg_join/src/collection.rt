@@ -1,13 +1,13 @@
 //! What keeps the pairs of keyed lines.
 ghost use Rattle.std.specs.Prelude.{◌≡◌, ℕ, ◌+◌, ◌≤◌, Bool, List, [], ◌++◌, ◌∷◌, map, OnOk};
 ghost use Rattle.cg_text.specs.Token.{told};
+ghost use Rattle.cg_text.specs.WordState.{is_taken};
 ghost use Rattle.cg_join.specs.Distinct.{LacksValue, any_value};
 
-use crate::peek::Peek;
-use cg_text::{OutOfMemory, Token};
+use cg_text::{Key, OutOfMemory, Token, WordText};
 
 /// Pairs of a key and a value, in order, the keys all different.
-pub trait Collection<K: Peek, V: Token>: Drop {
+pub trait Collection<V: Token>: Drop {
     /// A pair.
     type Pair;
 
@@ -15,13 +15,13 @@ pub trait Collection<K: Peek, V: Token>: Drop {
     type Out: Drop;
 
     /// The key of a pair.
-    ghost key_of: { Self.Pair → K.Out };
+    ghost key_of: { Self.Pair → List ℕ };
 
     /// The value of a pair.
     ghost value_of: { Self.Pair → V.Out };
 
     /// The pair of the two.
-    ghost paired: { K.Out → V.Out → Self.Pair };
+    ghost paired: { List ℕ → V.Out → Self.Pair };
 
     /// The pairs.
     ghost pairs_of: { Self → List Self.Pair };
@@ -41,9 +41,21 @@ pub trait Collection<K: Peek, V: Token>: Drop {
     /// How many elements a pair has in the vectors, beside those in its key and its value.
     ghost places: { ℕ };
 
+    /// A pair adds no more than two elements.
+    ghost few: { places ≤ 2 };
+
+    /// A pair has the key that it is made of.
+    ghost has_key: { (key : List ℕ) (value : V.Out) → key_of (paired key value) ≡ key };
+
+    /// A pair has the value that it is made of.
+    ghost has_value: { (key : List ℕ) (value : V.Out) → value_of (paired key value) ≡ value };
+
+    /// A pair has nothing else.
+    ghost whole: { (pair : Self.Pair) → paired (key_of pair) (value_of pair) ≡ pair };
+
     /// Whether a pair has the key that was taken.
-    fn has(&self, key: &K) -> bool
-        ensures { result ≡ any_value (K.is_value key.now) (map key_of (pairs_of self.now)) };
+    fn has(&self, key: &WordText) -> bool
+        ensures { result ≡ any_value (is_taken key.now.bytes.items) (map key_of (pairs_of self.now)) };
 
     /// Makes room for one more pair.
     fn reserve(&mut self) -> Result<(), OutOfMemory>
@@ -52,11 +64,11 @@ pub trait Collection<K: Peek, V: Token>: Drop {
         ensures room { OnOk result (has_room self.new) };
 
     /// Adds a pair with a new key, where there is room for it. It takes no memory.
-    fn push(&mut self, key: K::Out, value: V::Out)
+    fn push(&mut self, key: Key, value: V::Out)
         requires room { has_room self.old }
         requires new { LacksValue key (map key_of (pairs_of self.old)) }
         ensures pairs { pairs_of self.new ≡ pairs_of self.old ++ paired key value ∷ [] }
-        ensures size { size self.new ≤ size self.old + (places + (K.weight key + V.weight value)) };
+        ensures size { size self.new ≤ size self.old + (places + (⟦<WordText as Token>⟧.weight key + V.weight value)) };
 
     /// The sum of the lengths of its vectors.
     fn held(&self) -> u64
@@ -70,16 +82,4 @@ pub trait Collection<K: Peek, V: Token>: Drop {
     /// The sum of the lengths of the vectors in what is handed out.
     fn weight_of(out: &Self::Out) -> u64
         ensures { result ≡ told (weight out.now) };
-
-    /// A pair adds no more than two elements.
-    ghost few: { places ≤ 2 };
-
-    /// A pair has the key that it is made of.
-    ghost has_key: { (key : K.Out) (value : V.Out) → key_of (paired key value) ≡ key };
-
-    /// A pair has the value that it is made of.
-    ghost has_value: { (key : K.Out) (value : V.Out) → value_of (paired key value) ≡ value };
-
-    /// A pair has nothing else.
-    ghost whole: { (pair : Self.Pair) → paired (key_of pair) (value_of pair) ≡ pair };
 }

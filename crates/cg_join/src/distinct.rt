@@ -1,44 +1,47 @@
-//! One or more of a token, all different, with a byte between.
+//! One or more words, all different, with a byte between.
 ghost use Rattle.std.specs.Prelude.{◌≡◌, ℕ, ◌+◌, ◌≤◌, ◌<◌, ◌↔◌, true, false, not, ◌&&◌, List, [], ◌++◌, ◌∷◌, IsTrue, IsFalse, vec_len, vec_capacity};
 ghost use Rattle.cg_text.specs.Token.{Spells, told};
 ghost use Rattle.cg_join.specs.Repeat.{LacksEmpty, Stops, items_weight, out_weight};
 ghost use Rattle.cg_join.specs.Distinct.{AreDistinct, AreDistinctJoined, any_value, IsDistinctAfter};
 ghost use Rattle.cg_join.specs.DistinctLaws.{AreDistinct_prop};
+ghost use Rattle.cg_join.specs.WordStartLaws.{SpellsWord};
+ghost use Rattle.cg_text.specs.WordState.{is_taken};
 
-use crate::peek::{Peek, StartNew, has};
+use crate::start::Start;
 use crate::store::{make_room, put, weight_of_joined};
-use cg_text::{Items, OutOfMemory, Token};
+use crate::words::{WordStart, has};
+use cg_text::{Items, Key, OutOfMemory, Token, WordText};
 use std::alloc::Global;
 use std::mem;
 
-/// One or more of a token, all different, with a byte between that a token never takes where it could end.
-/// No text of it is empty. A text may end, or be followed by the byte, only where it is new.
+/// One or more words, all different, with a byte between that no word has. A word may end, or be followed by the byte,
+/// only where it is new.
 #[derive(Drop)]
-pub struct Distinct<T: Peek, S: StartNew<T>> {
-    start: S,
+pub struct DistinctWords {
+    start: WordStart,
     separator: u8,
-    items: Vec<T::Out>,
-    current: T,
+    items: Vec<Key>,
+    current: WordText,
     kept: u64,
-    ghost counted: { kept ≡ told (items_weight T.weight items.items) },
-    ghost stops: { Stops (T.means current) separator },
-    ghost starts: { Stops (S.texts start) separator },
-    ghost filled: { LacksEmpty (S.texts start) },
-    ghost room: { IsTrue (T.ends current) → vec_len items < vec_capacity items },
+    ghost counted: { kept ≡ told (items_weight ⟦<WordText as Token>⟧.weight items.items) },
+    ghost stops: { Stops (⟦<WordText as Token>⟧.means current) separator },
+    ghost starts: { Stops (SpellsWord start.controller) separator },
+    ghost filled: { LacksEmpty (SpellsWord start.controller) },
+    ghost room: { IsTrue (⟦<WordText as Token>⟧.ends current) → vec_len items < vec_capacity items },
     ghost small: { separator < 256 },
     ghost distinct: { AreDistinct items.items } by { AreDistinct_prop items.items },
 }
 
-impl<T: Peek, S: StartNew<T>> Distinct<T, S> {
-    /// One or more texts of the tokens that `start` makes, all different.
-    pub fn new(alloc: Global, start: S, separator: u8) -> Distinct<T, S>
-        requires stops { Stops (S.texts start) separator }
-        requires filled { LacksEmpty (S.texts start) }
-        ensures spells { Spells ⟦<Distinct<T, S> as Token>⟧.means result (AreDistinctJoined (S.texts start) separator) }
-        ensures size { ⟦<Distinct<T, S> as Token>⟧.size result ≡ 0 }
+impl DistinctWords {
+    /// One or more of the words whose tokens `start` makes, all different.
+    pub fn new(alloc: Global, start: WordStart, separator: u8) -> DistinctWords
+        requires stops { Stops (SpellsWord start.controller) separator }
+        requires filled { LacksEmpty (SpellsWord start.controller) }
+        ensures spells { Spells ⟦<DistinctWords as Token>⟧.means result (AreDistinctJoined (SpellsWord start.controller) separator) }
+        ensures size { ⟦<DistinctWords as Token>⟧.size result ≡ 0 }
     {
         let current = start.start();
-        Distinct {
+        DistinctWords {
             start,
             separator,
             items: Vec::new(alloc),
@@ -48,20 +51,21 @@ impl<T: Peek, S: StartNew<T>> Distinct<T, S> {
     }
 }
 
-impl<T: Peek, S: StartNew<T>> Token for Distinct<T, S> {
-    type Out = Items<T::Out>;
+impl Token for DistinctWords {
+    type Out = Items<Key>;
 
     ghost use Rattle.cg_join.specs.ByteLaws.{list_bytes};
+    ghost use Rattle.cg_join.specs.WordStartLaws.{one_word, taken_is, word_new, word_text_bytes};
     ghost use Rattle.cg_join.specs.RepeatLaws.{true_not_false};
     ghost use Rattle.cg_join.specs.DistinctLaws.{distinct_completes, distinct_ends, distinct_one};
 
-    ghost means = { λ s rest all. IsDistinctAfter s.items.items (T.means s.current) (S.texts s.start) s.separator rest all };
+    ghost means = { λ s rest all. IsDistinctAfter s.items.items (⟦<WordText as Token>⟧.means s.current) (SpellsWord s.start.controller) s.separator rest all };
 
-    ghost size = { λ s. items_weight T.weight s.items.items + T.size s.current };
+    ghost size = { λ s. items_weight ⟦<WordText as Token>⟧.weight s.items.items + ⟦<WordText as Token>⟧.size s.current };
 
-    ghost weight = { out_weight T.weight };
+    ghost weight = { out_weight ⟦<WordText as Token>⟧.weight };
 
-    ghost ends = { λ s. T.ends s.current && not (any_value (T.is_value s.current) s.items.items) };
+    ghost ends = { λ s. ⟦<WordText as Token>⟧.ends s.current && not (any_value (is_taken s.current.bytes.items) s.items.items) };
 
     ghost grows = { true };
 
@@ -92,7 +96,7 @@ impl<T: Peek, S: StartNew<T>> Token for Distinct<T, S> {
         let next = self.start.start();
         let done = mem::replace(&mut self.current, next);
         let value = done.take();
-        let weight = T::weight_of(&value);
+        let weight = WordText::weight_of(&value);
         put(&mut self.items, value);
         self.kept = self.kept.saturating_add(1).saturating_add(weight);
         Ok(true)
@@ -115,23 +119,23 @@ impl<T: Peek, S: StartNew<T>> Token for Distinct<T, S> {
         self.kept.saturating_add(self.current.held())
     }
 
-    fn take(self) -> Items<T::Out> {
+    fn take(self) -> Items<Key> {
         let mut items = self.items;
         put(&mut items, self.current.take());
         Items::of(items)
     }
 
-    fn weight_of(value: &Items<T::Out>) -> u64 {
-        weight_of_joined::<T>(value.as_slice())
+    fn weight_of(value: &Items<Key>) -> u64 {
+        weight_of_joined::<WordText>(value.as_slice())
     }
 
-    ghost completes = { λ s. distinct_completes (T.means s.current) (S.texts s.start) s.separator s.items.items s.distinct (T.longer s.current [] (T.completes s.current) s.items.items) };
+    ghost completes = { λ s. distinct_completes (⟦<WordText as Token>⟧.means s.current) (SpellsWord s.start.controller) s.separator s.items.items s.distinct (word_new s.current.controller s.current.bytes.items [] (⟦<WordText as Token>⟧.completes s.current) s.items.items) };
 
     ghost no_size = { λ e s. absurd (true_not_false e) };
 
-    ghost ends_is = { λ s. distinct_ends (T.means s.current) (S.texts s.start) s.separator s.items.items (T.is_value s.current) (T.ends s.current) s.distinct (T.is_value_is s.current) (T.one_value s.current) (T.ends_is s.current) };
+    ghost ends_is = { λ s. distinct_ends (⟦<WordText as Token>⟧.means s.current) (SpellsWord s.start.controller) s.separator s.items.items (is_taken s.current.bytes.items) (⟦<WordText as Token>⟧.ends s.current) s.distinct (taken_is s.current.controller s.current.bytes.items s.current.sound) (⟦<WordText as Token>⟧.one_value s.current) (⟦<WordText as Token>⟧.ends_is s.current) };
 
-    ghost one_value = { λ s. distinct_one (T.means s.current) (S.texts s.start) s.separator s.items.items s.stops s.starts (T.one_value s.current) (S.one_text s.start) };
+    ghost one_value = { λ s. distinct_one (⟦<WordText as Token>⟧.means s.current) (SpellsWord s.start.controller) s.separator s.items.items s.stops s.starts (⟦<WordText as Token>⟧.one_value s.current) (one_word s.start.controller) };
 
-    ghost holds_bytes = { λ s rest all h. list_bytes (T.means s.current) (S.texts s.start) s.separator s.small (T.holds_bytes s.current) (S.text_bytes s.start) rest h.0.0 h.0.2 };
+    ghost holds_bytes = { λ s rest all h. list_bytes (⟦<WordText as Token>⟧.means s.current) (SpellsWord s.start.controller) s.separator s.small (⟦<WordText as Token>⟧.holds_bytes s.current) (word_text_bytes s.start.controller) rest h.0.0 h.0.2 };
 }

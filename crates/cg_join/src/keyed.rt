@@ -1,7 +1,8 @@
 //! Any number of lines of a key and what follows it, the keys all different: the flat keyed and the nested keyed
 //! files of cgroup v2 (cgroup-v2.rst, "Interface Files", "Format").
-ghost use Rattle.std.specs.Prelude.{◌≡◌, ℕ, ◌+◌, ◌≤◌, ◌<◌, ◌↔◌, Bool, true, false, not, ◌&&◌, Option, Some, List, [], ◌++◌, ◌∷◌, IsTrue, IsFalse, map, length};
+ghost use Rattle.std.specs.Prelude.{◌≡◌, ℕ, ◌+◌, ◌≤◌, ◌<◌, ◌↔◌, Bool, true, false, not, ◌&&◌, Option, Some, List, [], ◌++◌, ◌∷◌, IsTrue, IsFalse, map, length, OnErr};
 ghost use Rattle.cg_text.specs.Token.{Begins, Follows, IfRefused, IfTaken, NoneBegins, Same, Spells, UnlessTaken, told};
+ghost use Rattle.cg_text.specs.WordState.{is_taken};
 ghost use Rattle.cg_join.specs.Distinct.{AreDistinct, any_value};
 ghost use Rattle.cg_join.specs.DistinctLaws.{AreDistinct_prop};
 ghost use Rattle.cg_join.specs.Keyed.{AreKeyedLines, IsKeyed};
@@ -9,73 +10,69 @@ ghost use Rattle.cg_join.specs.KeyedState.{AreKeyedAfter, KeyedRest, is_begun, i
 ghost use Rattle.cg_join.specs.Line.{LacksByte};
 ghost use Rattle.cg_join.specs.Repeat.{items_weight};
 ghost use Rattle.cg_join.specs.Spelling.{IsTurned};
+ghost use Rattle.cg_join.specs.WordStartLaws.{SpellsWord};
 ghost use Rattle.cg_join.specs.declared.pairs.Stage.TheVariants.{Before, InWord, InValue};
 
 use crate::collection::Collection;
 use crate::follow::Follow;
 use crate::pairing::renew;
 use crate::pairs::Stage;
-use crate::peek::{Peek, StartNew};
+use crate::start::Start;
 use crate::store::{make_room, put, weight_of_all};
-use cg_text::{OutOfMemory, Token};
+use crate::words::WordStart;
+use cg_text::{Key, OutOfMemory, Token, WordText};
 use std::alloc::Global;
 
 /// Any number of lines, also none, each a key, what follows it and an end: `KEY VAL` or `KEY SUB=VAL SUB=VAL`, and
 /// a newline. A mark, which no key has, begins what follows; where a key may stand alone, nothing follows it.
 /// No key comes twice: one may be followed by the mark or the end only where it is new.
 #[derive(Drop)]
-pub struct KeyedLines<K: Peek, V: Token, A: StartNew<K>, B: Follow<V>, C: Collection<K, V>> {
-    keys: A,
+pub struct KeyedLines<V: Token, B: Follow<V>, C: Collection<V>> {
+    keys: WordStart,
     values: B,
     mark: u8,
     end: u8,
     pairs: C,
     /// The key of the line at hand, once the mark has ended it, and nothing else.
-    ended: Vec<K::Out>,
+    ended: Vec<Key>,
     stage: Stage,
-    key: K,
+    key: WordText,
     value: V,
-    ghost key_mark: { LacksByte (K.means key) mark },
-    ghost key_end: { LacksByte (K.means key) end },
-    ghost keys_mark: { LacksByte (A.texts keys) mark },
-    ghost keys_end: { LacksByte (A.texts keys) end },
+    ghost key_mark: { LacksByte (⟦<WordText as Token>⟧.means key) mark },
+    ghost key_end: { LacksByte (⟦<WordText as Token>⟧.means key) end },
+    ghost keys_mark: { LacksByte (SpellsWord keys.controller) mark },
+    ghost keys_end: { LacksByte (SpellsWord keys.controller) end },
     ghost value_end: { LacksByte (V.means value) end },
     ghost values_end: { LacksByte (B.texts values) end },
     ghost apart: { mark ≡ end → ⊥ },
     ghost small_mark: { mark < 256 },
     ghost small_end: { end < 256 },
     ghost alone: { (v : V.Out) → B.alone values ≡ Some v → C.places ≤ 1 },
-    ghost new_key: { IsFalse (is_begun stage) → K.size key ≡ 0 },
+    ghost new_key: { IsFalse (is_begun stage) → ⟦<WordText as Token>⟧.size key ≡ 0 },
     ghost new_value: { IsFalse (is_marked stage) → V.size value ≡ 0 },
     ghost kept: { length ended.items ≡ kept_keys (is_marked stage) },
     ghost distinct: { AreDistinct (map C.key_of (C.pairs_of pairs) ++ ended.items) } by { AreDistinct_prop (map C.key_of (C.pairs_of pairs) ++ ended.items) },
 }
 
-impl<K: Peek, V: Token, A: StartNew<K>, B: Follow<V>, C: Collection<K, V>> KeyedLines<
-    K,
-    V,
-    A,
-    B,
-    C,
-> {
+impl<V: Token, B: Follow<V>, C: Collection<V>> KeyedLines<V, B, C> {
     /// Any number of lines of a key and a value, whose tokens are made by `keys` and `values`. The pairs are
     /// put into `pairs`, which has none.
     pub fn new(
         alloc: Global,
-        keys: A,
+        keys: WordStart,
         values: B,
         mark: u8,
         end: u8,
         pairs: C,
-    ) -> KeyedLines<K, V, A, B, C>
-        requires keys_mark { LacksByte (A.texts keys) mark }
-        requires keys_end { LacksByte (A.texts keys) end }
+    ) -> KeyedLines<V, B, C>
+        requires keys_mark { LacksByte (SpellsWord keys.controller) mark }
+        requires keys_end { LacksByte (SpellsWord keys.controller) end }
         requires values_end { LacksByte (B.texts values) end }
         requires apart { mark ≡ end → ⊥ }
         requires alone { (v : V.Out) → B.alone values ≡ Some v → C.places ≤ 1 }
         requires empty { C.pairs_of pairs ≡ [] }
-        ensures spells { Spells ⟦<KeyedLines<K, V, A, B, C> as Token>⟧.means result (IsTurned (AreKeyedLines C.key_of (IsKeyed C.key_of C.value_of (A.texts keys) (B.texts values) (B.alone values) mark) end) C.given) }
-        ensures size { ⟦<KeyedLines<K, V, A, B, C> as Token>⟧.size result ≡ C.size pairs }
+        ensures spells { Spells ⟦<KeyedLines<V, B, C> as Token>⟧.means result (IsTurned (AreKeyedLines C.key_of (IsKeyed C.key_of C.value_of (SpellsWord keys.controller) (B.texts values) (B.alone values) mark) end) C.given) }
+        ensures size { ⟦<KeyedLines<V, B, C> as Token>⟧.size result ≡ C.size pairs }
     {
         let key = keys.start();
         let value = values.start();
@@ -94,7 +91,7 @@ impl<K: Peek, V: Token, A: StartNew<K>, B: Follow<V>, C: Collection<K, V>> Keyed
 
     /// Whether the key can end, and no line before has it.
     fn is_new_key(&self) -> bool
-        ensures { result ≡ K.ends self.now.key && not (any_value (K.is_value self.now.key) (map C.key_of (C.pairs_of self.now.pairs))) }
+        ensures { result ≡ ⟦<WordText as Token>⟧.ends self.now.key && not (any_value (is_taken self.now.key.bytes.items) (map C.key_of (C.pairs_of self.now.pairs))) }
     {
         self.key.can_end() && !self.pairs.has(&self.key)
     }
@@ -102,11 +99,12 @@ impl<K: Peek, V: Token, A: StartNew<K>, B: Follow<V>, C: Collection<K, V>> Keyed
     /// Takes the mark after a key.
     fn end_key(&mut self) -> Result<bool, OutOfMemory>
         requires { IsFalse (is_marked self.old.stage) }
-        ensures taken { IfTaken result (Follows ⟦<KeyedLines<K, V, A, B, C> as Token>⟧.means self.old self.old.mark self.new) }
-        ensures refused { IfRefused result (NoneBegins ⟦<KeyedLines<K, V, A, B, C> as Token>⟧.means self.old self.old.mark) }
-        ensures same { UnlessTaken result (Same ⟦<KeyedLines<K, V, A, B, C> as Token>⟧.means self.old self.new) }
-        ensures same_size { UnlessTaken result (⟦<KeyedLines<K, V, A, B, C> as Token>⟧.size self.new ≡ ⟦<KeyedLines<K, V, A, B, C> as Token>⟧.size self.old) }
-        ensures size { ⟦<KeyedLines<K, V, A, B, C> as Token>⟧.size self.new ≤ ⟦<KeyedLines<K, V, A, B, C> as Token>⟧.size self.old + 1 }
+        ensures taken { IfTaken result (Follows ⟦<KeyedLines<V, B, C> as Token>⟧.means self.old self.old.mark self.new) }
+        ensures refused { IfRefused result (NoneBegins ⟦<KeyedLines<V, B, C> as Token>⟧.means self.old self.old.mark) }
+        ensures same { UnlessTaken result (Same ⟦<KeyedLines<V, B, C> as Token>⟧.means self.old self.new) }
+        ensures same_size { UnlessTaken result (⟦<KeyedLines<V, B, C> as Token>⟧.size self.new ≡ ⟦<KeyedLines<V, B, C> as Token>⟧.size self.old) }
+        ensures size { ⟦<KeyedLines<V, B, C> as Token>⟧.size self.new ≤ ⟦<KeyedLines<V, B, C> as Token>⟧.size self.old + 1 }
+        ensures last { OnErr result (Begins ⟦<KeyedLines<V, B, C> as Token>⟧.means self.old self.old.mark) }
     {
         if !self.is_new_key() {
             return Ok(false);
@@ -124,11 +122,12 @@ impl<K: Peek, V: Token, A: StartNew<K>, B: Follow<V>, C: Collection<K, V>> Keyed
     /// Takes the end after a key, which then stands alone.
     fn end_alone(&mut self) -> Result<bool, OutOfMemory>
         requires { IsFalse (is_marked self.old.stage) }
-        ensures taken { IfTaken result (Follows ⟦<KeyedLines<K, V, A, B, C> as Token>⟧.means self.old self.old.end self.new) }
-        ensures refused { IfRefused result (NoneBegins ⟦<KeyedLines<K, V, A, B, C> as Token>⟧.means self.old self.old.end) }
-        ensures same { UnlessTaken result (Same ⟦<KeyedLines<K, V, A, B, C> as Token>⟧.means self.old self.new) }
-        ensures same_size { UnlessTaken result (⟦<KeyedLines<K, V, A, B, C> as Token>⟧.size self.new ≡ ⟦<KeyedLines<K, V, A, B, C> as Token>⟧.size self.old) }
-        ensures size { ⟦<KeyedLines<K, V, A, B, C> as Token>⟧.size self.new ≤ ⟦<KeyedLines<K, V, A, B, C> as Token>⟧.size self.old + 1 }
+        ensures taken { IfTaken result (Follows ⟦<KeyedLines<V, B, C> as Token>⟧.means self.old self.old.end self.new) }
+        ensures refused { IfRefused result (NoneBegins ⟦<KeyedLines<V, B, C> as Token>⟧.means self.old self.old.end) }
+        ensures same { UnlessTaken result (Same ⟦<KeyedLines<V, B, C> as Token>⟧.means self.old self.new) }
+        ensures same_size { UnlessTaken result (⟦<KeyedLines<V, B, C> as Token>⟧.size self.new ≡ ⟦<KeyedLines<V, B, C> as Token>⟧.size self.old) }
+        ensures size { ⟦<KeyedLines<V, B, C> as Token>⟧.size self.new ≤ ⟦<KeyedLines<V, B, C> as Token>⟧.size self.old + 1 }
+        ensures last { OnErr result (Begins ⟦<KeyedLines<V, B, C> as Token>⟧.means self.old self.old.end) }
     {
         let value = match self.values.alone() {
             Some(value) => value,
@@ -151,11 +150,12 @@ impl<K: Peek, V: Token, A: StartNew<K>, B: Follow<V>, C: Collection<K, V>> Keyed
     /// Takes a byte where no key is ended.
     fn step_key(&mut self, byte: u8) -> Result<bool, OutOfMemory>
         requires { IsFalse (is_marked self.old.stage) }
-        ensures taken { IfTaken result (Follows ⟦<KeyedLines<K, V, A, B, C> as Token>⟧.means self.old byte self.new) }
-        ensures refused { IfRefused result (NoneBegins ⟦<KeyedLines<K, V, A, B, C> as Token>⟧.means self.old byte) }
-        ensures same { UnlessTaken result (Same ⟦<KeyedLines<K, V, A, B, C> as Token>⟧.means self.old self.new) }
-        ensures same_size { UnlessTaken result (⟦<KeyedLines<K, V, A, B, C> as Token>⟧.size self.new ≡ ⟦<KeyedLines<K, V, A, B, C> as Token>⟧.size self.old) }
-        ensures size { ⟦<KeyedLines<K, V, A, B, C> as Token>⟧.size self.new ≤ ⟦<KeyedLines<K, V, A, B, C> as Token>⟧.size self.old + 1 }
+        ensures taken { IfTaken result (Follows ⟦<KeyedLines<V, B, C> as Token>⟧.means self.old byte self.new) }
+        ensures refused { IfRefused result (NoneBegins ⟦<KeyedLines<V, B, C> as Token>⟧.means self.old byte) }
+        ensures same { UnlessTaken result (Same ⟦<KeyedLines<V, B, C> as Token>⟧.means self.old self.new) }
+        ensures same_size { UnlessTaken result (⟦<KeyedLines<V, B, C> as Token>⟧.size self.new ≡ ⟦<KeyedLines<V, B, C> as Token>⟧.size self.old) }
+        ensures size { ⟦<KeyedLines<V, B, C> as Token>⟧.size self.new ≤ ⟦<KeyedLines<V, B, C> as Token>⟧.size self.old + 1 }
+        ensures last { OnErr result (Begins ⟦<KeyedLines<V, B, C> as Token>⟧.means self.old byte) }
     {
         if byte == self.mark {
             return self.end_key();
@@ -176,7 +176,7 @@ impl<K: Peek, V: Token, A: StartNew<K>, B: Follow<V>, C: Collection<K, V>> Keyed
     /// Whether the byte may come where no key is ended.
     fn allows_key(&self, byte: u8) -> bool
         requires { IsFalse (is_marked self.now.stage) }
-        ensures { IsTrue result ↔ Begins ⟦<KeyedLines<K, V, A, B, C> as Token>⟧.means self.now byte }
+        ensures { IsTrue result ↔ Begins ⟦<KeyedLines<V, B, C> as Token>⟧.means self.now byte }
     {
         if byte == self.mark {
             return self.is_new_key();
@@ -193,11 +193,12 @@ impl<K: Peek, V: Token, A: StartNew<K>, B: Follow<V>, C: Collection<K, V>> Keyed
     /// Takes a byte of a value, or the end after it.
     fn step_value(&mut self, byte: u8) -> Result<bool, OutOfMemory>
         requires { self.old.stage ≡ InValue }
-        ensures taken { IfTaken result (Follows ⟦<KeyedLines<K, V, A, B, C> as Token>⟧.means self.old byte self.new) }
-        ensures refused { IfRefused result (NoneBegins ⟦<KeyedLines<K, V, A, B, C> as Token>⟧.means self.old byte) }
-        ensures same { UnlessTaken result (Same ⟦<KeyedLines<K, V, A, B, C> as Token>⟧.means self.old self.new) }
-        ensures same_size { UnlessTaken result (⟦<KeyedLines<K, V, A, B, C> as Token>⟧.size self.new ≡ ⟦<KeyedLines<K, V, A, B, C> as Token>⟧.size self.old) }
-        ensures size { ⟦<KeyedLines<K, V, A, B, C> as Token>⟧.size self.new ≤ ⟦<KeyedLines<K, V, A, B, C> as Token>⟧.size self.old + 1 }
+        ensures taken { IfTaken result (Follows ⟦<KeyedLines<V, B, C> as Token>⟧.means self.old byte self.new) }
+        ensures refused { IfRefused result (NoneBegins ⟦<KeyedLines<V, B, C> as Token>⟧.means self.old byte) }
+        ensures same { UnlessTaken result (Same ⟦<KeyedLines<V, B, C> as Token>⟧.means self.old self.new) }
+        ensures same_size { UnlessTaken result (⟦<KeyedLines<V, B, C> as Token>⟧.size self.new ≡ ⟦<KeyedLines<V, B, C> as Token>⟧.size self.old) }
+        ensures size { ⟦<KeyedLines<V, B, C> as Token>⟧.size self.new ≤ ⟦<KeyedLines<V, B, C> as Token>⟧.size self.old + 1 }
+        ensures last { OnErr result (Begins ⟦<KeyedLines<V, B, C> as Token>⟧.means self.old byte) }
     {
         if byte != self.end {
             return self.value.step(byte);
@@ -221,16 +222,16 @@ impl<K: Peek, V: Token, A: StartNew<K>, B: Follow<V>, C: Collection<K, V>> Keyed
     }
 }
 
-impl<K: Peek, V: Token, A: StartNew<K>, B: Follow<V>, C: Collection<K, V>> Token
-    for KeyedLines<K, V, A, B, C> {
+impl<V: Token, B: Follow<V>, C: Collection<V>> Token for KeyedLines<V, B, C> {
     type Out = C::Out;
 
     ghost use Rattle.cg_join.specs.RepeatLaws.{true_not_false};
     ghost use Rattle.cg_join.specs.KeyedStateLaws.{state_bytes, state_completes, state_ends, state_one};
+    ghost use Rattle.cg_join.specs.WordStartLaws.{one_word, word_new, word_text_bytes};
 
-    ghost means = { λ s. IsTurned (AreKeyedAfter C.key_of (C.pairs_of s.pairs) (is_begun s.stage) (KeyedRest C.key_of C.value_of (K.means s.key) (V.means s.value) (B.alone s.values) s.mark (is_marked s.stage) s.ended.items) (IsKeyed C.key_of C.value_of (A.texts s.keys) (B.texts s.values) (B.alone s.values) s.mark) s.end) C.given };
+    ghost means = { λ s. IsTurned (AreKeyedAfter C.key_of (C.pairs_of s.pairs) (is_begun s.stage) (KeyedRest C.key_of C.value_of (⟦<WordText as Token>⟧.means s.key) (V.means s.value) (B.alone s.values) s.mark (is_marked s.stage) s.ended.items) (IsKeyed C.key_of C.value_of (SpellsWord s.keys.controller) (B.texts s.values) (B.alone s.values) s.mark) s.end) C.given };
 
-    ghost size = { λ s. C.size s.pairs + items_weight K.weight s.ended.items + (K.size s.key + V.size s.value) };
+    ghost size = { λ s. C.size s.pairs + items_weight ⟦<WordText as Token>⟧.weight s.ended.items + (⟦<WordText as Token>⟧.size s.key + V.size s.value) };
 
     ghost weight = { C.weight };
 
@@ -271,7 +272,7 @@ impl<K: Peek, V: Token, A: StartNew<K>, B: Follow<V>, C: Collection<K, V>> Token
         let kept = self
             .pairs
             .held()
-            .saturating_add(weight_of_all::<K>(self.ended.as_slice()));
+            .saturating_add(weight_of_all::<WordText>(self.ended.as_slice()));
         let at_hand = self.key.held().saturating_add(self.value.held());
         kept.saturating_add(at_hand)
     }
@@ -284,16 +285,16 @@ impl<K: Peek, V: Token, A: StartNew<K>, B: Follow<V>, C: Collection<K, V>> Token
         C::weight_of(value)
     }
 
-    ghost completes = { λ s. state_completes C.key_of C.value_of C.paired C.has_key C.has_value C.given (C.pairs_of s.pairs) (IsKeyed C.key_of C.value_of (A.texts s.keys) (B.texts s.values) (B.alone s.values) s.mark) (K.means s.key) (V.means s.value) (B.alone s.values) s.mark s.end (is_begun s.stage) s.ended.items s.distinct (is_marked s.stage) s.kept
-        (K.longer s.key [] (K.completes s.key) (map C.key_of (C.pairs_of s.pairs))) (V.completes s.value) };
+    ghost completes = { λ s. state_completes C.key_of C.value_of C.paired C.has_key C.has_value C.given (C.pairs_of s.pairs) (IsKeyed C.key_of C.value_of (SpellsWord s.keys.controller) (B.texts s.values) (B.alone s.values) s.mark) (⟦<WordText as Token>⟧.means s.key) (V.means s.value) (B.alone s.values) s.mark s.end (is_begun s.stage) s.ended.items s.distinct (is_marked s.stage) s.kept
+        (word_new s.key.controller s.key.bytes.items [] (⟦<WordText as Token>⟧.completes s.key) (map C.key_of (C.pairs_of s.pairs))) (V.completes s.value) };
 
     ghost no_size = { λ e s. absurd (true_not_false e) };
 
-    ghost ends_is = { λ s. state_ends C.key_of C.given (C.pairs_of s.pairs) (KeyedRest C.key_of C.value_of (K.means s.key) (V.means s.value) (B.alone s.values) s.mark (is_marked s.stage) s.ended.items) (IsKeyed C.key_of C.value_of (A.texts s.keys) (B.texts s.values) (B.alone s.values) s.mark) s.end s.ended.items s.distinct (is_begun s.stage) };
+    ghost ends_is = { λ s. state_ends C.key_of C.given (C.pairs_of s.pairs) (KeyedRest C.key_of C.value_of (⟦<WordText as Token>⟧.means s.key) (V.means s.value) (B.alone s.values) s.mark (is_marked s.stage) s.ended.items) (IsKeyed C.key_of C.value_of (SpellsWord s.keys.controller) (B.texts s.values) (B.alone s.values) s.mark) s.end s.ended.items s.distinct (is_begun s.stage) };
 
-    ghost one_value = { λ s. state_one C.key_of C.value_of C.given (C.pairs_of s.pairs) (K.means s.key) (V.means s.value) (A.texts s.keys) (B.texts s.values) (B.alone s.values) s.mark s.end (is_begun s.stage) s.ended.items C.paired C.whole s.apart
-        s.key_mark s.key_end s.keys_mark s.keys_end s.value_end s.values_end (K.one_value s.key) (V.one_value s.value) (A.one_text s.keys) (B.one_text s.values) (is_marked s.stage) };
+    ghost one_value = { λ s. state_one C.key_of C.value_of C.given (C.pairs_of s.pairs) (⟦<WordText as Token>⟧.means s.key) (V.means s.value) (SpellsWord s.keys.controller) (B.texts s.values) (B.alone s.values) s.mark s.end (is_begun s.stage) s.ended.items C.paired C.whole s.apart
+        s.key_mark s.key_end s.keys_mark s.keys_end s.value_end s.values_end (⟦<WordText as Token>⟧.one_value s.key) (V.one_value s.value) (one_word s.keys.controller) (B.one_text s.values) (is_marked s.stage) };
 
-    ghost holds_bytes = { λ s. state_bytes C.key_of C.value_of C.given (C.pairs_of s.pairs) (K.means s.key) (V.means s.value) (A.texts s.keys) (B.texts s.values) (B.alone s.values) s.mark s.end (is_begun s.stage) s.ended.items s.small_mark s.small_end
-        (K.holds_bytes s.key) (V.holds_bytes s.value) (A.text_bytes s.keys) (B.text_bytes s.values) (is_marked s.stage) };
+    ghost holds_bytes = { λ s. state_bytes C.key_of C.value_of C.given (C.pairs_of s.pairs) (⟦<WordText as Token>⟧.means s.key) (V.means s.value) (SpellsWord s.keys.controller) (B.texts s.values) (B.alone s.values) s.mark s.end (is_begun s.stage) s.ended.items s.small_mark s.small_end
+        (⟦<WordText as Token>⟧.holds_bytes s.key) (V.holds_bytes s.value) (word_text_bytes s.keys.controller) (B.text_bytes s.values) (is_marked s.stage) };
 }

@@ -21,14 +21,12 @@ pub mod pair_list;
 pub mod pairing;
 pub mod pairs;
 pub mod pairs_start;
-pub mod peek;
 pub mod pressure;
 pub mod quota;
 pub mod reading;
 pub mod ready;
 pub mod repeat;
 pub mod sequence;
-pub mod settled;
 pub mod start;
 pub mod starts;
 mod store;
@@ -44,7 +42,7 @@ pub use devices::{
     DeviceLimits, DeviceTarget, DeviceWeight, FourLimits, device_limits, device_target,
     device_weight, four_limits,
 };
-pub use distinct::Distinct;
+pub use distinct::DistinctWords;
 pub use follow::Follow;
 pub use keyed::KeyedLines;
 pub use label::{LabelText, Spaced, labelled, spaced};
@@ -57,27 +55,12 @@ pub use pair_list::{MakePair, PairList};
 pub use pairing::Pairing;
 pub use pairs::DistinctPairs;
 pub use pairs_start::PairsStart;
-pub use peek::{Peek, StartNew};
 pub use pressure::{Averages, averages};
 pub use quota::{QuotaAndPeriod, WrittenQuota, quota_and_period, written_quota};
 pub use reading::{Found, read};
 pub use ready::{OrReady, Ready};
 pub use repeat::Repeat;
 pub use sequence::Sequence;
-pub use settled::{Full, Light, Settled, Weigh};
 pub use start::Start;
 pub use starts::NumberStart;
 pub use words::WordStart;
-
-#[cfg(test)]
-mod composite_tests;
-#[cfg(test)]
-mod joined_tests;
-#[cfg(test)]
-mod keyed_tests;
-#[cfg(test)]
-mod label_tests;
-#[cfg(test)]
-mod tests;
-#[cfg(test)]
-mod word_tests;

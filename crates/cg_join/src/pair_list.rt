@@ -1,73 +1,71 @@
 //! Pairs of a key and a value in one vector.
 ghost use Rattle.std.specs.Prelude.{◌≡◌, ℕ, ◌+◌, ◌≤◌, ◌<◌, List, [], ◌++◌, ◌∷◌, map, vec_len, vec_capacity};
 ghost use Rattle.cg_text.specs.Token.{told};
+ghost use Rattle.cg_text.specs.WordState.{is_taken};
 ghost use Rattle.cg_join.specs.Distinct.{any_value};
 ghost use Rattle.cg_join.specs.Pairs.{pair_weight};
 ghost use Rattle.cg_join.specs.Repeat.{items_weight};
 
 use crate::collection::Collection;
-use crate::peek::Peek;
 use crate::store::{make_room, put};
-use cg_text::{Items, OutOfMemory, Token};
+use cg_text::{Items, Key, OutOfMemory, Token, WordText};
 use std::alloc::Global;
 use std::marker::PhantomData;
 
 /// How a key and a value are made a pair.
-pub trait MakePair<K: Token, V: Token> {
+pub trait MakePair<V: Token> {
     type Pair: Drop;
 
     /// The key of a pair.
-    ghost key_of: { Self.Pair → K.Out };
+    ghost key_of: { Self.Pair → List ℕ };
 
     /// The value of a pair.
     ghost value_of: { Self.Pair → V.Out };
 
     /// The pair of the two.
-    ghost paired: { K.Out → V.Out → Self.Pair };
+    ghost paired: { List ℕ → V.Out → Self.Pair };
+
+    /// A pair has the key that it is made of.
+    ghost has_key: { (key : List ℕ) (value : V.Out) → key_of (paired key value) ≡ key };
+
+    /// A pair has the value that it is made of.
+    ghost has_value: { (key : List ℕ) (value : V.Out) → value_of (paired key value) ≡ value };
+
+    /// A pair has nothing else.
+    ghost whole: { (pair : Self.Pair) → paired (key_of pair) (value_of pair) ≡ pair };
 
     /// Makes a pair. It takes no memory.
-    fn pair(key: K::Out, value: V::Out) -> Self::Pair
+    fn pair(key: Key, value: V::Out) -> Self::Pair
         ensures { result ≡ paired key value };
 
     /// The key of a pair.
-    fn key(pair: &Self::Pair) -> &K::Out
+    fn key(pair: &Self::Pair) -> &Key
         ensures { result.now ≡ key_of pair.now };
 
     /// The value of a pair.
     fn value(pair: &Self::Pair) -> &V::Out
         ensures { result.now ≡ value_of pair.now };
-
-    /// A pair has the key that it is made of.
-    ghost has_key: { (key : K.Out) (value : V.Out) → key_of (paired key value) ≡ key };
-
-    /// A pair has the value that it is made of.
-    ghost has_value: { (key : K.Out) (value : V.Out) → value_of (paired key value) ≡ value };
-
-    /// A pair has nothing else.
-    ghost whole: { (pair : Self.Pair) → paired (key_of pair) (value_of pair) ≡ pair };
 }
 
 /// Pairs in one vector. A key is looked for from the first on.
 #[derive(Drop)]
-pub struct PairList<K: Peek, V: Token, F: MakePair<K, V>> {
+pub struct PairList<V: Token, F: MakePair<V>> {
     pairs: Vec<F::Pair>,
     kept: u64,
-    key: PhantomData<K>,
     value: PhantomData<V>,
     make: PhantomData<F>,
-    ghost counted: { kept ≡ told (items_weight (pair_weight F.key_of F.value_of K.weight V.weight) pairs.items) },
+    ghost counted: { kept ≡ told (items_weight (pair_weight F.key_of F.value_of ⟦<WordText as Token>⟧.weight V.weight) pairs.items) },
 }
 
-impl<K: Peek, V: Token, F: MakePair<K, V>> PairList<K, V, F> {
+impl<V: Token, F: MakePair<V>> PairList<V, F> {
     /// No pairs. It takes no memory.
-    pub fn new(alloc: Global) -> PairList<K, V, F>
-        ensures pairs { ⟦<PairList<K, V, F> as Collection<K, V>>⟧.pairs_of result ≡ [] }
-        ensures size { ⟦<PairList<K, V, F> as Collection<K, V>>⟧.size result ≡ 0 }
+    pub fn new(alloc: Global) -> PairList<V, F>
+        ensures pairs { ⟦<PairList<V, F> as Collection<V>>⟧.pairs_of result ≡ [] }
+        ensures size { ⟦<PairList<V, F> as Collection<V>>⟧.size result ≡ 0 }
     {
         PairList {
             pairs: Vec::new(alloc),
             kept: 0,
-            key: PhantomData,
             value: PhantomData,
             make: PhantomData,
         }
@@ -75,8 +73,8 @@ impl<K: Peek, V: Token, F: MakePair<K, V>> PairList<K, V, F> {
 }
 
 /// Whether a pair has the key that was taken.
-fn has_pair<K: Peek, V: Token, F: MakePair<K, V>>(pairs: &[F::Pair], key: &K) -> bool
-    ensures { result ≡ any_value (K.is_value key.now) (map F.key_of pairs.now) }
+fn has_pair<V: Token, F: MakePair<V>>(pairs: &[F::Pair], key: &WordText) -> bool
+    ensures { result ≡ any_value (is_taken key.now.bytes.items) (map F.key_of pairs.now) }
 {
     for pair in pairs {
         if key.is(F::key(pair)) {
@@ -87,18 +85,18 @@ fn has_pair<K: Peek, V: Token, F: MakePair<K, V>>(pairs: &[F::Pair], key: &K) ->
 }
 
 /// The sum of the lengths of the vectors in pairs, and a place for each.
-fn weight_of_made<K: Token, V: Token, F: MakePair<K, V>>(pairs: &[F::Pair]) -> u64
-    ensures { result ≡ told (items_weight (pair_weight F.key_of F.value_of K.weight V.weight) pairs.now) }
+fn weight_of_made<V: Token, F: MakePair<V>>(pairs: &[F::Pair]) -> u64
+    ensures { result ≡ told (items_weight (pair_weight F.key_of F.value_of ⟦<WordText as Token>⟧.weight V.weight) pairs.now) }
 {
     let mut total: u64 = 0;
     for pair in pairs {
-        let weight = K::weight_of(F::key(pair)).saturating_add(V::weight_of(F::value(pair)));
+        let weight = WordText::weight_of(F::key(pair)).saturating_add(V::weight_of(F::value(pair)));
         total = total.saturating_add(1).saturating_add(weight);
     }
     total
 }
 
-impl<K: Peek, V: Token, F: MakePair<K, V>> Collection<K, V> for PairList<K, V, F> {
+impl<V: Token, F: MakePair<V>> Collection<V> for PairList<V, F> {
     type Pair = F::Pair;
 
     type Out = Items<F::Pair>;
@@ -115,22 +113,22 @@ impl<K: Peek, V: Token, F: MakePair<K, V>> Collection<K, V> for PairList<K, V, F
 
     ghost has_room = { λ s. vec_len s.pairs < vec_capacity s.pairs };
 
-    ghost size = { λ s. items_weight (pair_weight F.key_of F.value_of K.weight V.weight) s.pairs.items };
+    ghost size = { λ s. items_weight (pair_weight F.key_of F.value_of ⟦<WordText as Token>⟧.weight V.weight) s.pairs.items };
 
-    ghost weight = { items_weight (pair_weight F.key_of F.value_of K.weight V.weight) };
+    ghost weight = { items_weight (pair_weight F.key_of F.value_of ⟦<WordText as Token>⟧.weight V.weight) };
 
     ghost places = { 1 };
 
-    fn has(&self, key: &K) -> bool {
-        has_pair::<K, V, F>(self.pairs.as_slice(), key)
+    fn has(&self, key: &WordText) -> bool {
+        has_pair::<V, F>(self.pairs.as_slice(), key)
     }
 
     fn reserve(&mut self) -> Result<(), OutOfMemory> {
         make_room(&mut self.pairs)
     }
 
-    fn push(&mut self, key: K::Out, value: V::Out) {
-        let weight = K::weight_of(&key).saturating_add(V::weight_of(&value));
+    fn push(&mut self, key: Key, value: V::Out) {
+        let weight = WordText::weight_of(&key).saturating_add(V::weight_of(&value));
         put(&mut self.pairs, F::pair(key, value));
         self.kept = self.kept.saturating_add(1).saturating_add(weight);
     }
@@ -144,7 +142,7 @@ impl<K: Peek, V: Token, F: MakePair<K, V>> Collection<K, V> for PairList<K, V, F
     }
 
     fn weight_of(out: &Items<F::Pair>) -> u64 {
-        weight_of_made::<K, V, F>(out.as_slice())
+        weight_of_made::<V, F>(out.as_slice())
     }
 
     ghost use Rattle.cg_join.specs.KeyedLaws.{one_few};

@@ -1,33 +1,42 @@
 //! Pairs of a word and a value.
 ghost use Rattle.std.specs.Prelude.{◌≡◌, ℕ, ◌+◌, ◌≤◌, ◌<◌, Bool, List, [], ◌++◌, ◌∷◌, IsTrue, map, length, vec_len, vec_capacity, not, ◌&&◌};
 ghost use Rattle.cg_text.specs.Token.{Spells, told};
+ghost use Rattle.cg_text.specs.WordState.{is_taken};
 ghost use Rattle.cg_join.specs.Repeat.{items_weight};
 ghost use Rattle.cg_join.specs.Distinct.{any_value};
 ghost use Rattle.cg_join.specs.Pairs.{pair_weight};
 ghost use Rattle.cg_join.specs.PairsState.{IsCompleted};
 
-use crate::peek::Peek;
 use crate::start::Start;
 use crate::store::put;
-use cg_text::Token;
+use cg_text::{Key, Token, WordText};
 use std::mem;
 
 /// How a word and a value make a pair.
-pub trait Pairing<K: Token, V: Token> {
+pub trait Pairing<V: Token> {
     type Pair: Drop;
 
     /// The word of a pair.
-    ghost word_of: { Self.Pair → K.Out };
+    ghost word_of: { Self.Pair → List ℕ };
 
     /// The value of a pair.
     ghost value_of: { Self.Pair → V.Out };
 
     /// The pair of the two.
-    ghost paired: { K.Out → V.Out → Self.Pair };
+    ghost paired: { List ℕ → V.Out → Self.Pair };
+
+    /// A pair has the word that it is made of.
+    ghost has_word: { (word : List ℕ) (value : V.Out) → word_of (paired word value) ≡ word };
+
+    /// A pair has the value that it is made of.
+    ghost has_value: { (word : List ℕ) (value : V.Out) → value_of (paired word value) ≡ value };
+
+    /// A pair has nothing else.
+    ghost whole: { (pair : Self.Pair) → paired (word_of pair) (value_of pair) ≡ pair };
 
     /// A pair of the word, its value still to come. What stands in the value's place has no element in a vector.
     /// It takes no memory.
-    fn begin(word: K::Out) -> Self::Pair
+    fn begin(word: Key) -> Self::Pair
         ensures word { word_of result ≡ word }
         ensures weight { V.weight (value_of result) ≡ 0 };
 
@@ -36,26 +45,17 @@ pub trait Pairing<K: Token, V: Token> {
         ensures { pair.new ≡ paired (word_of pair.old) value };
 
     /// The word of a pair.
-    fn word(pair: &Self::Pair) -> &K::Out
+    fn word(pair: &Self::Pair) -> &Key
         ensures { result.now ≡ word_of pair.now };
 
     /// The value of a pair.
     fn value(pair: &Self::Pair) -> &V::Out
         ensures { result.now ≡ value_of pair.now };
-
-    /// A pair has the word that it is made of.
-    ghost has_word: { (word : K.Out) (value : V.Out) → word_of (paired word value) ≡ word };
-
-    /// A pair has the value that it is made of.
-    ghost has_value: { (word : K.Out) (value : V.Out) → value_of (paired word value) ≡ value };
-
-    /// A pair has nothing else.
-    ghost whole: { (pair : Self.Pair) → paired (word_of pair) (value_of pair) ≡ pair };
 }
 
 /// Whether what was taken is a word that no pair has.
-pub(crate) fn is_new_word<K: Peek, V: Token, F: Pairing<K, V>>(items: &[F::Pair], word: &K) -> bool
-    ensures { result ≡ not (any_value (K.is_value word.now) (map F.word_of items.now)) }
+pub(crate) fn is_new_word<V: Token, F: Pairing<V>>(items: &[F::Pair], word: &WordText) -> bool
+    ensures { result ≡ not (any_value (is_taken word.now.bytes.items) (map F.word_of items.now)) }
 {
     for pair in items {
         if word.is(F::word(pair)) {
@@ -66,10 +66,7 @@ pub(crate) fn is_new_word<K: Peek, V: Token, F: Pairing<K, V>>(items: &[F::Pair]
 }
 
 /// Gives the last pair its value.
-pub(crate) fn complete_last<K: Token, V: Token, F: Pairing<K, V>>(
-    items: &mut Vec<F::Pair>,
-    value: V::Out,
-)
+pub(crate) fn complete_last<V: Token, F: Pairing<V>>(items: &mut Vec<F::Pair>, value: V::Out)
     requires { 0 < length items.old.items }
     ensures { IsCompleted F.word_of F.value_of items.old.items value items.new.items }
 {
@@ -84,12 +81,14 @@ pub(crate) fn complete_last<K: Token, V: Token, F: Pairing<K, V>>(
 }
 
 /// The sum of the lengths of the vectors in pairs, and a place for each.
-pub(crate) fn weight_of_pairs<K: Token, V: Token, F: Pairing<K, V>>(items: &[F::Pair]) -> u64
-    ensures { result ≡ told (items_weight (pair_weight F.word_of F.value_of K.weight V.weight) items.now) }
+pub(crate) fn weight_of_pairs<V: Token, F: Pairing<V>>(items: &[F::Pair]) -> u64
+    ensures { result ≡ told (items_weight (pair_weight F.word_of F.value_of ⟦<WordText as Token>⟧.weight V.weight) items.now) }
 {
     let mut total: u64 = 0;
     for pair in items {
-        let weight = K::weight_of(F::word(pair)).saturating_add(V::weight_of(F::value(pair)));
+        let weight = WordText::weight_of(F::word(pair)).saturating_add(V::weight_of(F::value(
+            pair,
+        )));
         total = total.saturating_add(1).saturating_add(weight);
     }
     total

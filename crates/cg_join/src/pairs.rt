@@ -1,6 +1,6 @@
 //! Any number of pairs of a word and a value, the words all different.
-ghost use Rattle.std.specs.Prelude.{◌≡◌, ℕ, ◌+◌, ◌≤◌, ◌<◌, ◌↔◌, Bool, true, false, List, [], ◌++◌, ◌∷◌, IsTrue, map, length};
-ghost use Rattle.cg_text.specs.Token.{Follows, IfRefused, IfTaken, NoneBegins, Same, Spells, UnlessTaken, told};
+ghost use Rattle.std.specs.Prelude.{◌≡◌, ℕ, ◌+◌, ◌≤◌, ◌<◌, ◌↔◌, Bool, true, false, List, [], ◌++◌, ◌∷◌, IsTrue, map, length, OnErr};
+ghost use Rattle.cg_text.specs.Token.{Begins, Follows, IfRefused, IfTaken, NoneBegins, Same, Spells, UnlessTaken, told};
 ghost use Rattle.cg_join.specs.Repeat.{Stops, items_weight};
 ghost use Rattle.cg_join.specs.Line.{LacksByte};
 ghost use Rattle.cg_join.specs.Distinct.{AreDistinct};
@@ -8,13 +8,14 @@ ghost use Rattle.cg_join.specs.DistinctLaws.{AreDistinct_prop};
 ghost use Rattle.cg_join.specs.JoinedPairs.{AreJoinedPairs};
 ghost use Rattle.cg_join.specs.Pairs.{IsPairText, PairRest, ArePairs, ArePairsAfter, pair_weight};
 ghost use Rattle.cg_join.specs.PairsState.{WordAtHand, last_weight, whole_pairs};
+ghost use Rattle.cg_join.specs.WordStartLaws.{SpellsWord};
 ghost use Rattle.cg_join.specs.declared.pairs.Stage.TheVariants.{Before, InWord, InValue};
 
 use crate::pairing::{Pairing, complete_last, is_new_word, renew, weight_of_pairs};
-use crate::peek::{Peek, StartNew};
 use crate::start::Start;
 use crate::store::{make_room, put};
-use cg_text::{Items, OutOfMemory, Token};
+use crate::words::WordStart;
+use cg_text::{Items, OutOfMemory, Token, WordText};
 use std::alloc::Global;
 use std::marker::PhantomData;
 
@@ -32,21 +33,21 @@ pub enum Stage {
 /// Any number of pairs, also none, each a separator, a word, a mark and a value. No word comes twice:
 /// one may be followed by the mark, which no word has, only where it is new.
 #[derive(Drop)]
-pub struct DistinctPairs<K: Peek, V: Token, A: StartNew<K>, B: Start<V>, F: Pairing<K, V>> {
-    words: A,
+pub struct DistinctPairs<V: Token, B: Start<V>, F: Pairing<V>> {
+    words: WordStart,
     values: B,
     separator: u8,
     mark: u8,
     /// In a value, the last pair is that of the value.
     items: Vec<F::Pair>,
     stage: Stage,
-    word: K,
+    word: WordText,
     value: V,
     kept: u64,
     pairing: PhantomData<F>,
-    ghost counted: { kept ≡ told (items_weight (pair_weight F.word_of F.value_of K.weight V.weight) items.items) },
-    ghost lacks: { LacksByte (K.means word) mark },
-    ghost words_lack: { LacksByte (A.texts words) mark },
+    ghost counted: { kept ≡ told (items_weight (pair_weight F.word_of F.value_of ⟦<WordText as Token>⟧.weight V.weight) items.items) },
+    ghost lacks: { LacksByte (⟦<WordText as Token>⟧.means word) mark },
+    ghost words_lack: { LacksByte (SpellsWord words.controller) mark },
     ghost stops: { Stops (V.means value) separator },
     ghost values_stop: { Stops (B.texts values) separator },
     ghost small_separator: { separator < 256 },
@@ -56,25 +57,19 @@ pub struct DistinctPairs<K: Peek, V: Token, A: StartNew<K>, B: Start<V>, F: Pair
     ghost distinct: { AreDistinct (map F.word_of items.items) } by { AreDistinct_prop (map F.word_of items.items) },
 }
 
-impl<K: Peek, V: Token, A: StartNew<K>, B: Start<V>, F: Pairing<K, V>> DistinctPairs<
-    K,
-    V,
-    A,
-    B,
-    F,
-> {
+impl<V: Token, B: Start<V>, F: Pairing<V>> DistinctPairs<V, B, F> {
     /// Any number of pairs of a word and a value, whose tokens are made by `words` and `values`.
     pub fn new(
         alloc: Global,
-        words: A,
+        words: WordStart,
         values: B,
         separator: u8,
         mark: u8,
-    ) -> DistinctPairs<K, V, A, B, F>
-        requires lacks { LacksByte (A.texts words) mark }
+    ) -> DistinctPairs<V, B, F>
+        requires lacks { LacksByte (SpellsWord words.controller) mark }
         requires stops { Stops (B.texts values) separator }
-        ensures spells { Spells ⟦<DistinctPairs<K, V, A, B, F> as Token>⟧.means result (ArePairs F.word_of (IsPairText F.word_of F.value_of (A.texts words) (B.texts values) mark) separator) }
-        ensures size { ⟦<DistinctPairs<K, V, A, B, F> as Token>⟧.size result ≡ 0 }
+        ensures spells { Spells ⟦<DistinctPairs<V, B, F> as Token>⟧.means result (ArePairs F.word_of (IsPairText F.word_of F.value_of (SpellsWord words.controller) (B.texts values) mark) separator) }
+        ensures size { ⟦<DistinctPairs<V, B, F> as Token>⟧.size result ≡ 0 }
     {
         let word = words.start();
         let value = values.start();
@@ -94,15 +89,15 @@ impl<K: Peek, V: Token, A: StartNew<K>, B: Start<V>, F: Pairing<K, V>> DistinctP
     /// One or more pairs of a word and a value, with a separator between them but none before the first.
     pub fn joined(
         alloc: Global,
-        words: A,
+        words: WordStart,
         values: B,
         separator: u8,
         mark: u8,
-    ) -> DistinctPairs<K, V, A, B, F>
-        requires lacks { LacksByte (A.texts words) mark }
+    ) -> DistinctPairs<V, B, F>
+        requires lacks { LacksByte (SpellsWord words.controller) mark }
         requires stops { Stops (B.texts values) separator }
-        ensures spells { Spells ⟦<DistinctPairs<K, V, A, B, F> as Token>⟧.means result (AreJoinedPairs F.word_of (IsPairText F.word_of F.value_of (A.texts words) (B.texts values) mark) separator) }
-        ensures size { ⟦<DistinctPairs<K, V, A, B, F> as Token>⟧.size result ≡ 0 }
+        ensures spells { Spells ⟦<DistinctPairs<V, B, F> as Token>⟧.means result (AreJoinedPairs F.word_of (IsPairText F.word_of F.value_of (SpellsWord words.controller) (B.texts values) mark) separator) }
+        ensures size { ⟦<DistinctPairs<V, B, F> as Token>⟧.size result ≡ 0 }
     {
         let word = words.start();
         let value = values.start();
@@ -123,11 +118,12 @@ impl<K: Peek, V: Token, A: StartNew<K>, B: Start<V>, F: Pairing<K, V>> DistinctP
     /// Takes a byte of a word, or the mark after it.
     fn step_word(&mut self, byte: u8) -> Result<bool, OutOfMemory>
         requires { self.old.stage ≡ InWord }
-        ensures taken { IfTaken result (Follows ⟦<DistinctPairs<K, V, A, B, F> as Token>⟧.means self.old byte self.new) }
-        ensures refused { IfRefused result (NoneBegins ⟦<DistinctPairs<K, V, A, B, F> as Token>⟧.means self.old byte) }
-        ensures same { UnlessTaken result (Same ⟦<DistinctPairs<K, V, A, B, F> as Token>⟧.means self.old self.new) }
-        ensures same_size { UnlessTaken result (⟦<DistinctPairs<K, V, A, B, F> as Token>⟧.size self.new ≡ ⟦<DistinctPairs<K, V, A, B, F> as Token>⟧.size self.old) }
-        ensures size { ⟦<DistinctPairs<K, V, A, B, F> as Token>⟧.size self.new ≤ ⟦<DistinctPairs<K, V, A, B, F> as Token>⟧.size self.old + 1 }
+        ensures taken { IfTaken result (Follows ⟦<DistinctPairs<V, B, F> as Token>⟧.means self.old byte self.new) }
+        ensures refused { IfRefused result (NoneBegins ⟦<DistinctPairs<V, B, F> as Token>⟧.means self.old byte) }
+        ensures same { UnlessTaken result (Same ⟦<DistinctPairs<V, B, F> as Token>⟧.means self.old self.new) }
+        ensures same_size { UnlessTaken result (⟦<DistinctPairs<V, B, F> as Token>⟧.size self.new ≡ ⟦<DistinctPairs<V, B, F> as Token>⟧.size self.old) }
+        ensures size { ⟦<DistinctPairs<V, B, F> as Token>⟧.size self.new ≤ ⟦<DistinctPairs<V, B, F> as Token>⟧.size self.old + 1 }
+        ensures last { OnErr result (Begins ⟦<DistinctPairs<V, B, F> as Token>⟧.means self.old byte) }
     {
         if byte != self.mark {
             return self.word.step(byte);
@@ -135,7 +131,7 @@ impl<K: Peek, V: Token, A: StartNew<K>, B: Start<V>, F: Pairing<K, V>> DistinctP
         if !self.word.can_end() {
             return Ok(false);
         }
-        if !is_new_word::<K, V, F>(self.items.as_slice(), &self.word) {
+        if !is_new_word::<V, F>(self.items.as_slice(), &self.word) {
             return Ok(false);
         }
         match make_room(&mut self.items) {
@@ -143,7 +139,7 @@ impl<K: Peek, V: Token, A: StartNew<K>, B: Start<V>, F: Pairing<K, V>> DistinctP
             Err(e) => return Err(e),
         }
         let word = renew(&mut self.word, &self.words);
-        let weight = K::weight_of(&word);
+        let weight = WordText::weight_of(&word);
         put(&mut self.items, F::begin(word));
         self.kept = self.kept.saturating_add(1).saturating_add(weight);
         self.stage = Stage::InValue;
@@ -153,11 +149,12 @@ impl<K: Peek, V: Token, A: StartNew<K>, B: Start<V>, F: Pairing<K, V>> DistinctP
     /// Takes a byte of a value, or the separator after it.
     fn step_value(&mut self, byte: u8) -> Result<bool, OutOfMemory>
         requires { self.old.stage ≡ InValue }
-        ensures taken { IfTaken result (Follows ⟦<DistinctPairs<K, V, A, B, F> as Token>⟧.means self.old byte self.new) }
-        ensures refused { IfRefused result (NoneBegins ⟦<DistinctPairs<K, V, A, B, F> as Token>⟧.means self.old byte) }
-        ensures same { UnlessTaken result (Same ⟦<DistinctPairs<K, V, A, B, F> as Token>⟧.means self.old self.new) }
-        ensures same_size { UnlessTaken result (⟦<DistinctPairs<K, V, A, B, F> as Token>⟧.size self.new ≡ ⟦<DistinctPairs<K, V, A, B, F> as Token>⟧.size self.old) }
-        ensures size { ⟦<DistinctPairs<K, V, A, B, F> as Token>⟧.size self.new ≤ ⟦<DistinctPairs<K, V, A, B, F> as Token>⟧.size self.old + 1 }
+        ensures taken { IfTaken result (Follows ⟦<DistinctPairs<V, B, F> as Token>⟧.means self.old byte self.new) }
+        ensures refused { IfRefused result (NoneBegins ⟦<DistinctPairs<V, B, F> as Token>⟧.means self.old byte) }
+        ensures same { UnlessTaken result (Same ⟦<DistinctPairs<V, B, F> as Token>⟧.means self.old self.new) }
+        ensures same_size { UnlessTaken result (⟦<DistinctPairs<V, B, F> as Token>⟧.size self.new ≡ ⟦<DistinctPairs<V, B, F> as Token>⟧.size self.old) }
+        ensures size { ⟦<DistinctPairs<V, B, F> as Token>⟧.size self.new ≤ ⟦<DistinctPairs<V, B, F> as Token>⟧.size self.old + 1 }
+        ensures last { OnErr result (Begins ⟦<DistinctPairs<V, B, F> as Token>⟧.means self.old byte) }
     {
         match self.value.step(byte) {
             Ok(true) => return Ok(true),
@@ -172,7 +169,7 @@ impl<K: Peek, V: Token, A: StartNew<K>, B: Start<V>, F: Pairing<K, V>> DistinctP
         }
         let value = renew(&mut self.value, &self.values);
         let weight = V::weight_of(&value);
-        complete_last::<K, V, F>(&mut self.items, value);
+        complete_last::<V, F>(&mut self.items, value);
         self.kept = self.kept.saturating_add(weight);
         // The token is as new, but what it takes is known only of one that is made here.
         self.word = self.words.start();
@@ -181,19 +178,19 @@ impl<K: Peek, V: Token, A: StartNew<K>, B: Start<V>, F: Pairing<K, V>> DistinctP
     }
 }
 
-impl<K: Peek, V: Token, A: StartNew<K>, B: Start<V>, F: Pairing<K, V>> Token
-    for DistinctPairs<K, V, A, B, F> {
+impl<V: Token, B: Start<V>, F: Pairing<V>> Token for DistinctPairs<V, B, F> {
     type Out = Items<F::Pair>;
 
     ghost use Rattle.cg_join.specs.RepeatLaws.{true_not_false};
     ghost use Rattle.cg_join.specs.PairsLaws.{ends_at, led_after_bytes, led_after_one, pair_bytes, pair_one, pair_stops};
+    ghost use Rattle.cg_join.specs.WordStartLaws.{one_word, word_new, word_text_bytes};
     ghost use Rattle.cg_join.specs.PairsStateLaws.{state_bytes, state_completes, state_ends, state_one, state_stops};
 
-    ghost means = { λ s rest all. ArePairsAfter F.word_of s.stage (whole_pairs s.stage s.items.items) (PairRest F.word_of F.value_of (WordAtHand F.word_of s.stage s.items.items (K.means s.word)) (V.means s.value) s.stage s.mark) (IsPairText F.word_of F.value_of (A.texts s.words) (B.texts s.values) s.mark) s.separator rest all };
+    ghost means = { λ s rest all. ArePairsAfter F.word_of s.stage (whole_pairs s.stage s.items.items) (PairRest F.word_of F.value_of (WordAtHand F.word_of s.stage s.items.items (⟦<WordText as Token>⟧.means s.word)) (V.means s.value) s.stage s.mark) (IsPairText F.word_of F.value_of (SpellsWord s.words.controller) (B.texts s.values) s.mark) s.separator rest all };
 
-    ghost size = { λ s. items_weight (pair_weight F.word_of F.value_of K.weight V.weight) s.items.items + (K.size s.word + V.size s.value) };
+    ghost size = { λ s. items_weight (pair_weight F.word_of F.value_of ⟦<WordText as Token>⟧.weight V.weight) s.items.items + (⟦<WordText as Token>⟧.size s.word + V.size s.value) };
 
-    ghost weight = { items_weight (pair_weight F.word_of F.value_of K.weight V.weight) };
+    ghost weight = { items_weight (pair_weight F.word_of F.value_of ⟦<WordText as Token>⟧.weight V.weight) };
 
     ghost ends = { λ s. ends_at s.stage (V.ends s.value) };
 
@@ -221,7 +218,7 @@ impl<K: Peek, V: Token, A: StartNew<K>, B: Start<V>, F: Pairing<K, V>> Token
                     return self.word.allows(byte);
                 }
                 let ended = self.word.can_end();
-                let new = is_new_word::<K, V, F>(self.items.as_slice(), &self.word);
+                let new = is_new_word::<V, F>(self.items.as_slice(), &self.word);
                 ended & new
             }
             Stage::InValue => {
@@ -253,32 +250,32 @@ impl<K: Peek, V: Token, A: StartNew<K>, B: Start<V>, F: Pairing<K, V>> Token
             Stage::Before => Items::of(items),
             Stage::InWord => unreachable!(),
             Stage::InValue => {
-                complete_last::<K, V, F>(&mut items, value.take());
+                complete_last::<V, F>(&mut items, value.take());
                 Items::of(items)
             }
         }
     }
 
     fn weight_of(value: &Items<F::Pair>) -> u64 {
-        weight_of_pairs::<K, V, F>(value.as_slice())
+        weight_of_pairs::<V, F>(value.as_slice())
     }
 
-    ghost completes = { λ s. state_completes F.word_of F.value_of F.paired F.has_word F.has_value s.items.items (IsPairText F.word_of F.value_of (A.texts s.words) (B.texts s.values) s.mark) s.separator s.mark (K.means s.word) (V.means s.value) s.distinct s.stage
-        (K.longer s.word [] (K.completes s.word) (map F.word_of s.items.items)) (V.completes s.value) s.begun };
+    ghost completes = { λ s. state_completes F.word_of F.value_of F.paired F.has_word F.has_value s.items.items (IsPairText F.word_of F.value_of (SpellsWord s.words.controller) (B.texts s.values) s.mark) s.separator s.mark (⟦<WordText as Token>⟧.means s.word) (V.means s.value) s.distinct s.stage
+        (word_new s.word.controller s.word.bytes.items [] (⟦<WordText as Token>⟧.completes s.word) (map F.word_of s.items.items)) (V.completes s.value) s.begun };
 
     ghost no_size = { λ e s. absurd (true_not_false e) };
 
-    ghost ends_is = { λ s. state_ends F.word_of F.value_of F.paired F.has_word F.has_value s.items.items (IsPairText F.word_of F.value_of (A.texts s.words) (B.texts s.values) s.mark) s.separator s.mark (K.means s.word) (V.means s.value) s.distinct s.stage (V.ends s.value) (V.ends_is s.value) s.begun };
+    ghost ends_is = { λ s. state_ends F.word_of F.value_of F.paired F.has_word F.has_value s.items.items (IsPairText F.word_of F.value_of (SpellsWord s.words.controller) (B.texts s.values) s.mark) s.separator s.mark (⟦<WordText as Token>⟧.means s.word) (V.means s.value) s.distinct s.stage (V.ends s.value) (V.ends_is s.value) s.begun };
 
-    ghost one_value = { λ s rest v w h k. led_after_one s.separator s.stage (whole_pairs s.stage s.items.items) (PairRest F.word_of F.value_of (WordAtHand F.word_of s.stage s.items.items (K.means s.word)) (V.means s.value) s.stage s.mark) (IsPairText F.word_of F.value_of (A.texts s.words) (B.texts s.values) s.mark)
-        (state_stops F.word_of F.value_of (K.means s.word) s.mark s.items.items (V.means s.value) s.stage s.separator s.lacks s.stops)
-        (pair_stops F.word_of F.value_of s.mark (A.texts s.words) (B.texts s.values) s.separator s.words_lack s.values_stop)
-        (state_one F.word_of F.value_of (K.means s.word) s.mark s.items.items F.paired F.whole (V.means s.value) s.stage s.lacks (K.one_value s.word) (V.one_value s.value))
-        (pair_one F.word_of F.value_of (A.texts s.words) s.mark F.paired F.whole (B.texts s.values) s.words_lack (A.one_text s.words) (B.one_text s.values))
+    ghost one_value = { λ s rest v w h k. led_after_one s.separator s.stage (whole_pairs s.stage s.items.items) (PairRest F.word_of F.value_of (WordAtHand F.word_of s.stage s.items.items (⟦<WordText as Token>⟧.means s.word)) (V.means s.value) s.stage s.mark) (IsPairText F.word_of F.value_of (SpellsWord s.words.controller) (B.texts s.values) s.mark)
+        (state_stops F.word_of F.value_of (⟦<WordText as Token>⟧.means s.word) s.mark s.items.items (V.means s.value) s.stage s.separator s.lacks s.stops)
+        (pair_stops F.word_of F.value_of s.mark (SpellsWord s.words.controller) (B.texts s.values) s.separator s.words_lack s.values_stop)
+        (state_one F.word_of F.value_of (⟦<WordText as Token>⟧.means s.word) s.mark s.items.items F.paired F.whole (V.means s.value) s.stage s.lacks (⟦<WordText as Token>⟧.one_value s.word) (V.one_value s.value))
+        (pair_one F.word_of F.value_of (SpellsWord s.words.controller) s.mark F.paired F.whole (B.texts s.values) s.words_lack (one_word s.words.controller) (B.one_text s.values))
         rest v w h.0 k.0 };
 
-    ghost holds_bytes = { λ s rest all h. led_after_bytes s.separator s.stage (whole_pairs s.stage s.items.items) (PairRest F.word_of F.value_of (WordAtHand F.word_of s.stage s.items.items (K.means s.word)) (V.means s.value) s.stage s.mark) (IsPairText F.word_of F.value_of (A.texts s.words) (B.texts s.values) s.mark) s.small_separator
-        (state_bytes F.word_of F.value_of (K.means s.word) s.mark s.items.items (V.means s.value) s.stage s.small_mark (K.holds_bytes s.word) (V.holds_bytes s.value))
-        (pair_bytes F.word_of F.value_of s.mark (A.texts s.words) (B.texts s.values) s.small_mark (A.text_bytes s.words) (B.text_bytes s.values))
+    ghost holds_bytes = { λ s rest all h. led_after_bytes s.separator s.stage (whole_pairs s.stage s.items.items) (PairRest F.word_of F.value_of (WordAtHand F.word_of s.stage s.items.items (⟦<WordText as Token>⟧.means s.word)) (V.means s.value) s.stage s.mark) (IsPairText F.word_of F.value_of (SpellsWord s.words.controller) (B.texts s.values) s.mark) s.small_separator
+        (state_bytes F.word_of F.value_of (⟦<WordText as Token>⟧.means s.word) s.mark s.items.items (V.means s.value) s.stage s.small_mark (⟦<WordText as Token>⟧.holds_bytes s.word) (V.holds_bytes s.value))
+        (pair_bytes F.word_of F.value_of s.mark (SpellsWord s.words.controller) (B.texts s.values) s.small_mark (word_text_bytes s.words.controller) (B.text_bytes s.values))
         rest all h.0 };
 }

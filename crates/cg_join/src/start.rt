@@ -9,6 +9,12 @@ pub trait Start<T: Token>: Drop {
     /// The texts of a new token, each with its value.
     ghost texts: { Self → List ℕ → T.Out → Type 0 };
 
+    /// A text has one value.
+    ghost one_text: { (s : Self) → HasOneText (texts s) };
+
+    /// A text holds bytes.
+    ghost text_bytes: { (s : Self) (text : List ℕ) (v : T.Out) → texts s text v → AreBytes text };
+
     /// A new token. It takes no memory.
     fn start(&self) -> T
         ensures spells { Spells T.means result (texts self.now) }
@@ -16,10 +22,4 @@ pub trait Start<T: Token>: Drop {
 
     /// There is a text.
     ghost some_text: { (s : Self) → (text : List ℕ) × (v : T.Out) × texts s text v };
-
-    /// A text has one value.
-    ghost one_text: { (s : Self) → HasOneText (texts s) };
-
-    /// A text holds bytes.
-    ghost text_bytes: { (s : Self) (text : List ℕ) (v : T.Out) → texts s text v → AreBytes text };
 }

@@ -2,8 +2,9 @@
 ghost use Rattle.std.specs.Prelude.{◌≡◌, ℕ, List};
 ghost use Rattle.cg_text.specs.Token.{Spells};
 ghost use Rattle.cg_text.specs.Word.{IsWordText};
+ghost use Rattle.cg_text.specs.WordState.{is_taken};
+ghost use Rattle.cg_join.specs.Distinct.{any_value};
 
-use crate::peek::{Peek, StartNew};
 use crate::start::Start;
 use cg_text::{Key, WordText};
 use std::alloc::Global;
@@ -40,24 +41,14 @@ impl Start<WordText> for WordStart {
     ghost text_bytes = { λ s. word_text_bytes s.controller };
 }
 
-impl StartNew<WordText> for WordStart {
-    ghost use Rattle.cg_join.specs.WordStartLaws.{new_word_text};
-
-    ghost new_text = { λ s. new_word_text s.controller };
-}
-
-impl Peek for WordText {
-    ghost use Rattle.cg_text.specs.WordState.{is_taken};
-    ghost use Rattle.cg_text.specs.WordLaws.{is_taken_is};
-    ghost use Rattle.cg_join.specs.WordStartLaws.{word_new};
-
-    ghost is_value = { λ s word. is_taken s.bytes.items word };
-
-    fn is(&self, value: &Key) -> bool {
-        self.is(value)
+/// Whether what was taken is one of the words.
+pub(crate) fn has(words: &[Key], token: &WordText) -> bool
+    ensures { result ≡ any_value (is_taken token.now.bytes.items) words.now }
+{
+    for word in words {
+        if token.is(word) {
+            return true;
+        }
     }
-
-    ghost is_value_is = { λ s word. is_taken_is s.controller s.bytes.items word s.sound };
-
-    ghost longer = { λ s. word_new s.controller s.bytes.items };
+    false
 }

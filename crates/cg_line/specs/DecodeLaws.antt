@@ -8,11 +8,11 @@ use Rattle.cg_value.specs.Table.{read_form_of}
 use Rattle.cg_value.specs.declared.profile.Profile.{Profile}
 use Rattle.cg_value.specs.declared.kind.ReadForm.{ReadForm}
 use Rattle.cg_value.specs.declared.value.Value.{Value}
-use Rattle.cg_line.specs.Decode.{IsCut, fault_of, IsTakenWhole, IsReadWhole, IsDecoded}
+use Rattle.cg_line.specs.Decode.{IsCut, IsStarved, fault_of, IsTakenWhole, IsReadWhole, IsDecoded}
 use Rattle.cg_line.specs.Reads.{Reads, reads_viable}
 use Rattle.cg_line.specs.Runs.{RunStops}
-use Rattle.cg_machine.specs.declared.machine.PushFault.{PushFault}
-use Rattle.cg_machine.specs.declared.machine.PushFault.TheVariants as push
+use Rattle.cg_line.specs.declared.push.PushFault.{PushFault}
+use Rattle.cg_line.specs.declared.push.PushFault.TheVariants as push
 use Rattle.cg_line.specs.declared.reader.ValueReader.{ValueReader}
 use Rattle.cg_line.specs.declared.decode.FileFault.{FileFault}
 use Rattle.cg_line.specs.declared.decode.FileFault.TheVariants.{NotReadable, Refused, Cut, OutOfMemory}
@@ -43,6 +43,14 @@ module _ (L : List ℕ → Type 0) (bytes : List ℕ) where
       let text : take at bytes ++ take used rest ≡ take (at + used) bytes = ap (λ l. take at bytes ++ take used l) e ∙ sym (take-add at used bytes) in
       first_bad (at + used) (omega (arith, within, ap length e, length-drop at bytes)) (run_on (Viable L) bytes rest at used e viable) (rw (same, text) at none)
 
+  -- A byte after a run for which memory was refused.
+  pub run_starved : (rest : List ℕ) (at used : ℕ) → rest ≡ drop at bytes → used < length rest → Next L (take at bytes ++ take used rest) (get_or rest used 0) → IsStarved L bytes
+  run_starved rest at used e within goes =
+      let same : get_or rest used 0 ≡ get_or bytes (at + used) 0 = ap (λ l. get_or l used 0) e ∙ get_or-drop at bytes used 0 in
+      let text : take at bytes ++ take used rest ≡ take (at + used) bytes = ap (λ l. take at bytes ++ take used l) e ∙ sym (take-add at used bytes) in
+      let inside : at + used < length bytes = omega (arith, within, ap length e, length-drop at bytes) in
+      record { at = at + used; within = inside; goes = rw (take_more bytes (at + used) 0 inside) (rw (same, text) at goes) }
+
   -- The bytes are no text of the set, though one begins so.
   pub cut_at_end : Viable L bytes → (L bytes → ⊥) → IsCut L bytes (length bytes)
   cut_at_end viable none = record { at_end = refl; viable = viable; not_whole = none }
@@ -58,6 +66,9 @@ module _ (L M : List ℕ → Type 0) (same : (text : List ℕ) → L text ↔ M 
   pub first_bad_as : (bytes : List ℕ) (at : ℕ) → FirstBad L bytes at → FirstBad M bytes at
   first_bad_as bytes at h = record { within = h.within; before = viable_to _ h.before; after = λ v. h.after (viable_from _ v) }
 
+  pub starved_as : (bytes : List ℕ) → IsStarved L bytes → IsStarved M bytes
+  starved_as bytes h = record { at = h.at; within = h.within; goes = viable_to _ h.goes }
+
   pub cut_as : (bytes : List ℕ) (at : ℕ) → IsCut L bytes at → IsCut M bytes at
   cut_as bytes at h = record { at_end = h.at_end; viable = viable_to _ h.viable; not_whole = λ f. h.not_whole ((same bytes).1 f) }
 
@@ -65,14 +76,14 @@ module _ (L M : List ℕ → Type 0) (same : (text : List ℕ) → L text ↔ M 
 pub run_stopped : (r : ValueReader) (kind : ReadForm) (bytes rest : List ℕ) (at used : ℕ) (fault : PushFault) → rest ≡ drop at bytes → Reads r kind (take at bytes ++ take used rest) →
     RunStops kind (take at bytes) rest used (Some fault) → IsTakenWhole r kind bytes (Err (fault_of fault (at + used)))
 run_stopped r kind bytes rest at used push.Refused e h stops = run_refused (KindFile kind) bytes rest at used e stops.0 (reads_viable r kind _ h) stops.2
-run_stopped r kind bytes rest at used push.OutOfMemory e h stops = tt
+run_stopped r kind bytes rest at used push.OutOfMemory e h stops = run_starved (KindFile kind) bytes rest at used e stops.0 stops.2
 
 -- Why not all bytes were taken is why they are no file.
 pub taken_fault : (r : ValueReader) (kind : ReadForm) (bytes : List ℕ) (fault : FileFault) → IsTakenWhole r kind bytes (Err fault) → IsReadWhole kind bytes (Err fault)
 taken_fault r kind bytes NotReadable h = absurd h
 taken_fault r kind bytes (Refused at) h = h
 taken_fault r kind bytes (Cut at) h = absurd h
-taken_fault r kind bytes OutOfMemory h = tt
+taken_fault r kind bytes OutOfMemory h = h
 
 module _ (profile : Profile) (name : List ℕ) (kind : ReadForm) (is : read_form_of profile name ≡ Some kind) where
   same_kind : (k : ReadForm) → read_form_of profile name ≡ Some k → k ≡ kind
@@ -91,4 +102,4 @@ module _ (profile : Profile) (name : List ℕ) (kind : ReadForm) (is : read_form
   decoded bytes (Err NotReadable) h = absurd h
   decoded bytes (Err (Refused at)) h = first_bad_as (KindFile kind) (File profile name) kind_files bytes at h
   decoded bytes (Err (Cut at)) h = cut_as (KindFile kind) (File profile name) kind_files bytes at h
-  decoded bytes (Err OutOfMemory) h = (kind, is)
+  decoded bytes (Err OutOfMemory) h = starved_as (KindFile kind) (File profile name) kind_files bytes h

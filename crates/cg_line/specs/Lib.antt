@@ -8,6 +8,8 @@ pub mod Place
 pub mod PlaceLaws
 pub mod Reads
 pub mod ReadsLaws
+pub mod Rests
+pub mod RestsLaws
 pub mod Runs
 pub mod RunsLaws
 pub mod Takes

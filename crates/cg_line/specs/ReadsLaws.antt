@@ -5,46 +5,47 @@ use Rattle.cg_text.specs.Texts.{Next}
 use Rattle.cg_value.specs.Files.{KindText, KindFile}
 use Rattle.cg_value.specs.declared.value.Value.{Value}
 use Rattle.cg_value.specs.declared.kind.ReadForm.{ReadForm}
-use Rattle.cg_machine.specs.Machine.{Pushes, IsRead}
-use Rattle.cg_machine.specs.MachineLaws.{pushed, whole_is, value_is, next_is}
+use Rattle.cg_line.specs.Rests.{Pushes, IsRead}
+use Rattle.cg_line.specs.RestsLaws.{pushed, whole_is, value_is, next_is}
 use Rattle.cg_line.specs.Place.{IsPlace}
 use Rattle.cg_file.specs.Kinds.{TextsOf, HoldsLittle}
 use Rattle.cg_line.specs.Reads.{HasTaken, Reads, IsPushed, reads_is, is_reads}
-use Rattle.cg_file_machine.specs.declared.file_machine.FileMachine.{FileMachine}
-use Rattle.cg_machine.specs.declared.machine.PushFault.{PushFault}
-use Rattle.cg_machine.specs.declared.machine.PushFault.TheVariants.{Refused, OutOfMemory}
+use Rattle.cg_file.specs.declared.file_text.FileText.{FileText}
+use Rattle.cg_line.specs.declared.push.PushFault.{PushFault}
+use Rattle.cg_line.specs.declared.push.PushFault.TheVariants.{Refused, OutOfMemory}
 use Rattle.cg_line.specs.declared.place.Place.{Place}
 use Rattle.cg_line.specs.declared.reader.ValueReader.{ValueReader}
-use Rattle.cg_file_machine.specs.contracts.file_machine.FileMachineTextMachine.TheImpl.{ghosts}
+use Rattle.cg_file.specs.contracts.file_text.FileTextToken.TheImpl.{ghosts}
 
 -- The byte was taken.
-pub pushed_on : (r : ValueReader) (m : FileMachine) (p : Place) (kind : ReadForm) (taken : List ℕ) (b : ℕ) → Pushes (ghosts.means r.machine) b (ghosts.means m) (Ok tt) →
-    IsPlace p (taken ++ b ∷ []) → (IsRead (TextsOf kind) (ghosts.means m) (taken ++ b ∷ []) → HoldsLittle (ghosts.size m) kind (taken ++ b ∷ [])) → Reads r kind taken → Reads (record { machine = m; place = p }) kind (taken ++ b ∷ [])
+pub pushed_on : (r : ValueReader) (m : FileText) (p : Place) (kind : ReadForm) (taken : List ℕ) (b : ℕ) → Pushes (ghosts.means r.text) b (ghosts.means m) (Ok tt) →
+    IsPlace p (taken ++ b ∷ []) → (IsRead (TextsOf kind) (ghosts.means m) (taken ++ b ∷ []) → HoldsLittle (ghosts.size m) kind (taken ++ b ∷ [])) → Reads r kind taken → Reads (record { text = m; place = p }) kind (taken ++ b ∷ [])
 pushed_on r m p kind taken b pushes place held h =
     let was = is_reads r kind taken h in
-    let now = pushed (TextsOf kind) (ghosts.means r.machine) (ghosts.means m) taken b (Ok tt) pushes was.rests in
+    let now = pushed (TextsOf kind) (ghosts.means r.text) (ghosts.means m) taken b (Ok tt) pushes was.rests in
     reads_is _ _ _ (record { rests = now; form = was.form; place = place; held = held now })
 
-unchanged : (r : ValueReader) (m : FileMachine) (kind : ReadForm) (taken : List ℕ) → ghosts.size m ≡ ghosts.size r.machine → HasTaken r kind taken → IsRead (TextsOf kind) (ghosts.means m) taken → Reads (record { machine = m; place = r.place }) kind taken
+unchanged : (r : ValueReader) (m : FileText) (kind : ReadForm) (taken : List ℕ) → ghosts.size m ≡ ghosts.size r.text → HasTaken r kind taken → IsRead (TextsOf kind) (ghosts.means m) taken → Reads (record { text = m; place = r.place }) kind taken
 unchanged r m kind taken size was rests = reads_is _ _ _ (record { rests = rests; form = was.form; place = was.place; held = rw size was.held })
 
 -- It was not.
-pub refused_byte : (r : ValueReader) (m : FileMachine) (kind : ReadForm) (taken : List ℕ) (b : ℕ) (fault : PushFault) → Pushes (ghosts.means r.machine) b (ghosts.means m) (Err fault) →
-    ghosts.size m ≡ ghosts.size r.machine → Reads r kind taken → IsPushed (record { machine = m; place = r.place }) kind taken b (Err fault)
+pub refused_byte : (r : ValueReader) (m : FileText) (kind : ReadForm) (taken : List ℕ) (b : ℕ) (fault : PushFault) → Pushes (ghosts.means r.text) b (ghosts.means m) (Err fault) →
+    ghosts.size m ≡ ghosts.size r.text → Reads r kind taken → IsPushed (record { text = m; place = r.place }) kind taken b (Err fault)
 refused_byte r m kind taken b Refused pushes size h =
     let was = is_reads r kind taken h in
-    let now = pushed (TextsOf kind) (ghosts.means r.machine) (ghosts.means m) taken b (Err Refused) pushes was.rests in
+    let now = pushed (TextsOf kind) (ghosts.means r.text) (ghosts.means m) taken b (Err Refused) pushes was.rests in
     (unchanged r m kind taken size was now.0, now.1)
 refused_byte r m kind taken b OutOfMemory pushes size h =
     let was = is_reads r kind taken h in
-    unchanged r m kind taken size was (pushed (TextsOf kind) (ghosts.means r.machine) (ghosts.means m) taken b (Err OutOfMemory) pushes was.rests)
+    let now = pushed (TextsOf kind) (ghosts.means r.text) (ghosts.means m) taken b (Err OutOfMemory) pushes was.rests in
+    (unchanged r m kind taken size was now.0, now.1)
 
 -- What the reader's rests say of files.
-pub whole_file : (r : ValueReader) (kind : ReadForm) (taken : List ℕ) → Reads r kind taken → Ends ghosts.means r.machine ↔ KindFile kind taken
-whole_file r kind taken h = whole_is (TextsOf kind) (ghosts.means r.machine) taken (is_reads r kind taken h).rests
+pub whole_file : (r : ValueReader) (kind : ReadForm) (taken : List ℕ) → Reads r kind taken → Ends ghosts.means r.text ↔ KindFile kind taken
+whole_file r kind taken h = whole_is (TextsOf kind) (ghosts.means r.text) taken (is_reads r kind taken h).rests
 
-pub whole_value : (r : ValueReader) (v : Value) (kind : ReadForm) (taken : List ℕ) → ghosts.means r.machine [] v → Reads r kind taken → KindText kind v taken
-whole_value r v kind taken p h = value_is (TextsOf kind) (ghosts.means r.machine) taken v p (is_reads r kind taken h).rests
+pub whole_value : (r : ValueReader) (v : Value) (kind : ReadForm) (taken : List ℕ) → ghosts.means r.text [] v → Reads r kind taken → KindText kind v taken
+whole_value r v kind taken p h = value_is (TextsOf kind) (ghosts.means r.text) taken v p (is_reads r kind taken h).rests
 
-pub next_byte_is : (r : ValueReader) (kind : ReadForm) (taken : List ℕ) (b : ℕ) → Reads r kind taken → Begins ghosts.means r.machine b ↔ Next (KindFile kind) taken b
-next_byte_is r kind taken b h = next_is (TextsOf kind) (ghosts.means r.machine) taken b (is_reads r kind taken h).rests
+pub next_byte_is : (r : ValueReader) (kind : ReadForm) (taken : List ℕ) (b : ℕ) → Reads r kind taken → Begins ghosts.means r.text b ↔ Next (KindFile kind) taken b
+next_byte_is r kind taken b h = next_is (TextsOf kind) (ghosts.means r.text) taken b (is_reads r kind taken h).rests

@@ -3,18 +3,18 @@ use Rattle.std.specs.Prelude.{◌≡◌, ℕ, ◌<◌, ◌⊎◌, List, [], ◌�
 use Rattle.cg_text.specs.Texts.{Lacks, Next}
 use Rattle.cg_value.specs.Files.{KindFile}
 use Rattle.cg_value.specs.declared.kind.ReadForm.{ReadForm}
-use Rattle.cg_machine.specs.declared.machine.PushFault.{PushFault}
-use Rattle.cg_machine.specs.declared.machine.PushFault.TheVariants.{Refused, OutOfMemory}
+use Rattle.cg_line.specs.declared.push.PushFault.{PushFault}
+use Rattle.cg_line.specs.declared.push.PushFault.TheVariants.{Refused, OutOfMemory}
 use Rattle.cg_line.specs.Reads.{Reads}
 use Rattle.cg_line.specs.declared.reader.PushedRun.{PushedRun}
 use Rattle.cg_line.specs.declared.reader.ValueReader.{ValueReader}
 
 -- Where a run of bytes of a text of the set ends, so many of which were taken: where no byte is left, or after its first
--- newline; or before it at a byte with which no text of the set goes on, or for which memory was refused.
+-- newline; or before it at a byte with which no text of the set goes on, or with which one does and memory was refused.
 abbrev pub StopsAt : (List ℕ → Type 0) → List ℕ → List ℕ → ℕ → Option PushFault → Type 0
 StopsAt L taken bytes used None = ((used ≡ length bytes) × Lacks 10 bytes) ⊎ ((line : List ℕ) × (take used bytes ≡ line ++ 10 ∷ []) × Lacks 10 line)
 StopsAt L taken bytes used (Some Refused) = (used < length bytes) × Lacks 10 (take used bytes) × (Next L (taken ++ take used bytes) (get_or bytes used 0) → ⊥)
-StopsAt L taken bytes used (Some OutOfMemory) = (used < length bytes) × Lacks 10 (take used bytes)
+StopsAt L taken bytes used (Some OutOfMemory) = (used < length bytes) × Lacks 10 (take used bytes) × Next L (taken ++ take used bytes) (get_or bytes used 0)
 
 -- Where a run of bytes of a file of the kind ends.
 abbrev pub RunStops : ReadForm → List ℕ → List ℕ → ℕ → Option PushFault → Type 0

@@ -4,9 +4,9 @@ use Rattle.std.proofs.lemmas.List.{take_more}
 use Rattle.cg_text.specs.Texts.{Lacks, Viable, TextOf}
 use Rattle.cg_value.specs.declared.kind.ReadForm.{ReadForm}
 use Rattle.cg_file.specs.Kinds.{TextsOf}
-use Rattle.cg_machine.specs.Machine.{Goes, IsRead, Runs}
-use Rattle.cg_file_machine.specs.contracts.file_machine.FileMachineTextMachine.TheImpl.{ghosts}
-use Rattle.cg_file_machine.specs.declared.file_machine.FileMachine.{FileMachine}
+use Rattle.cg_line.specs.Rests.{Goes, IsRead, Runs}
+use Rattle.cg_file.specs.contracts.file_text.FileTextToken.TheImpl.{ghosts}
+use Rattle.cg_file.specs.declared.file_text.FileText.{FileText}
 use Rattle.cg_line.specs.HeldLaws.{holds_run}
 use Rattle.cg_line.specs.Place.{IsPlace}
 use Rattle.cg_line.specs.Reads.{Reads, is_reads, reads_is}
@@ -40,27 +40,27 @@ module _ {V : Type 0} (Text P Q : List ℕ → V → Type 0) (taken run : List �
       ) in
       record { is = is; viable = elim runs.1 [ inl none ↦ rw (none, append-nil taken) h.viable | inr goes ↦ read_viable goes is ] }
 
-module _ (r : ValueReader) (m : FileMachine) (kind : ReadForm) (taken run : List ℕ) where
+module _ (r : ValueReader) (m : FileText) (kind : ReadForm) (taken run : List ℕ) where
   -- Some bytes were taken at once.
-  pub ran_on : Runs (ghosts.means r.machine) run (ghosts.means m) → 0 < length run → Lacks 10 run → ghosts.size m ≤ ghosts.size r.machine + length run → Reads r kind taken → Reads (record { machine = m; place = InLine }) kind (taken ++ run)
+  pub ran_on : Runs (ghosts.means r.text) run (ghosts.means m) → 0 < length run → Lacks 10 run → ghosts.size m ≤ ghosts.size r.text + length run → Reads r kind taken → Reads (record { text = m; place = InLine }) kind (taken ++ run)
   ran_on runs some plain size h =
       let was = is_reads r kind taken h in
       reads_is _ _ _ (record {
-        rests = read_run (TextsOf kind) (ghosts.means r.machine) (ghosts.means m) taken run runs was.rests;
+        rests = read_run (TextsOf kind) (ghosts.means r.text) (ghosts.means m) taken run runs was.rests;
         form = was.form;
         place = in_line taken run some plain;
-        held = holds_run kind run taken (ghosts.size r.machine) (ghosts.size m) plain size was.held;
+        held = holds_run kind run taken (ghosts.size r.text) (ghosts.size m) plain size was.held;
       })
 
   -- None was.
-  pub ran_none : Runs (ghosts.means r.machine) run (ghosts.means m) → run ≡ [] → ghosts.size m ≤ ghosts.size r.machine → Reads r kind taken → Reads (record { machine = m; place = r.place }) kind (taken ++ run)
+  pub ran_none : Runs (ghosts.means r.text) run (ghosts.means m) → run ≡ [] → ghosts.size m ≤ ghosts.size r.text → Reads r kind taken → Reads (record { text = m; place = r.place }) kind (taken ++ run)
   ran_none runs none size h =
       let was = is_reads r kind taken h in
       reads_is _ _ _ (record {
-        rests = read_run (TextsOf kind) (ghosts.means r.machine) (ghosts.means m) taken run runs was.rests;
+        rests = read_run (TextsOf kind) (ghosts.means r.text) (ghosts.means m) taken run runs was.rests;
         form = was.form;
         place = rw (none, append-nil taken) was.place;
-        held = holds_run kind run taken (ghosts.size r.machine) (ghosts.size m) (rw none tt) (omega (arith, size)) was.held;
+        held = holds_run kind run taken (ghosts.size r.text) (ghosts.size m) (rw none tt) (omega (arith, size)) was.held;
       })
 
 -- ---- How far a run got

@@ -7,40 +7,40 @@ use Rattle.cg_value.specs.PlainWriteLaws.{written_plain}
 use Rattle.cg_value.specs.Settings.{WriteText, KindWrite}
 use Rattle.cg_value.specs.declared.kind.WriteForm.{WriteForm}
 use Rattle.cg_value.specs.declared.setting.Setting.{Setting}
-use Rattle.cg_machine.specs.Machine.{Pushes}
-use Rattle.cg_machine.specs.MachineLaws.{pushed, whole_is, value_is, next_is}
-use Rattle.cg_machine.specs.declared.machine.PushFault.{PushFault}
-use Rattle.cg_machine.specs.declared.machine.PushFault.TheVariants.{Refused, OutOfMemory}
+use Rattle.cg_line.specs.Rests.{Pushes}
+use Rattle.cg_line.specs.RestsLaws.{pushed, whole_is, value_is, next_is}
+use Rattle.cg_line.specs.declared.push.PushFault.{PushFault}
+use Rattle.cg_line.specs.declared.push.PushFault.TheVariants.{Refused, OutOfMemory}
 use Rattle.cg_line.specs.Takes.{WritesOf, Takes, IsBytePushed, takes_is, is_takes}
 use Rattle.cg_line.specs.declared.setting_reader.SettingReader.{SettingReader}
-use Rattle.cg_write_machine.specs.contracts.write_machine.WriteMachineTextMachine.TheImpl.{ghosts}
+use Rattle.cg_write.specs.contracts.write_text.WriteTextToken.TheImpl.{ghosts}
 
 -- What a byte leaves of the rests, and of what is held, it leaves of the reader.
-pub byte_pushed : (r new : SettingReader) (kind : WriteForm) (taken : List ℕ) (b : ℕ) (result : Result Unit PushFault) → Pushes (ghosts.means r.machine) b (ghosts.means new.machine) result →
-    ghosts.size new.machine ≤ ghosts.size r.machine + 1 → OnErr result (ghosts.size new.machine ≡ ghosts.size r.machine) → Takes r kind taken → IsBytePushed new kind taken b result
+pub byte_pushed : (r new : SettingReader) (kind : WriteForm) (taken : List ℕ) (b : ℕ) (result : Result Unit PushFault) → Pushes (ghosts.means r.text) b (ghosts.means new.text) result →
+    ghosts.size new.text ≤ ghosts.size r.text + 1 → OnErr result (ghosts.size new.text ≡ ghosts.size r.text) → Takes r kind taken → IsBytePushed new kind taken b result
 byte_pushed r new kind taken b (Ok u) pushes more same h =
     let was = is_takes r kind taken h in
-    let now = pushed (WritesOf kind) (ghosts.means r.machine) (ghosts.means new.machine) taken b (Ok u) pushes was.rests in
+    let now = pushed (WritesOf kind) (ghosts.means r.text) (ghosts.means new.text) taken b (Ok u) pushes was.rests in
     takes_is new kind (taken ++ b ∷ []) (record { rests = now; held = omega (arith, length-append taken (b ∷ []), more, was.held) })
 byte_pushed r new kind taken b (Err Refused) pushes more same h =
     let was = is_takes r kind taken h in
-    let now = pushed (WritesOf kind) (ghosts.means r.machine) (ghosts.means new.machine) taken b (Err Refused) pushes was.rests in
+    let now = pushed (WritesOf kind) (ghosts.means r.text) (ghosts.means new.text) taken b (Err Refused) pushes was.rests in
     (takes_is new kind taken (record { rests = now.0; held = rw same was.held }), now.1)
 byte_pushed r new kind taken b (Err OutOfMemory) pushes more same h =
     let was = is_takes r kind taken h in
-    let now = pushed (WritesOf kind) (ghosts.means r.machine) (ghosts.means new.machine) taken b (Err OutOfMemory) pushes was.rests in
-    takes_is new kind taken (record { rests = now; held = rw same was.held })
+    let now = pushed (WritesOf kind) (ghosts.means r.text) (ghosts.means new.text) taken b (Err OutOfMemory) pushes was.rests in
+    (takes_is new kind taken (record { rests = now.0; held = rw same was.held }), now.1)
 
 -- What the reader's rests say of writes.
 module _ (r : SettingReader) (kind : WriteForm) (taken : List ℕ) (h : Takes r kind taken) where
-  pub whole_write : Ends ghosts.means r.machine ↔ KindWrite kind taken
-  whole_write = whole_is (WritesOf kind) (ghosts.means r.machine) taken (is_takes r kind taken h).rests
+  pub whole_write : Ends ghosts.means r.text ↔ KindWrite kind taken
+  whole_write = whole_is (WritesOf kind) (ghosts.means r.text) taken (is_takes r kind taken h).rests
 
-  pub whole_setting : (s : Setting) → ghosts.means r.machine [] s → WriteText kind s taken
-  whole_setting s p = value_is (WritesOf kind) (ghosts.means r.machine) taken s p (is_takes r kind taken h).rests
+  pub whole_setting : (s : Setting) → ghosts.means r.text [] s → WriteText kind s taken
+  whole_setting s p = value_is (WritesOf kind) (ghosts.means r.text) taken s p (is_takes r kind taken h).rests
 
-  pub next_write : (b : ℕ) → Begins ghosts.means r.machine b ↔ Next (KindWrite kind) taken b
-  next_write b = next_is (WritesOf kind) (ghosts.means r.machine) taken b (is_takes r kind taken h).rests
+  pub next_write : (b : ℕ) → Begins ghosts.means r.text b ↔ Next (KindWrite kind) taken b
+  next_write b = next_is (WritesOf kind) (ghosts.means r.text) taken b (is_takes r kind taken h).rests
 
 -- A write holds bytes.
 pub write_bytes : (kind : WriteForm) (text : List ℕ) → KindWrite kind text → AreBytes text

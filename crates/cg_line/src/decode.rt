@@ -4,8 +4,8 @@ ghost use Rattle.cg_value.specs.declared.kind.ReadForm.{ReadForm};
 ghost use Rattle.cg_line.specs.Decode.{fault_of, IsTakenWhole, IsReadWhole, IsDecoded};
 ghost use Rattle.cg_line.specs.Reads.{Reads};
 
+use crate::push::PushFault;
 use crate::reader::ValueReader;
-use cg_machine::PushFault;
 use cg_value::{Profile, Value, read_kind};
 use std::alloc::Global;
 use thiserror::Error;

@@ -4,8 +4,8 @@ ghost use Rattle.cg_value.specs.declared.kind.WriteForm.{WriteForm};
 ghost use Rattle.cg_line.specs.DecodeWrite.{write_fault_of, IsWriteTaken, IsWriteRead, IsWriteDecoded};
 ghost use Rattle.cg_line.specs.Takes.{Takes};
 
+use crate::push::PushFault;
 use crate::setting_reader::SettingReader;
-use cg_machine::PushFault;
 use cg_value::{Profile, Setting, write_kind};
 use std::alloc::Global;
 use thiserror::Error;

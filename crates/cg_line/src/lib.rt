@@ -4,17 +4,12 @@
 pub mod decode;
 pub mod decode_write;
 pub mod place;
+pub mod push;
 pub mod reader;
 pub mod setting_reader;
-#[cfg(test)]
-mod setting_tests;
-#[cfg(test)]
-mod tests;
-#[cfg(test)]
-mod value_tests;
 
-pub use cg_machine::PushFault;
 pub use decode::{FileFault, decode_file};
 pub use decode_write::{SettingFault, decode_setting};
+pub use push::PushFault;
 pub use reader::{PushedRun, ReaderCut, ValueReader};
 pub use setting_reader::{SettingCut, SettingReader};

@@ -11,16 +11,16 @@ ghost use Rattle.cg_value.specs.declared.kind.ReadForm.{ReadForm};
 ghost use Rattle.cg_line.specs.Place.{TakesLine};
 
 use crate::place::Place;
-use cg_file_machine::{FileMachine, machine_of};
-use cg_machine::{PushFault, TextMachine};
-use cg_text::ByteSet;
+use crate::push::{PushFault, push_to};
+use cg_file::FileText;
+use cg_text::{ByteSet, Token};
 use cg_value::{ReadKind, Value};
 use std::alloc::Global;
 
 /// A reader of the text of one file, which takes line bytes and newlines.
 #[derive(Drop)]
 pub struct ValueReader {
-    machine: FileMachine,
+    text: FileText,
     place: Place,
 }
 
@@ -49,7 +49,7 @@ impl ValueReader {
         ensures held { held_by result ≡ 0 }
     {
         ValueReader {
-            machine: machine_of(alloc, kind),
+            text: FileText::new(alloc, kind),
             place: Place::Start,
         }
     }
@@ -61,7 +61,7 @@ impl ValueReader {
         ensures held { held_by self.new ≤ held_by self.old + 1 }
         ensures same_held { OnErr result (held_by self.new ≡ held_by self.old) }
     {
-        match self.machine.take_byte(byte) {
+        match push_to(&mut self.text, byte) {
             Ok(()) => {
                 self.place = Place::after(byte);
                 Ok(())
@@ -77,7 +77,7 @@ impl ValueReader {
         ensures reads { (kind : ReadForm) (taken : List ℕ) → Reads self.old kind taken → Reads self.new kind (taken ++ take result bytes.now) }
         ensures held { held_by self.new ≤ held_by self.old + result }
     {
-        let used = self.machine.take_run(bytes);
+        let used = self.text.run(bytes);
         if used > 0 {
             self.place = Place::InLine;
         }
@@ -131,7 +131,7 @@ impl ValueReader {
     pub fn can_finish(&self) -> bool
         ensures { (kind : ReadForm) (taken : List ℕ) → Reads self.now kind taken → (IsTrue result ↔ KindFile kind taken) }
     {
-        self.machine.is_whole()
+        self.text.can_end()
     }
 
     /// The bytes with which some file of the kind goes on. It takes no memory.
@@ -141,7 +141,7 @@ impl ValueReader {
         let mut set = ByteSet::new();
         for number in 0..256u16 {
             let byte = number as u8;
-            if self.machine.allows_byte(byte) {
+            if self.text.allows(byte) {
                 set.insert(byte);
             }
         }
@@ -153,15 +153,15 @@ impl ValueReader {
         ensures exact { result ≡ told (held_by self.now) }
         ensures most { (kind : ReadForm) (lines : List (List ℕ)) (line : List ℕ) (v : Value) → Reads self.now kind (unlines lines ++ line) → Lacks 10 line → ReadLines kind v lines → held_by self.now ≤ weight_of_lines v lines + length line }
     {
-        self.machine.all_held()
+        self.text.held()
     }
 
     /// The value of a whole file, or else the reader. It takes no memory.
     pub fn finish(self) -> Result<Value, ReaderCut>
         ensures { (kind : ReadForm) (taken : List ℕ) → Reads self kind taken → MatchResult result (λ v. KindText kind v taken) (λ cut. (cut.reader ≡ self) × (KindFile kind taken → ⊥)) }
     {
-        if self.machine.is_whole() {
-            Ok(self.machine.into_value())
+        if self.text.can_end() {
+            Ok(self.text.take())
         } else {
             Err(ReaderCut { reader: self })
         }

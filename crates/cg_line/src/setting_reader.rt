@@ -3,20 +3,20 @@ ghost use Rattle.std.specs.Prelude.{◌≡◌, ◌≤◌, ◌<◌, ◌+◌, ◌�
 ghost use Rattle.cg_text.specs.Bytes.{HasByte};
 ghost use Rattle.cg_text.specs.Texts.{Next};
 ghost use Rattle.cg_text.specs.Token.{told};
-ghost use Rattle.cg_value.specs.Settings.{WriteText, KindWrite};
+ghost use Rattle.cg_value.specs.Settings.{WriteText as IsWriteText, KindWrite};
 ghost use Rattle.cg_value.specs.declared.kind.WriteForm.{WriteForm};
 
+use crate::push::{PushFault, push_to};
 use crate::reader::PushedRun;
-use cg_machine::{PushFault, TextMachine};
-use cg_text::ByteSet;
+use cg_text::{ByteSet, Token};
 use cg_value::{Setting, WriteKind};
-use cg_write_machine::{WriteMachine, machine_of_write};
+use cg_write::WriteText;
 use std::alloc::Global;
 
 /// A reader of the text of one write, which takes the bytes of its line and its newline.
 #[derive(Drop)]
 pub struct SettingReader {
-    machine: WriteMachine,
+    text: WriteText,
 }
 
 /// A reader whose bytes are no whole write, handed back.
@@ -34,7 +34,7 @@ impl SettingReader {
         ensures held { held_of result ≡ 0 }
     {
         SettingReader {
-            machine: machine_of_write(alloc, kind),
+            text: WriteText::new(alloc, kind),
         }
     }
 
@@ -45,7 +45,7 @@ impl SettingReader {
         ensures held { held_of self.new ≤ held_of self.old + 1 }
         ensures same_held { OnErr result (held_of self.new ≡ held_of self.old) }
     {
-        self.machine.take_byte(byte)
+        push_to(&mut self.text, byte)
     }
 
     /// Takes bytes from the front of `bytes` as `push` would take one after another: until a newline was taken, none is
@@ -84,7 +84,7 @@ impl SettingReader {
     pub fn can_finish(&self) -> bool
         ensures { (kind : WriteForm) (taken : List ℕ) → Takes self.now kind taken → (IsTrue result ↔ KindWrite kind taken) }
     {
-        self.machine.is_whole()
+        self.text.can_end()
     }
 
     /// The bytes with which some write of the kind goes on. It takes no memory.
@@ -94,7 +94,7 @@ impl SettingReader {
         let mut set = ByteSet::new();
         for number in 0..256u16 {
             let byte = number as u8;
-            if self.machine.allows_byte(byte) {
+            if self.text.allows(byte) {
                 set.insert(byte);
             }
         }
@@ -106,15 +106,15 @@ impl SettingReader {
         ensures exact { result ≡ told (held_of self.now) }
         ensures most { (kind : WriteForm) (taken : List ℕ) → Takes self.now kind taken → held_of self.now ≤ length taken }
     {
-        self.machine.all_held()
+        self.text.held()
     }
 
     /// The setting of a whole write, or else the reader. It takes no memory.
     pub fn finish(self) -> Result<Setting, SettingCut>
-        ensures { (kind : WriteForm) (taken : List ℕ) → Takes self kind taken → MatchResult result (λ s. WriteText kind s taken) (λ cut. (cut.reader ≡ self) × (KindWrite kind taken → ⊥)) }
+        ensures { (kind : WriteForm) (taken : List ℕ) → Takes self kind taken → MatchResult result (λ s. IsWriteText kind s taken) (λ cut. (cut.reader ≡ self) × (KindWrite kind taken → ⊥)) }
     {
-        if self.machine.is_whole() {
-            Ok(self.machine.into_value())
+        if self.text.can_end() {
+            Ok(self.text.take())
         } else {
             Err(SettingCut { reader: self })
         }

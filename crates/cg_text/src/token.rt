@@ -23,14 +23,31 @@ pub trait Token: Drop {
     /// False of a type whose states have no vector.
     ghost grows: { Bool };
 
-    /// Takes the byte, or refuses it. A token that refuses, or is refused memory, is unchanged.
+    /// Every state can be completed.
+    ghost completes: { (s : Self) → Completes means s };
+
+    /// A type whose states have no vector has none to count.
+    ghost no_size: { IsFalse grows → (s : Self) → size s ≡ 0 };
+
+    /// Nothing need follow exactly where the empty rest has a value.
+    ghost ends_is: { (s : Self) → IsTrue (ends s) ↔ Ends means s };
+
+    /// A rest has one value.
+    ghost one_value: { (s : Self) → HasOneValue means s };
+
+    /// A rest holds bytes.
+    ghost holds_bytes: { (s : Self) → HoldsBytes means s };
+
+    /// Takes the byte, or refuses it. A token that refuses, or is refused memory, is unchanged. Memory is wanted last: only
+    /// for a byte with which some rest begins.
     fn step(&mut self, byte: u8) -> Result<bool, OutOfMemory>
         ensures taken { IfTaken result (Follows means self.old byte self.new) }
         ensures refused { IfRefused result (NoneBegins means self.old byte) }
         ensures same { UnlessTaken result (Same means self.old self.new) }
         ensures same_size { UnlessTaken result (size self.new ≡ size self.old) }
         ensures size { size self.new ≤ size self.old + 1 }
-        ensures memory { OnErr result (IsTrue grows) };
+        ensures memory { OnErr result (IsTrue grows) }
+        ensures last { OnErr result (Begins means self.old byte) };
 
     /// Whether some rest begins with the byte.
     fn allows(&self, byte: u8) -> bool
@@ -53,19 +70,4 @@ pub trait Token: Drop {
     /// The sum of the lengths of the vectors in a value.
     fn weight_of(value: &Self::Out) -> u64
         ensures { result ≡ told (weight value.now) };
-
-    /// Every state can be completed.
-    ghost completes: { (s : Self) → Completes means s };
-
-    /// A type whose states have no vector has none to count.
-    ghost no_size: { IsFalse grows → (s : Self) → size s ≡ 0 };
-
-    /// Nothing need follow exactly where the empty rest has a value.
-    ghost ends_is: { (s : Self) → IsTrue (ends s) ↔ Ends means s };
-
-    /// A rest has one value.
-    ghost one_value: { (s : Self) → HasOneValue means s };
-
-    /// A rest holds bytes.
-    ghost holds_bytes: { (s : Self) → HoldsBytes means s };
 }

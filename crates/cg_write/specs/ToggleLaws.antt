@@ -1,19 +1,12 @@
 -- What holds of toggles.
-use Rattle.std.proofs.Common.{◌≡◌, ℕ, ◌≤◌, ◌<◌, ◌↔◌, Bool, true, false, ◌&&◌, ◌||◌, nat_lt, List, [], ◌∷◌, ◌++◌, length, refl, sym, ◌∙◌, ap, subst, arith, IsTrue, IsFalse}
+use Rattle.std.proofs.Common.{◌≡◌, ℕ, ◌≤◌, ◌<◌, ◌↔◌, Bool, true, false, List, [], ◌∷◌, ◌++◌, refl, sym, ◌∙◌, ap, subst, arith}
 use Rattle.cg_text.specs.AboveSpace.{AreAboveSpace}
-use Rattle.cg_text.specs.Token.{AreBytes, Completes, Ends, HasOneText, HasOneValue, HoldsBytes}
-use Rattle.cg_text.specs.WordLaws.{text_word, words_bytes, word_bytes, word_completes, word_ends_is, word_one}
-use Rattle.cg_text.specs.WordState.{IsWordRest}
-use Rattle.cg_text.specs.declared.byte.ByteText.{ByteText}
-use Rattle.cg_text.specs.declared.word.WordText.{WordText}
-use Rattle.cg_join.specs.Choice.{IsChoice, ShareNone}
+use Rattle.cg_text.specs.Token.{AreBytes, HasOneText}
+use Rattle.cg_text.specs.WordLaws.{text_word, words_bytes}
 use Rattle.cg_join.specs.DisjointLaws.{fixed_disjoint}
-use Rattle.cg_join.specs.Join.{AreApart, IsSequence}
 use Rattle.cg_join.specs.LackingLaws.{above_lacking, concat_lacking, turned_lacking, word_lacking}
-use Rattle.cg_join.specs.Lawful.{ByteRest, IsLawful, byte_lawful, choice_lawful, mapped_lawful, sequence_lawful}
-use Rattle.cg_join.specs.Mapped.{IsMapped}
 use Rattle.cg_join.specs.Repeat.{LacksEmpty}
-use Rattle.cg_join.specs.Spelling.{Apart, Disjoint, IsTurned}
+use Rattle.cg_join.specs.Spelling.{Disjoint, IsTurned}
 use Rattle.cg_join.specs.TextBytes.{IsFixed, Lacking}
 use Rattle.cg_join.specs.WordStartLaws.{SpellsWord, some_word}
 use Rattle.cg_join.specs.declared.choice.Either.TheVariants.{Left, Right}
@@ -52,13 +45,6 @@ toggle_is text t = (
 
 pub plus_not_minus : Disjoint (IsFixed (43 ∷ [])) (IsFixed (45 ∷ []))
 plus_not_minus = fixed_disjoint (43 ∷ []) (45 ∷ []) refl
-
-one_byte : (a b byte : ℕ) (front more : List ℕ) → front ≡ a ∷ [] → front ++ byte ∷ more ≡ b ∷ [] → ⊥
-one_byte a b byte front more e f = let g : a ∷ byte ∷ more ≡ b ∷ [] = rw e at f in cc
-
--- A sign goes on with nothing.
-pub sign_apart : Apart IsSign (SpellsWord true)
-sign_apart front more back byte v u w h k l = one_byte (sign_of (is_on v)) (sign_of (is_on u)) byte front more (sign_to front v h) (sign_to (front ++ byte ∷ more) u k)
 
 signs_above : (text : List ℕ) (v : OneOfTwo) → IsSign text v → AreAboveSpace text
 signs_above text (Left u) h = rw h (omega arith, tt)
@@ -99,31 +85,3 @@ sign_small false = omega arith
 
 pub toggle_bytes : (text : List ℕ) (t : Toggle) → IsToggle text t → AreBytes text
 toggle_bytes text t h = rw h.0 (sign_small t.on, words_bytes t.name (text_word true t.name h.1).1)
-
--- ---- The laws of a state
-
-abbrev pub WordRest : WordText → List ℕ → List ℕ → Type 0
-WordRest s rest word = IsWordRest s.controller s.bytes.items rest word
-
-abbrev pub word_ends : WordText → Bool
-word_ends s = nat_lt 0 (length s.bytes.items)
-
-word_lawful : (s : WordText) → IsLawful WordRest s (word_ends s)
-word_lawful s = record {
-  completes = word_completes s.controller s.bytes.items s.sound;
-  ends_is = word_ends_is s.controller s.bytes.items s.sound;
-  one_value = word_one s.controller s.bytes.items;
-  holds_bytes = λ rest word h. word_bytes s.controller s.bytes.items rest word h;
-}
-
-pub sign_lawful : (plus minus : ByteText) (l r : Bool) → IsTrue (l || r) → (IsTrue l → IsTrue r → ShareNone ByteRest ByteRest plus minus) →
-    IsLawful (λ (u : Unit {0}) rest v. IsChoice ByteRest ByteRest l r plus minus rest v) tt ((l && plus.taken) || (r && minus.taken))
-sign_lawful plus minus l r some apart = choice_lawful l r some apart (byte_lawful plus) (byte_lawful minus)
-
-pub toggle_lawful : {S : Type 0} (first : S → List ℕ → OneOfTwo → Type 0) (s : S) (name : WordText) (b : Bool) →
-    (IsFalse b → AreApart first WordRest s name) → {e : Bool} → (IsTrue b → IsTrue e) →
-    Completes first s → IsTrue e ↔ Ends first s → HasOneValue first s → HoldsBytes first s →
-    IsLawful (IsMapped (λ (u : Unit {0}) rest v. IsSequence first WordRest b s name rest v.0 v.1) toggle_of) tt ((b || e) && word_ends name)
-toggle_lawful first s name b apart {e} ended completes ends one bytes =
-    let sign : IsLawful first s e = record { completes = completes; ends_is = ends; one_value = one; holds_bytes = bytes } in
-    mapped_lawful toggle_of (sequence_lawful b apart ended sign (word_lawful name))

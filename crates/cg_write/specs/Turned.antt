@@ -1,12 +1,11 @@
 -- How the values of lines are turned into settings.
-use Rattle.std.specs.Prelude.{ℕ, ℤ, Bool, true, false, List, length, Option, Some, None}
+use Rattle.std.specs.Prelude.{ℕ, ℤ, Bool, true, false, List, Option, Some, None}
 use Rattle.cg_text.specs.declared.pairs.LimitPairs.{LimitPairs}
 use Rattle.cg_text.specs.declared.trigger.Times.{Times}
 use Rattle.cg_text.specs.declared.values.Clamp.{Clamp}
 use Rattle.cg_text.specs.declared.values.Device.{Device}
 use Rattle.cg_text.specs.declared.values.Limit.{Limit}
 use Rattle.cg_join.specs.LimitState.{limit_of}
-use Rattle.cg_join.specs.Repeat.{out_weight}
 use Rattle.cg_join.specs.declared.choice.Either.{Either}
 use Rattle.cg_join.specs.declared.choice.Either.TheVariants.{Left, Right}
 use Rattle.cg_value.specs.WriteLine.{limits_setting}
@@ -48,18 +47,8 @@ role_setting v = setting.Role (role_of v.0)
 abbrev pub set_setting : List (ℕ × ℕ) × Unit {0} → Setting
 set_setting v = setting.Set v.0
 
--- The number of ranges in a set.
-abbrev pub set_weight : Setting → ℕ
-set_weight (setting.Set set) = length set
-set_weight _ = 0
-
 abbrev pub raw_setting : List ℕ × Unit {0} → Setting
 raw_setting v = setting.Raw v.0
-
--- The number of bytes of a raw line.
-abbrev pub raw_weight : Setting → ℕ
-raw_weight (setting.Raw bytes) = length bytes
-raw_weight _ = 0
 
 -- The second of two values, where there are two.
 abbrev pub second_of : Option (Unit {0} × ℕ) → Option ℕ
@@ -108,11 +97,6 @@ toggle_of v = record { on = is_on v.0; name = v.1 }
 
 abbrev pub controllers_setting : List Toggle × Unit {0} → Setting
 controllers_setting v = setting.Controllers v.0
-
--- The lengths of the names, and the spaces between.
-abbrev pub controllers_weight : Setting → ℕ
-controllers_weight (setting.Controllers toggles) = out_weight (λ t. length t.name) toggles
-controllers_weight _ = 0
 
 -- A weight, or default, which is none.
 abbrev pub chosen_weight : Either (Unit {0}) ℕ → Option ℕ

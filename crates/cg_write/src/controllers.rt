@@ -1,5 +1,5 @@
-//! The text of a write of controllers (cgroup-v2.rst, cgroup.subtree_control).
-ghost use Rattle.std.specs.Prelude.{◌≡◌, ◌≤◌, ◌<◌, ◌+◌};
+//! A write of controllers that are enabled and disabled for the groups below (cgroup-v2.rst, cgroup.subtree_control).
+ghost use Rattle.std.specs.Prelude.{◌≡◌, ◌≤◌, ◌+◌, ◌↔◌, true, IsTrue, IsFalse};
 ghost use Rattle.cg_text.specs.Token.{Spells};
 ghost use Rattle.cg_value.specs.Settings.{WriteText};
 ghost use Rattle.cg_value.specs.declared.kind.WriteForm.TheVariants.{Controllers as ControllersForm};
@@ -7,43 +7,12 @@ ghost use Rattle.cg_write.specs.Texts.{AreJoinedToggles};
 
 use crate::toggle::{ToggleStart, ToggleText};
 use cg_join::{Line, Repeat, Sequence, Turn, one_line};
-use cg_text::{ByteText, Items, Token};
+use cg_text::{ByteText, Items, OutOfMemory, Token};
 use cg_value::{Setting, Toggle};
 use std::alloc::Global;
 
 /// One or more toggles with single spaces between.
-pub type TogglesText = Repeat<ToggleText, ToggleStart>;
-
-/// A line of toggles, turned into the setting.
-#[derive(Clone, Copy)]
-pub struct ToControllers;
-
-impl Turn<Sequence<TogglesText, ByteText>> for ToControllers {
-    type To = Setting;
-
-    ghost use Rattle.cg_write.specs.Turned.{controllers_setting, controllers_weight};
-    ghost use Rattle.std.proofs.Common.{arith};
-
-    ghost turned = { controllers_setting };
-
-    ghost weight = { controllers_weight };
-
-    fn turn(value: (Items<Toggle>, ())) -> Setting {
-        Setting::Controllers(value.0)
-    }
-
-    fn weight_of(value: &Setting) -> u64 {
-        match value {
-            Setting::Controllers(toggles) => TogglesText::weight_of(toggles),
-            _ => 0,
-        }
-    }
-
-    ghost no_more = { λ v. Prim.omega arith };
-}
-
-/// The text of a write of controllers.
-pub type ControllersWrite = Line<TogglesText, ToControllers>;
+type TogglesText = Repeat<ToggleText, ToggleStart>;
 
 /// One or more toggles with single spaces between.
 fn toggles_text(alloc: Global) -> TogglesText
@@ -53,10 +22,95 @@ fn toggles_text(alloc: Global) -> TogglesText
     Repeat::new(alloc, ToggleStart::new(alloc), b' ')
 }
 
-/// A write of controllers that are enabled and disabled for the groups below (cgroup-v2.rst, cgroup.subtree_control).
-pub fn controllers_write(alloc: Global) -> ControllersWrite
-    ensures spells { Spells ⟦<ControllersWrite as Token>⟧.means result (λ text s. WriteText ControllersForm s text) }
-    ensures size { ⟦<ControllersWrite as Token>⟧.size result ≡ 0 }
-{
-    one_line(toggles_text(alloc))
+/// The line, turned into the setting.
+#[derive(Clone, Copy)]
+struct ToControllers;
+
+impl Turn<Sequence<TogglesText, ByteText>> for ToControllers {
+    type To = Setting;
+
+    ghost use Rattle.cg_write.specs.Turned.{controllers_setting};
+    ghost use Rattle.std.proofs.Common.{arith};
+
+    ghost turned = { controllers_setting };
+
+    ghost weight = { λ _. 0 };
+
+    fn turn(value: (Items<Toggle>, ())) -> Setting {
+        Setting::Controllers(value.0)
+    }
+
+    fn weight_of(_value: &Setting) -> u64 {
+        0
+    }
+
+    ghost no_more = { λ v. Prim.omega arith };
+}
+
+type Text = Line<TogglesText, ToControllers>;
+
+/// The text of a write of controllers, each with `+` or `-` before it.
+#[derive(Drop)]
+pub struct ControllersWrite {
+    text: Text,
+}
+
+impl ControllersWrite {
+    /// The text of a write of controllers, each with `+` or `-` before it (cgroup-v2.rst, cgroup.subtree_control).
+    pub fn new(alloc: Global) -> ControllersWrite
+        ensures spells { Spells ⟦<ControllersWrite as Token>⟧.means result (λ text s. WriteText ControllersForm s text) }
+        ensures size { ⟦<ControllersWrite as Token>⟧.size result ≡ 0 }
+    {
+        ControllersWrite {
+            text: one_line(toggles_text(alloc)),
+        }
+    }
+}
+
+impl Token for ControllersWrite {
+    type Out = Setting;
+
+    ghost means = { λ s. ⟦<Text as Token>⟧.means s.text };
+
+    ghost size = { λ s. ⟦<Text as Token>⟧.size s.text };
+
+    ghost weight = { λ _. 0 };
+
+    ghost ends = { λ s. ⟦<Text as Token>⟧.ends s.text };
+
+    ghost grows = { ⟦<Text as Token>⟧.grows };
+
+    ghost completes = { λ s. ⟦<Text as Token>⟧.completes s.text };
+
+    ghost no_size = { λ e s. ⟦<Text as Token>⟧.no_size e s.text };
+
+    ghost ends_is = { λ s. ⟦<Text as Token>⟧.ends_is s.text };
+
+    ghost one_value = { λ s. ⟦<Text as Token>⟧.one_value s.text };
+
+    ghost holds_bytes = { λ s. ⟦<Text as Token>⟧.holds_bytes s.text };
+
+    fn step(&mut self, byte: u8) -> Result<bool, OutOfMemory> {
+        self.text.step(byte)
+    }
+
+    fn allows(&self, byte: u8) -> bool {
+        self.text.allows(byte)
+    }
+
+    fn can_end(&self) -> bool {
+        self.text.can_end()
+    }
+
+    fn held(&self) -> u64 {
+        self.text.held()
+    }
+
+    fn take(self) -> Setting {
+        self.text.take()
+    }
+
+    fn weight_of(_value: &Setting) -> u64 {
+        0
+    }
 }

@@ -1,5 +1,5 @@
 //! A controller that is enabled or disabled (cgroup-v2.rst, cgroup.subtree_control).
-ghost use Rattle.std.specs.Prelude.{◌≡◌, ◌+◌, ◌≤◌, ℕ, List, length, true};
+ghost use Rattle.std.specs.Prelude.{◌≡◌, ◌≤◌, ◌+◌, ◌↔◌, true, IsTrue, IsFalse, length};
 ghost use Rattle.cg_text.specs.Token.{Spells};
 ghost use Rattle.cg_write.specs.Texts.{IsSign, IsToggle};
 
@@ -74,10 +74,7 @@ impl ToggleText {
 impl Token for ToggleText {
     type Out = Toggle;
 
-    ghost use Rattle.cg_text.specs.WordLaws.{true_not_false};
-    ghost use Rattle.cg_write.specs.ToggleLaws.{sign_lawful, toggle_lawful};
-
-    ghost means = { λ s rest v. ⟦<Parts as Token>⟧.means s.parts rest v };
+    ghost means = { λ s. ⟦<Parts as Token>⟧.means s.parts };
 
     ghost size = { λ s. ⟦<Parts as Token>⟧.size s.parts };
 
@@ -85,7 +82,17 @@ impl Token for ToggleText {
 
     ghost ends = { λ s. ⟦<Parts as Token>⟧.ends s.parts };
 
-    ghost grows = { true };
+    ghost grows = { ⟦<Parts as Token>⟧.grows };
+
+    ghost completes = { λ s. ⟦<Parts as Token>⟧.completes s.parts };
+
+    ghost no_size = { λ e s. ⟦<Parts as Token>⟧.no_size e s.parts };
+
+    ghost ends_is = { λ s. ⟦<Parts as Token>⟧.ends_is s.parts };
+
+    ghost one_value = { λ s. ⟦<Parts as Token>⟧.one_value s.parts };
+
+    ghost holds_bytes = { λ s. ⟦<Parts as Token>⟧.holds_bytes s.parts };
 
     #[inline(always)]
     fn step(&mut self, byte: u8) -> Result<bool, OutOfMemory> {
@@ -111,16 +118,6 @@ impl Token for ToggleText {
     fn weight_of(value: &Toggle) -> u64 {
         value.name.bytes().len() as u64
     }
-
-    ghost completes = { λ s. (let p = s.parts.token in let sign = sign_lawful p.first.left p.first.right p.first.left_lives p.first.right_lives p.first.some p.first.apart in toggle_lawful ⟦<SignText as Token>⟧.means p.first p.second p.in_second p.apart p.ended sign.completes sign.ends_is sign.one_value sign.holds_bytes).completes };
-
-    ghost no_size = { λ e _. absurd (true_not_false e) };
-
-    ghost ends_is = { λ s. (let p = s.parts.token in let sign = sign_lawful p.first.left p.first.right p.first.left_lives p.first.right_lives p.first.some p.first.apart in toggle_lawful ⟦<SignText as Token>⟧.means p.first p.second p.in_second p.apart p.ended sign.completes sign.ends_is sign.one_value sign.holds_bytes).ends_is };
-
-    ghost one_value = { λ s. (let p = s.parts.token in let sign = sign_lawful p.first.left p.first.right p.first.left_lives p.first.right_lives p.first.some p.first.apart in toggle_lawful ⟦<SignText as Token>⟧.means p.first p.second p.in_second p.apart p.ended sign.completes sign.ends_is sign.one_value sign.holds_bytes).one_value };
-
-    ghost holds_bytes = { λ s. (let p = s.parts.token in let sign = sign_lawful p.first.left p.first.right p.first.left_lives p.first.right_lives p.first.some p.first.apart in toggle_lawful ⟦<SignText as Token>⟧.means p.first p.second p.in_second p.apart p.ended sign.completes sign.ends_is sign.one_value sign.holds_bytes).holds_bytes };
 }
 
 /// Makes tokens of toggles.

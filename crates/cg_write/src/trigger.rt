@@ -1,23 +1,34 @@
-//! The text of a write of a pressure trigger (psi.rst, "Monitoring for pressure thresholds").
-ghost use Rattle.std.specs.Prelude.{◌≡◌, ◌≤◌};
+//! A write of a pressure trigger (psi.rst, "Monitoring for pressure thresholds").
+ghost use Rattle.std.specs.Prelude.{◌≡◌, ◌≤◌, ◌+◌, ◌↔◌, true, IsTrue, IsFalse};
 ghost use Rattle.cg_text.specs.Token.{Spells};
 ghost use Rattle.cg_value.specs.Settings.{WriteText};
 ghost use Rattle.cg_value.specs.declared.kind.WriteForm.TheVariants.{Trigger as TriggerForm};
 ghost use Rattle.cg_write.specs.Texts.{IsThreshold};
 
 use cg_join::{Choice, Either, Line, Sequence, Spaced, Turn, one_line, spaced};
-use cg_text::{ByteText, Keyword, KeywordText, Times, Token, TriggerText};
+use cg_text::{ByteText, Keyword, KeywordText, OutOfMemory, Times, Token, TriggerText};
 use cg_value::Setting;
 
 /// `some` or `full`.
 type TasksText = Choice<KeywordText, KeywordText>;
 
 /// `some` or `full`, a space, and a stall and a window.
-pub type ThresholdText = Sequence<TasksText, Spaced<TriggerText>>;
+type ThresholdText = Sequence<TasksText, Spaced<TriggerText>>;
 
-/// A line of a trigger, turned into the setting.
+/// `some` or `full`, a space, and a stall and a window.
+fn threshold_text() -> ThresholdText
+    ensures spells { Spells ⟦<ThresholdText as Token>⟧.means result IsThreshold }
+    ensures size { ⟦<ThresholdText as Token>⟧.size result ≡ 0 }
+{
+    let some = KeywordText::new(Keyword::Some);
+    let full = KeywordText::new(Keyword::Full);
+    let tasks = Choice::new(some, full);
+    Sequence::new(tasks, spaced(TriggerText::new()))
+}
+
+/// The line, turned into the setting.
 #[derive(Clone, Copy)]
-pub struct ToTrigger;
+struct ToTrigger;
 
 impl Turn<Sequence<ThresholdText, ByteText>> for ToTrigger {
     type To = Setting;
@@ -48,25 +59,70 @@ impl Turn<Sequence<ThresholdText, ByteText>> for ToTrigger {
     ghost no_more = { λ v. Prim.omega arith };
 }
 
-/// The text of a write of a pressure trigger.
-pub type TriggerWrite = Line<ThresholdText, ToTrigger>;
+type Text = Line<ThresholdText, ToTrigger>;
 
-/// `some` or `full`, a space, and a stall and a window.
-fn threshold_text() -> ThresholdText
-    ensures spells { Spells ⟦<ThresholdText as Token>⟧.means result IsThreshold }
-    ensures size { ⟦<ThresholdText as Token>⟧.size result ≡ 0 }
-{
-    let some = KeywordText::new(Keyword::Some);
-    let full = KeywordText::new(Keyword::Full);
-    let tasks = Choice::new(some, full);
-    Sequence::new(tasks, spaced(TriggerText::new()))
+/// The text of a write of `some` or `full`, and a stall and a window in microseconds.
+#[derive(Drop)]
+pub struct TriggerWrite {
+    text: Text,
 }
 
-/// A write of a pressure trigger: `some` or `full`, a stall and a window in microseconds (psi.rst, "Monitoring for pressure
-/// thresholds").
-pub fn trigger_write() -> TriggerWrite
-    ensures spells { Spells ⟦<TriggerWrite as Token>⟧.means result (λ text s. WriteText TriggerForm s text) }
-    ensures size { ⟦<TriggerWrite as Token>⟧.size result ≡ 0 }
-{
-    one_line(threshold_text())
+impl TriggerWrite {
+    /// The text of a write of `some` or `full`, and a stall and a window in microseconds (psi.rst, "Monitoring for pressure thresholds").
+    pub fn new() -> TriggerWrite
+        ensures spells { Spells ⟦<TriggerWrite as Token>⟧.means result (λ text s. WriteText TriggerForm s text) }
+        ensures size { ⟦<TriggerWrite as Token>⟧.size result ≡ 0 }
+    {
+        TriggerWrite {
+            text: one_line(threshold_text()),
+        }
+    }
+}
+
+impl Token for TriggerWrite {
+    type Out = Setting;
+
+    ghost means = { λ s. ⟦<Text as Token>⟧.means s.text };
+
+    ghost size = { λ s. ⟦<Text as Token>⟧.size s.text };
+
+    ghost weight = { λ _. 0 };
+
+    ghost ends = { λ s. ⟦<Text as Token>⟧.ends s.text };
+
+    ghost grows = { ⟦<Text as Token>⟧.grows };
+
+    ghost completes = { λ s. ⟦<Text as Token>⟧.completes s.text };
+
+    ghost no_size = { λ e s. ⟦<Text as Token>⟧.no_size e s.text };
+
+    ghost ends_is = { λ s. ⟦<Text as Token>⟧.ends_is s.text };
+
+    ghost one_value = { λ s. ⟦<Text as Token>⟧.one_value s.text };
+
+    ghost holds_bytes = { λ s. ⟦<Text as Token>⟧.holds_bytes s.text };
+
+    fn step(&mut self, byte: u8) -> Result<bool, OutOfMemory> {
+        self.text.step(byte)
+    }
+
+    fn allows(&self, byte: u8) -> bool {
+        self.text.allows(byte)
+    }
+
+    fn can_end(&self) -> bool {
+        self.text.can_end()
+    }
+
+    fn held(&self) -> u64 {
+        self.text.held()
+    }
+
+    fn take(self) -> Setting {
+        self.text.take()
+    }
+
+    fn weight_of(_value: &Setting) -> u64 {
+        0
+    }
 }

@@ -4,11 +4,12 @@ use Rattle.cg_text.specs.Token.{told}
 use Rattle.cg_join.specs.Repeat.{items_weight}
 use Rattle.cg_join.specs.Pairs.{pair_weight}
 use Rattle.cg_join.specs.RepeatLaws.{told_more, told_sum, weight_pushed}
+use Rattle.cg_text.specs.contracts.word.WordTextToken.TheImpl as word_text
 use Rattle.cg_join.proofs.pairing.weight_of_pairs.Goals as goal
 
 pub loop-pair-preserved : goal.loop-pair-preserved
 loop-pair-preserved g c =
-    let k = g.K.Token.weight in
+    let k = word_text.ghosts.weight in
     let d = g.V.Token.weight in
     let f = pair_weight g.F.Pairing.word_of g.F.Pairing.value_of k d in
     let xs = c.args.items.now in

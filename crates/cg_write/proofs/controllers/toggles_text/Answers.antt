@@ -1,4 +1,4 @@
-use Rattle.cg_write.specs.ControllerLaws.{toggle_stops}
+use Rattle.cg_write.specs.ControllersLaws.{toggle_stops}
 use Rattle.cg_write.specs.ToggleLaws.{toggle_filled}
 use Rattle.cg_write.proofs.controllers.toggles_text.Goals as goal
 

@@ -10,7 +10,7 @@ returns-in-Start g c =
 pub returns-in-First : goal.returns-in-First
 returns-in-First g c =
     let s = c.args.self.now in
-    let ended = g.met.A.Token.ends_is s.first in
+    let ended = g.A.Token.ends_is s.first in
     rw c.in-First.is (first_begins g.A.Token.means g.B.Token.means s.first s.second c.args.byte c.allows-first.result c.can_end-ended.result c.allows-second.result c.allows-first.ensures (rw (sym c.can_end-ended.ensures) at ended) c.allows-second.ensures)
 
 pub returns-in-Second : goal.returns-in-Second
@@ -21,4 +21,4 @@ returns-in-Second g c =
 pub returns-in-Both : goal.returns-in-Both
 returns-in-Both g c =
     let s = c.args.self.now in
-    rw c.in-Both.is (both_begin g.A.Token.means g.B.Token.means s.first s.second c.args.byte c.allows-second.result ((g.met.A.Token.ends_is s.first).0 (s.ended (rw c.in-Both.is refl))) c.allows-second.ensures)
+    rw c.in-Both.is (both_begin g.A.Token.means g.B.Token.means s.first s.second c.args.byte c.allows-second.result ((g.A.Token.ends_is s.first).0 (s.ended (rw c.in-Both.is refl))) c.allows-second.ensures)

@@ -10,7 +10,7 @@ returns-in-Before g c =
 pub returns-then-byte-eq32 : goal.returns-then-byte-eq32
 returns-then-byte-eq32 g c =
     let s = c.args.self.now in
-    rw c.in-Perhaps.is (space_begins (g.T.Token.means s.token) s.ready _ c.args.byte (eq-eqb c.args.byte 32 c.if-byte-eq32.true) c.if-byte-eq32.true (g.met.T.Token.completes s.token))
+    rw c.in-Perhaps.is (space_begins (g.T.Token.means s.token) s.ready _ c.args.byte (eq-eqb c.args.byte 32 c.if-byte-eq32.true) c.if-byte-eq32.true (g.T.Token.completes s.token))
 
 pub returns-else-byte-eq32 : goal.returns-else-byte-eq32
 returns-else-byte-eq32 g c =

@@ -2,8 +2,11 @@ use Rattle.std.proofs.Common.{◌≡◌, [], ◌∷◌, ◌++◌, map, length, S
 use Rattle.cg_join.specs.Keyed.{IsKeyed}
 use Rattle.cg_join.specs.KeyedState.{is_begun}
 use Rattle.cg_join.specs.KeyedLaws.{distinct_added, distinct_first, keyed_alike, keyed_lacks, keyed_one, new_lacks, none_kept}
-use Rattle.cg_join.specs.KeyedStateLaws.{end_refused, end_step, none_refused}
+use Rattle.cg_join.specs.KeyedStateLaws.{end_refused, end_step, none_refused, end_begins}
 use Rattle.cg_join.specs.LinesLaws.{lacks_same}
+use Rattle.cg_text.specs.WordState.{is_taken}
+use Rattle.cg_join.specs.WordStartLaws.{SpellsWord, taken_is}
+use Rattle.cg_text.specs.contracts.word.WordTextToken.TheImpl as word_text
 use Rattle.cg_join.proofs.keyed.KeyedLines.end_alone.Goals as goal
 
 pub returns-in-None-clause-refused : goal.returns-in-None-clause-refused
@@ -14,9 +17,9 @@ returns-in-None-clause-refused g c =
     let given = g.C.Collection.given in
     let items = g.C.Collection.pairs_of old.pairs in
     let alone = g.B.Follow.alone old.values in
-    let K = g.K.Token.means old.key in
+    let K = word_text.ghosts.means old.key in
     let D = g.V.Token.means old.value in
-    let R = IsKeyed k v (g.A.Start.texts old.keys) (g.B.Start.texts old.values) alone old.mark in
+    let R = IsKeyed k v (SpellsWord old.keys.controller) (g.B.Start.texts old.values) alone old.mark in
     let lacks = keyed_lacks k v alone old.mark K D old.end old.apart old.key_end old.value_end in
     rw c.requires (none_refused k v given items R K D alone old.mark old.end (is_begun old.stage) lacks (sym c.alone.ensures ∙ c.in-None.is))
 
@@ -28,14 +31,14 @@ returns-then-not-is_new_key-clause-refused g c =
     let given = g.C.Collection.given in
     let items = g.C.Collection.pairs_of old.pairs in
     let alone = g.B.Follow.alone old.values in
-    let K = g.K.Token.means old.key in
+    let K = word_text.ghosts.means old.key in
     let D = g.V.Token.means old.value in
-    let R = IsKeyed k v (g.A.Start.texts old.keys) (g.B.Start.texts old.values) alone old.mark in
-    let f = g.K.Peek.is_value old.key in
-    let e = g.K.Token.ends old.key in
-    let is = g.met.K.Peek.is_value_is old.key in
-    let ended = g.met.K.Token.ends_is old.key in
-    let one = g.met.K.Token.one_value old.key in
+    let R = IsKeyed k v (SpellsWord old.keys.controller) (g.B.Start.texts old.values) alone old.mark in
+    let f = is_taken old.key.bytes.items in
+    let e = word_text.ghosts.ends old.key in
+    let is = taken_is old.key.controller old.key.bytes.items old.key.sound in
+    let ended = word_text.ghosts.ends_is old.key in
+    let one = word_text.ghosts.one_value old.key in
     let lacks = keyed_lacks k v alone old.mark K D old.end old.apart old.key_end old.value_end in
     rw c.requires (end_refused k v given items R K D alone old.mark old.end (is_begun old.stage) f e is ended one lacks (sym c.is_new_key.ensures ∙ c.if-not-is_new_key.true))
 
@@ -44,10 +47,10 @@ push-requires-clause-new g c =
     let old = c.args.self.now in
     let k = g.C.Collection.key_of in
     let items = g.C.Collection.pairs_of old.pairs in
-    let K = g.K.Token.means old.key in
-    let f = g.K.Peek.is_value old.key in
-    let e = g.K.Token.ends old.key in
-    let is = g.met.K.Peek.is_value_is old.key in
+    let K = word_text.ghosts.means old.key in
+    let f = is_taken old.key.bytes.items in
+    let e = word_text.ghosts.ends old.key in
+    let is = taken_is old.key.controller old.key.bytes.items old.key.sound in
     let key = c.renew-key.result in
     let kv = c.renew-key.ensures.value in
     let new = new_lacks K f e is (map k items) (sym c.is_new_key.ensures ∙ c.if-not-is_new_key.false) key kv in
@@ -59,10 +62,10 @@ invariant_of-self-2 g c =
     let k = g.C.Collection.key_of in
     let items = g.C.Collection.pairs_of old.pairs in
     let alone = g.B.Follow.alone old.values in
-    let K = g.K.Token.means old.key in
-    let f = g.K.Peek.is_value old.key in
-    let e = g.K.Token.ends old.key in
-    let is = g.met.K.Peek.is_value_is old.key in
+    let K = word_text.ghosts.means old.key in
+    let f = is_taken old.key.bytes.items in
+    let e = word_text.ghosts.ends old.key in
+    let is = taken_is old.key.controller old.key.bytes.items old.key.sound in
     let key = c.renew-key.result in
     let kv = c.renew-key.ensures.value in
     let new = new_lacks K f e is (map k items) (sym c.is_new_key.ensures ∙ c.if-not-is_new_key.false) key kv in
@@ -71,10 +74,10 @@ invariant_of-self-2 g c =
     let value = c.in-Some.value in
     let p = g.C.Collection.paired key value in
     let added : g.C.Collection.pairs_of c.push.new.self ≡ items ++ p ∷ [] = c.push.ensures.pairs ∙ ap (λ x. x ++ p ∷ []) c.reserve.ensures.pairs in
-    let hk = g.met.C.Collection.has_key key value in
+    let hk = g.C.Collection.has_key key value in
     record {
-      key_mark = lacks_same old.mark (g.A.Start.texts old.keys) (g.K.Token.means c.renew-key.new.token) c.renew-key.ensures.spells.is old.keys_mark;
-      key_end = lacks_same old.end (g.A.Start.texts old.keys) (g.K.Token.means c.renew-key.new.token) c.renew-key.ensures.spells.is old.keys_end;
+      key_mark = lacks_same old.mark (SpellsWord old.keys.controller) (word_text.ghosts.means c.renew-key.new.token) c.renew-key.ensures.spells.is old.keys_mark;
+      key_end = lacks_same old.end (SpellsWord old.keys.controller) (word_text.ghosts.means c.renew-key.new.token) c.renew-key.ensures.spells.is old.keys_end;
       value_end = lacks_same old.end (g.B.Start.texts old.values) (g.V.Token.means c.start.result) c.start.ensures.spells.is old.values_end;
       apart = old.apart;
       small_mark = old.small_mark;
@@ -97,10 +100,10 @@ returns-clause-taken g c =
     let given = g.C.Collection.given in
     let items = g.C.Collection.pairs_of old.pairs in
     let alone = g.B.Follow.alone old.values in
-    let K = g.K.Token.means old.key in
+    let K = word_text.ghosts.means old.key in
     let D = g.V.Token.means old.value in
-    let R = IsKeyed k v (g.A.Start.texts old.keys) (g.B.Start.texts old.values) alone old.mark in
-    let one = g.met.K.Token.one_value old.key in
+    let R = IsKeyed k v (SpellsWord old.keys.controller) (g.B.Start.texts old.values) alone old.mark in
+    let one = word_text.ghosts.one_value old.key in
     let lacks = keyed_lacks k v alone old.mark K D old.end old.apart old.key_end old.value_end in
     let key = c.renew-key.result in
     let kv = c.renew-key.ensures.value in
@@ -108,10 +111,30 @@ returns-clause-taken g c =
     let is_alone = sym c.alone.ensures ∙ c.in-Some.is in
     let p = g.C.Collection.paired key value in
     let added : g.C.Collection.pairs_of c.push.new.self ≡ items ++ p ∷ [] = c.push.ensures.pairs ∙ ap (λ x. x ++ p ∷ []) c.reserve.ensures.pairs in
-    let hk = g.met.C.Collection.has_key key value in
-    let hv = g.met.C.Collection.has_value key value in
-    let F = IsKeyed k v (g.K.Token.means c.renew-key.new.token) (g.V.Token.means c.start.result) alone old.mark in
+    let hk = g.C.Collection.has_key key value in
+    let hv = g.C.Collection.has_value key value in
+    let F = IsKeyed k v (word_text.ghosts.means c.renew-key.new.token) (g.V.Token.means c.start.result) alone old.mark in
     rw c.requires
-    (end_step k v given items R K D alone old.mark old.end (is_begun old.stage) lacks (keyed_one k v alone old.mark K D g.C.Collection.paired g.met.C.Collection.whole old.key_mark one (g.met.V.Token.one_value old.value))
+    (end_step k v given items R K D alone old.mark old.end (is_begun old.stage) lacks (keyed_one k v alone old.mark K D g.C.Collection.paired g.C.Collection.whole old.key_mark one (g.V.Token.one_value old.value))
     p (rw hk kv) (is_alone ∙ ap Some (sym hv)) (g.C.Collection.pairs_of c.push.new.self) added F
-    (keyed_alike k v alone old.mark (g.K.Token.means c.renew-key.new.token) (g.A.Start.texts old.keys) (g.V.Token.means c.start.result) (g.B.Start.texts old.values) c.renew-key.ensures.spells.is c.start.ensures.spells.is))
+    (keyed_alike k v alone old.mark (word_text.ghosts.means c.renew-key.new.token) (SpellsWord old.keys.controller) (g.V.Token.means c.start.result) (g.B.Start.texts old.values) c.renew-key.ensures.spells.is c.start.ensures.spells.is))
+
+pub returns-in-Err-clause-last : goal.returns-in-Err-clause-last
+returns-in-Err-clause-last g c =
+    let old = c.args.self.now in
+    let k = g.C.Collection.key_of in
+    let v = g.C.Collection.value_of in
+    let given = g.C.Collection.given in
+    let items = g.C.Collection.pairs_of old.pairs in
+    let alone = g.B.Follow.alone old.values in
+    let K = word_text.ghosts.means old.key in
+    let D = g.V.Token.means old.value in
+    let R = IsKeyed k v (SpellsWord old.keys.controller) (g.B.Start.texts old.values) alone old.mark in
+    let f = is_taken old.key.bytes.items in
+    let e = word_text.ghosts.ends old.key in
+    let is = taken_is old.key.controller old.key.bytes.items old.key.sound in
+    let ended = word_text.ghosts.ends_is old.key in
+    let one = word_text.ghosts.one_value old.key in
+    let first = distinct_first (map k items) old.ended.items old.distinct in
+    let lacks = keyed_lacks k v alone old.mark K D old.end old.apart old.key_end old.value_end in
+    rw c.requires ((end_begins k v given items R K D alone old.mark old.end (is_begun old.stage) f e is ended one g.C.Collection.paired g.C.Collection.has_key g.C.Collection.has_value first lacks c.in-Some.value (sym c.alone.ensures ∙ c.in-Some.is)).0 (sym c.is_new_key.ensures ∙ c.if-not-is_new_key.false))

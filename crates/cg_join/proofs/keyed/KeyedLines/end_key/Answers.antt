@@ -3,8 +3,11 @@ use Rattle.cg_join.specs.DistinctLaws.{distinct_push}
 use Rattle.cg_join.specs.Keyed.{IsKeyed}
 use Rattle.cg_join.specs.KeyedState.{is_begun}
 use Rattle.cg_join.specs.KeyedLaws.{distinct_first, new_lacks, none_kept}
-use Rattle.cg_join.specs.KeyedStateLaws.{mark_refused, mark_step}
+use Rattle.cg_join.specs.KeyedStateLaws.{mark_refused, mark_step, mark_begins}
 use Rattle.cg_join.specs.LinesLaws.{lacks_same}
+use Rattle.cg_text.specs.WordState.{is_taken}
+use Rattle.cg_join.specs.WordStartLaws.{SpellsWord, taken_is}
+use Rattle.cg_text.specs.contracts.word.WordTextToken.TheImpl as word_text
 use Rattle.cg_join.proofs.keyed.KeyedLines.end_key.Goals as goal
 
 pub returns-then-not-is_new_key-clause-refused : goal.returns-then-not-is_new_key-clause-refused
@@ -15,14 +18,14 @@ returns-then-not-is_new_key-clause-refused g c =
     let given = g.C.Collection.given in
     let items = g.C.Collection.pairs_of old.pairs in
     let alone = g.B.Follow.alone old.values in
-    let K = g.K.Token.means old.key in
+    let K = word_text.ghosts.means old.key in
     let D = g.V.Token.means old.value in
-    let R = IsKeyed k v (g.A.Start.texts old.keys) (g.B.Start.texts old.values) alone old.mark in
-    let f = g.K.Peek.is_value old.key in
-    let e = g.K.Token.ends old.key in
-    let is = g.met.K.Peek.is_value_is old.key in
-    let ended = g.met.K.Token.ends_is old.key in
-    let one = g.met.K.Token.one_value old.key in
+    let R = IsKeyed k v (SpellsWord old.keys.controller) (g.B.Start.texts old.values) alone old.mark in
+    let f = is_taken old.key.bytes.items in
+    let e = word_text.ghosts.ends old.key in
+    let is = taken_is old.key.controller old.key.bytes.items old.key.sound in
+    let ended = word_text.ghosts.ends_is old.key in
+    let one = word_text.ghosts.one_value old.key in
     rw c.requires (mark_refused k v given items R K D alone old.mark old.end (is_begun old.stage) f e is ended one old.key_mark old.apart (sym c.is_new_key.ensures ∙ c.if-not-is_new_key.true))
 
 pub returns-in-Err-clause-same : goal.returns-in-Err-clause-same
@@ -35,10 +38,10 @@ invariant_of-self-2 g c =
     let k = g.C.Collection.key_of in
     let items = g.C.Collection.pairs_of old.pairs in
     let alone = g.B.Follow.alone old.values in
-    let K = g.K.Token.means old.key in
-    let f = g.K.Peek.is_value old.key in
-    let e = g.K.Token.ends old.key in
-    let is = g.met.K.Peek.is_value_is old.key in
+    let K = word_text.ghosts.means old.key in
+    let f = is_taken old.key.bytes.items in
+    let e = word_text.ghosts.ends old.key in
+    let is = taken_is old.key.controller old.key.bytes.items old.key.sound in
     let key = c.renew-key.result in
     let kv = c.renew-key.ensures.value in
     let new = new_lacks K f e is (map k items) (sym c.is_new_key.ensures ∙ c.if-not-is_new_key.false) key kv in
@@ -46,8 +49,8 @@ invariant_of-self-2 g c =
     let first = distinct_first (map k items) old.ended.items old.distinct in
     let held : c.put.new.items.items ≡ key ∷ [] = c.put.ensures ∙ ap (λ x. x ++ key ∷ []) (c.make_room.ensures.items ∙ none) in
     record {
-      key_mark = lacks_same old.mark (g.A.Start.texts old.keys) (g.K.Token.means c.renew-key.new.token) c.renew-key.ensures.spells.is old.keys_mark;
-      key_end = lacks_same old.end (g.A.Start.texts old.keys) (g.K.Token.means c.renew-key.new.token) c.renew-key.ensures.spells.is old.keys_end;
+      key_mark = lacks_same old.mark (SpellsWord old.keys.controller) (word_text.ghosts.means c.renew-key.new.token) c.renew-key.ensures.spells.is old.keys_mark;
+      key_end = lacks_same old.end (SpellsWord old.keys.controller) (word_text.ghosts.means c.renew-key.new.token) c.renew-key.ensures.spells.is old.keys_end;
       value_end = old.value_end;
       apart = old.apart;
       small_mark = old.small_mark;
@@ -70,12 +73,31 @@ returns-clause-taken g c =
     let given = g.C.Collection.given in
     let items = g.C.Collection.pairs_of old.pairs in
     let alone = g.B.Follow.alone old.values in
-    let K = g.K.Token.means old.key in
+    let K = word_text.ghosts.means old.key in
     let D = g.V.Token.means old.value in
-    let R = IsKeyed k v (g.A.Start.texts old.keys) (g.B.Start.texts old.values) alone old.mark in
-    let one = g.met.K.Token.one_value old.key in
+    let R = IsKeyed k v (SpellsWord old.keys.controller) (g.B.Start.texts old.values) alone old.mark in
+    let one = word_text.ghosts.one_value old.key in
     let key = c.renew-key.result in
     let kv = c.renew-key.ensures.value in
     let none = none_kept old.ended.items (rw c.requires at old.kept) in
     let held : c.put.new.items.items ≡ key ∷ [] = c.put.ensures ∙ ap (λ x. x ++ key ∷ []) (c.make_room.ensures.items ∙ none) in
-    rw c.requires (mark_step k v given items R K D alone old.mark old.end (is_begun old.stage) old.key_mark old.apart one key kv c.put.new.items.items held (g.K.Token.means c.renew-key.new.token))
+    rw c.requires (mark_step k v given items R K D alone old.mark old.end (is_begun old.stage) old.key_mark old.apart one key kv c.put.new.items.items held (word_text.ghosts.means c.renew-key.new.token))
+
+pub returns-in-Err-clause-last : goal.returns-in-Err-clause-last
+returns-in-Err-clause-last g c =
+    let old = c.args.self.now in
+    let k = g.C.Collection.key_of in
+    let v = g.C.Collection.value_of in
+    let given = g.C.Collection.given in
+    let items = g.C.Collection.pairs_of old.pairs in
+    let alone = g.B.Follow.alone old.values in
+    let K = word_text.ghosts.means old.key in
+    let D = g.V.Token.means old.value in
+    let R = IsKeyed k v (SpellsWord old.keys.controller) (g.B.Start.texts old.values) alone old.mark in
+    let f = is_taken old.key.bytes.items in
+    let e = word_text.ghosts.ends old.key in
+    let is = taken_is old.key.controller old.key.bytes.items old.key.sound in
+    let ended = word_text.ghosts.ends_is old.key in
+    let one = word_text.ghosts.one_value old.key in
+    let first = distinct_first (map k items) old.ended.items old.distinct in
+    rw c.requires ((mark_begins k v given items R K D alone old.mark old.end (is_begun old.stage) f e is ended one g.C.Collection.paired g.C.Collection.has_key g.C.Collection.has_value first old.key_mark old.apart (g.V.Token.completes old.value)).0 (sym c.is_new_key.ensures ∙ c.if-not-is_new_key.false))

@@ -1,6 +1,8 @@
 use Rattle.std.proofs.Common.{true, sym, ◌∙◌}
 use Rattle.cg_join.specs.Keyed.{IsKeyed}
 use Rattle.cg_join.specs.KeyedStateLaws.{over_begins, value_begins}
+use Rattle.cg_join.specs.WordStartLaws.{SpellsWord}
+use Rattle.cg_text.specs.contracts.word.WordTextToken.TheImpl as word_text
 use Rattle.cg_join.proofs.keyed.KeyedLinesToken.allows.Goals as goal
 
 pub returns-then-byte-self : goal.returns-then-byte-self
@@ -11,11 +13,11 @@ returns-then-byte-self g c =
     let given = g.C.Collection.given in
     let items = g.C.Collection.pairs_of old.pairs in
     let alone = g.B.Follow.alone old.values in
-    let K = g.K.Token.means old.key in
+    let K = word_text.ghosts.means old.key in
     let D = g.V.Token.means old.value in
-    let R = IsKeyed k v (g.A.Start.texts old.keys) (g.B.Start.texts old.values) alone old.mark in
-    let ends = g.met.V.Token.ends_is old.value in
-    let all = over_begins k v given items R K D alone old.mark old.end true old.ended.items g.C.Collection.paired g.met.C.Collection.has_key g.met.C.Collection.has_value old.distinct (rw c.in-InValue.is at old.kept) old.value_end in
+    let R = IsKeyed k v (SpellsWord old.keys.controller) (g.B.Start.texts old.values) alone old.mark in
+    let ends = g.V.Token.ends_is old.value in
+    let all = over_begins k v given items R K D alone old.mark old.end true old.ended.items g.C.Collection.paired g.C.Collection.has_key g.C.Collection.has_value old.distinct (rw c.in-InValue.is at old.kept) old.value_end in
     rw (c.in-InValue.is, c.if-byte-self.true) (λ h. all.0 (ends.0 (sym c.can_end.ensures ∙ h)), λ h. c.can_end.ensures ∙ ends.1 (all.1 h))
 
 pub returns-else-byte-self : goal.returns-else-byte-self
@@ -26,8 +28,8 @@ returns-else-byte-self g c =
     let given = g.C.Collection.given in
     let items = g.C.Collection.pairs_of old.pairs in
     let alone = g.B.Follow.alone old.values in
-    let K = g.K.Token.means old.key in
+    let K = word_text.ghosts.means old.key in
     let D = g.V.Token.means old.value in
-    let R = IsKeyed k v (g.A.Start.texts old.keys) (g.B.Start.texts old.values) alone old.mark in
-    let all = value_begins k v given items R K D alone old.mark old.end true old.ended.items g.C.Collection.paired g.met.C.Collection.has_key g.met.C.Collection.has_value old.distinct (rw c.in-InValue.is at old.kept) c.args.byte c.if-byte-self.false in
+    let R = IsKeyed k v (SpellsWord old.keys.controller) (g.B.Start.texts old.values) alone old.mark in
+    let all = value_begins k v given items R K D alone old.mark old.end true old.ended.items g.C.Collection.paired g.C.Collection.has_key g.C.Collection.has_value old.distinct (rw c.in-InValue.is at old.kept) c.args.byte c.if-byte-self.false in
     rw c.in-InValue.is (λ h. all.0 (c.allows.ensures.0 h), λ h. c.allows.ensures.1 (all.1 h))

@@ -11,5 +11,5 @@ returns-then-can_end g c =
 pub returns-else-can_end : goal.returns-else-can_end
 returns-else-can_end g c =
     let old = c.args.self.now in
-    let is = label_begins g.T.Token.means old.label (sym c.can_end.ensures ∙ c.if-can_end.false) old.token c.args.byte (g.met.T.Token.completes old.token) in
+    let is = label_begins g.T.Token.means old.label (sym c.can_end.ensures ∙ c.if-can_end.false) old.token c.args.byte (g.T.Token.completes old.token) in
     (λ h. is.0 (c.allows-else-can_end.ensures.0 h), λ h. c.allows-else-can_end.ensures.1 (is.1 h))

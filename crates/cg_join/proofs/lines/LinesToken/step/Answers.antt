@@ -1,6 +1,6 @@
-use Rattle.std.proofs.Common.{◌≡◌, true, [], ◌∷◌, ◌++◌, ◌∙◌, ap, arith}
+use Rattle.std.proofs.Common.{◌≡◌, true, [], ◌∷◌, ◌++◌, ◌∙◌, ap, arith, sym}
 use Rattle.cg_join.specs.RepeatLaws.{told_more, weight_pushed}
-use Rattle.cg_join.specs.LinesLaws.{lacks_taken, lacks_same, lines_taken, lines_same, lines_none, lines_next}
+use Rattle.cg_join.specs.LinesLaws.{lacks_taken, lacks_same, lines_taken, lines_same, lines_none, lines_next, lines_begins, lines_over}
 use Rattle.cg_join.specs.Repeat.{items_weight}
 use Rattle.cg_join.proofs.lines.LinesToken.step.Goals as goal
 
@@ -44,7 +44,7 @@ returns-then-not-can_end-clause-refused g c =
     let old = c.args.self.now in
     let e : c.args.byte ≡ old.end = c.if-byte-self.false in
     rw e (lines_none old.end (g.T.Token.means old.current) (g.S.Start.texts old.start) old.end (λ rest u h. old.lacks [] rest u h)
-    (λ e v h. absurd (let t : g.T.Token.ends old.current ≡ true = (g.met.T.Token.ends_is old.current).1 (v, h) in let f = c.if-not-can_end.true in let q = c.can_end.ensures in cc))
+    (λ e v h. absurd (let t : g.T.Token.ends old.current ≡ true = (g.T.Token.ends_is old.current).1 (v, h) in let f = c.if-not-can_end.true in let q = c.can_end.ensures in cc))
     old.begun old.items.items)
 
 pub returns-clause-taken : goal.returns-clause-taken
@@ -55,7 +55,7 @@ returns-clause-taken g c =
     let items : c.put.new.items.items ≡ old.items.items ++ v ∷ [] = c.put.ensures ∙ ap (λ x. x ++ v ∷ []) c.make_room.ensures.items in
     let ended = rw c.replace-done.ensures.value at c.take-value.ensures.value in
     rw (items, c.replace-done.ensures.after, e)
-    (lines_next old.end (g.T.Token.means old.current) (g.T.Token.means c.start-next.result) (g.S.Start.texts old.start) v ended (g.met.T.Token.one_value old.current) old.lacks c.start-next.ensures.spells.is old.begun old.items.items)
+    (lines_next old.end (g.T.Token.means old.current) (g.T.Token.means c.start-next.result) (g.S.Start.texts old.start) v ended (g.T.Token.one_value old.current) old.lacks c.start-next.ensures.spells.is old.begun old.items.items)
 
 pub invariant_of-self-2-clause-counted : goal.invariant_of-self-2-clause-counted
 invariant_of-self-2-clause-counted g c =
@@ -81,3 +81,13 @@ returns-clause-size g c =
     let fresh : size c.replace-done.new.dest ≡ 0 = ap size c.replace-done.ensures.after ∙ c.start-next.ensures.size in
     let done : size c.replace-done.result ≡ size old.current = ap size c.replace-done.ensures.value in
     omega (arith, weight_pushed f c.put.new.items.items old.items.items v items, fresh, done, c.take-value.ensures.weight)
+
+pub returns-in-Err-clause-last : goal.returns-in-Err-clause-last
+returns-in-Err-clause-last g c =
+    let old = c.args.self.now in
+    (lines_begins old.end (g.T.Token.means old.current) (g.S.Start.texts old.start) old.items.items old.begun c.args.byte c.if-byte-self.true).0 c.in-Err.ensures.last
+
+pub returns-in-Err-make_room-clause-last : goal.returns-in-Err-make_room-clause-last
+returns-in-Err-make_room-clause-last g c =
+    let old = c.args.self.now in
+    rw c.if-byte-self.false ((lines_over old.end (g.T.Token.means old.current) (g.S.Start.texts old.start) old.items.items old.begun old.lacks).0 ((g.T.Token.ends_is old.current).0 (sym c.can_end.ensures ∙ c.if-not-can_end.false)))

@@ -1,12 +1,14 @@
-use Rattle.std.proofs.Common.{◌≡◌, true, [], ◌+◌, arith}
+use Rattle.std.proofs.Common.{◌≡◌, true, [], ◌+◌, arith, refl, eqb, eqb-true, eq-eqb}
 use Rattle.cg_join.specs.Repeat.{items_weight}
 use Rattle.cg_join.specs.RepeatLaws.{stops_taken, stops_same, told_sum}
 use Rattle.cg_join.specs.LinesLaws.{lacks_same}
 use Rattle.cg_join.specs.Pairs.{IsPairText, pair_weight}
 use Rattle.cg_join.specs.PairsState.{WordAtHand, before_last}
-use Rattle.cg_join.specs.PairsLaws.{pair_alike, pair_step, paired_ended, value_one, value_step, value_step_refused, value_step_same}
-use Rattle.cg_join.specs.PairsStateLaws.{completed_distinct, completed_weight, last_word, one_last}
+use Rattle.cg_join.specs.PairsLaws.{pair_alike, pair_step, paired_ended, value_one, value_step, value_step_refused, value_step_same, value_begins, new_pair}
+use Rattle.cg_join.specs.PairsStateLaws.{completed_distinct, completed_weight, last_word, one_last, distinct_before}
 use Rattle.cg_join.specs.declared.pairs.Stage.TheVariants.{InWord, InValue}
+use Rattle.cg_join.specs.WordStartLaws.{SpellsWord, new_word_text}
+use Rattle.cg_text.specs.contracts.word.WordTextToken.TheImpl as word_text
 use Rattle.cg_join.proofs.pairs.DistinctPairs.step_value.Goals as goal
 
 word_not_value : InWord ≡ InValue → ⊥
@@ -35,16 +37,16 @@ returns-in-Ok-true-clause-taken g c =
     let w = g.F.Pairing.word_of in
     let v = g.F.Pairing.value_of in
     let paired = g.F.Pairing.paired in
-    let hw = g.met.F.Pairing.has_word in
-    let hv = g.met.F.Pairing.has_value in
-    let K = WordAtHand w InValue old.items.items (g.K.Token.means old.word) in
+    let hw = g.F.Pairing.has_word in
+    let hv = g.F.Pairing.has_value in
+    let K = WordAtHand w InValue old.items.items (word_text.ghosts.means old.word) in
     let D = g.V.Token.means old.value in
-    let R = IsPairText w v (g.A.Start.texts old.words) (g.B.Start.texts old.values) old.mark in
+    let R = IsPairText w v (SpellsWord old.words.controller) (g.B.Start.texts old.values) old.mark in
     let front = before_last old.items.items in
     let taken = rw c.in-Ok-true.field-0-test at c.in-Ok-true.ensures.taken in
     let D' = g.V.Token.means c.step.new.self in
     let k = last_word w old.items.items (old.begun c.requires) old.distinct in
-    let d = g.met.V.Token.completes c.step.new.self in
+    let d = g.V.Token.completes c.step.new.self in
     rw c.requires
     (value_step w v old.mark old.separator front R K D D' c.args.byte old.stops (d.0, paired k.0 d.1, paired_ended w v paired hw hv K D' d.0 k.0 d.1 k.1 d.2) taken)
 
@@ -54,11 +56,11 @@ returns-in-Err-clause-same g c =
     let w = g.F.Pairing.word_of in
     let v = g.F.Pairing.value_of in
     let paired = g.F.Pairing.paired in
-    let hw = g.met.F.Pairing.has_word in
-    let hv = g.met.F.Pairing.has_value in
-    let K = WordAtHand w InValue old.items.items (g.K.Token.means old.word) in
+    let hw = g.F.Pairing.has_word in
+    let hv = g.F.Pairing.has_value in
+    let K = WordAtHand w InValue old.items.items (word_text.ghosts.means old.word) in
     let D = g.V.Token.means old.value in
-    let R = IsPairText w v (g.A.Start.texts old.words) (g.B.Start.texts old.values) old.mark in
+    let R = IsPairText w v (SpellsWord old.words.controller) (g.B.Start.texts old.values) old.mark in
     let front = before_last old.items.items in
     rw c.requires (value_step_same w v old.mark old.separator front R K D (g.V.Token.means c.step.new.self) c.in-Err.ensures.same)
 
@@ -68,11 +70,11 @@ returns-then-byte-self-clause-refused g c =
     let w = g.F.Pairing.word_of in
     let v = g.F.Pairing.value_of in
     let paired = g.F.Pairing.paired in
-    let hw = g.met.F.Pairing.has_word in
-    let hv = g.met.F.Pairing.has_value in
-    let K = WordAtHand w InValue old.items.items (g.K.Token.means old.word) in
+    let hw = g.F.Pairing.has_word in
+    let hv = g.F.Pairing.has_value in
+    let K = WordAtHand w InValue old.items.items (word_text.ghosts.means old.word) in
     let D = g.V.Token.means old.value in
-    let R = IsPairText w v (g.A.Start.texts old.words) (g.B.Start.texts old.values) old.mark in
+    let R = IsPairText w v (SpellsWord old.words.controller) (g.B.Start.texts old.values) old.mark in
     let front = before_last old.items.items in
     let none = rw c.in-Ok-false.field-0-test at c.in-Ok-false.ensures.refused in
     rw c.requires (value_step_refused w v old.mark old.separator front R K D c.args.byte none (λ e. absurd (c.if-byte-self.true e)))
@@ -83,11 +85,11 @@ returns-then-byte-self-clause-same g c =
     let w = g.F.Pairing.word_of in
     let v = g.F.Pairing.value_of in
     let paired = g.F.Pairing.paired in
-    let hw = g.met.F.Pairing.has_word in
-    let hv = g.met.F.Pairing.has_value in
-    let K = WordAtHand w InValue old.items.items (g.K.Token.means old.word) in
+    let hw = g.F.Pairing.has_word in
+    let hv = g.F.Pairing.has_value in
+    let K = WordAtHand w InValue old.items.items (word_text.ghosts.means old.word) in
     let D = g.V.Token.means old.value in
-    let R = IsPairText w v (g.A.Start.texts old.words) (g.B.Start.texts old.values) old.mark in
+    let R = IsPairText w v (SpellsWord old.words.controller) (g.B.Start.texts old.values) old.mark in
     let front = before_last old.items.items in
     let same = rw c.in-Ok-false.field-0-test at c.in-Ok-false.ensures.same in
     rw c.requires (value_step_same w v old.mark old.separator front R K D (g.V.Token.means c.step.new.self) same)
@@ -98,16 +100,16 @@ returns-then-not-can_end-clause-refused g c =
     let w = g.F.Pairing.word_of in
     let v = g.F.Pairing.value_of in
     let paired = g.F.Pairing.paired in
-    let hw = g.met.F.Pairing.has_word in
-    let hv = g.met.F.Pairing.has_value in
-    let K = WordAtHand w InValue old.items.items (g.K.Token.means old.word) in
+    let hw = g.F.Pairing.has_word in
+    let hv = g.F.Pairing.has_value in
+    let K = WordAtHand w InValue old.items.items (word_text.ghosts.means old.word) in
     let D = g.V.Token.means old.value in
-    let R = IsPairText w v (g.A.Start.texts old.words) (g.B.Start.texts old.values) old.mark in
+    let R = IsPairText w v (SpellsWord old.words.controller) (g.B.Start.texts old.values) old.mark in
     let front = before_last old.items.items in
     let none = rw c.in-Ok-false.field-0-test at c.in-Ok-false.ensures.refused in
     let same = rw c.in-Ok-false.field-0-test at c.in-Ok-false.ensures.same in
     rw c.requires (value_step_refused w v old.mark old.separator front R K D c.args.byte none
-    (λ e x h. absurd (let t : g.V.Token.ends c.step.new.self ≡ true = (g.met.V.Token.ends_is c.step.new.self).1 (x, (same [] x).1 h) in let f = c.if-not-can_end.true in let q = c.can_end.ensures in cc)))
+    (λ e x h. absurd (let t : g.V.Token.ends c.step.new.self ≡ true = (g.V.Token.ends_is c.step.new.self).1 (x, (same [] x).1 h) in let f = c.if-not-can_end.true in let q = c.can_end.ensures in cc)))
 
 pub returns-then-not-can_end-clause-same : goal.returns-then-not-can_end-clause-same
 returns-then-not-can_end-clause-same g c =
@@ -115,11 +117,11 @@ returns-then-not-can_end-clause-same g c =
     let w = g.F.Pairing.word_of in
     let v = g.F.Pairing.value_of in
     let paired = g.F.Pairing.paired in
-    let hw = g.met.F.Pairing.has_word in
-    let hv = g.met.F.Pairing.has_value in
-    let K = WordAtHand w InValue old.items.items (g.K.Token.means old.word) in
+    let hw = g.F.Pairing.has_word in
+    let hv = g.F.Pairing.has_value in
+    let K = WordAtHand w InValue old.items.items (word_text.ghosts.means old.word) in
     let D = g.V.Token.means old.value in
-    let R = IsPairText w v (g.A.Start.texts old.words) (g.B.Start.texts old.values) old.mark in
+    let R = IsPairText w v (SpellsWord old.words.controller) (g.B.Start.texts old.values) old.mark in
     let front = before_last old.items.items in
     let same = rw c.in-Ok-false.field-0-test at c.in-Ok-false.ensures.same in
     rw c.requires (value_step_same w v old.mark old.separator front R K D (g.V.Token.means c.step.new.self) same)
@@ -130,18 +132,18 @@ invariant_of-self-2 g c =
     let w = g.F.Pairing.word_of in
     let v = g.F.Pairing.value_of in
     let paired = g.F.Pairing.paired in
-    let hw = g.met.F.Pairing.has_word in
-    let hv = g.met.F.Pairing.has_value in
-    let K = g.K.Token.means old.word in
+    let hw = g.F.Pairing.has_word in
+    let hv = g.F.Pairing.has_value in
+    let K = word_text.ghosts.means old.word in
     let D = g.V.Token.means old.value in
-    let R = IsPairText w v (g.A.Start.texts old.words) (g.B.Start.texts old.values) old.mark in
+    let R = IsPairText w v (SpellsWord old.words.controller) (g.B.Start.texts old.values) old.mark in
     let done = c.complete_last.ensures in
     let new = c.complete_last.new.items.items in
-    let f = pair_weight w v g.K.Token.weight g.V.Token.weight in
-    let weight : items_weight f new ≡ items_weight f old.items.items + g.V.Token.weight c.renew-value.result = completed_weight w v g.K.Token.weight g.V.Token.weight old.items.items new c.renew-value.result done (old.awaits c.requires) in
+    let f = pair_weight w v word_text.ghosts.weight g.V.Token.weight in
+    let weight : items_weight f new ≡ items_weight f old.items.items + g.V.Token.weight c.renew-value.result = completed_weight w v word_text.ghosts.weight g.V.Token.weight old.items.items new c.renew-value.result done (old.awaits c.requires) in
     record {
       counted = told_sum (items_weight f old.items.items) (g.V.Token.weight c.renew-value.result) (items_weight f new) old.kept c.weight_of-weight.result c.saturating_add-self.result old.counted c.weight_of-weight.ensures c.saturating_add-self.ensures weight;
-      lacks = lacks_same old.mark (g.A.Start.texts old.words) (g.K.Token.means c.start.result) c.start.ensures.spells.is old.words_lack;
+      lacks = lacks_same old.mark (SpellsWord old.words.controller) (word_text.ghosts.means c.start.result) c.start.ensures.spells.is old.words_lack;
       words_lack = old.words_lack;
       stops = stops_same old.separator (g.B.Start.texts old.values) (g.V.Token.means c.renew-value.new.token) c.renew-value.ensures.spells.is old.values_stop;
       values_stop = old.values_stop;
@@ -158,21 +160,21 @@ returns-clause-taken g c =
     let w = g.F.Pairing.word_of in
     let v = g.F.Pairing.value_of in
     let paired = g.F.Pairing.paired in
-    let hw = g.met.F.Pairing.has_word in
-    let hv = g.met.F.Pairing.has_value in
-    let K = WordAtHand w InValue old.items.items (g.K.Token.means old.word) in
+    let hw = g.F.Pairing.has_word in
+    let hv = g.F.Pairing.has_value in
+    let K = WordAtHand w InValue old.items.items (word_text.ghosts.means old.word) in
     let D = g.V.Token.means old.value in
-    let R = IsPairText w v (g.A.Start.texts old.words) (g.B.Start.texts old.values) old.mark in
+    let R = IsPairText w v (SpellsWord old.words.controller) (g.B.Start.texts old.values) old.mark in
     let front = before_last old.items.items in
     let none = rw c.in-Ok-false.field-0-test at c.in-Ok-false.ensures.refused in
     let same = rw c.in-Ok-false.field-0-test at c.in-Ok-false.ensures.same in
     let done = c.complete_last.ensures in
     let p = done.pair in
-    let F = IsPairText w v (g.K.Token.means c.start.result) (g.V.Token.means c.renew-value.new.token) old.mark in
+    let F = IsPairText w v (word_text.ghosts.means c.start.result) (g.V.Token.means c.renew-value.new.token) old.mark in
     rw (done.items, c.requires, c.if-byte-self.false)
     (pair_step w v old.mark old.separator front R K D F p done.has_word (rw done.has_value ((same [] c.renew-value.result).0 c.renew-value.ensures.value))
-    (value_one w v K old.mark paired g.met.F.Pairing.whole D (one_last w old.items.items) (g.met.V.Token.one_value old.value)) (rw c.if-byte-self.false at none)
-    (pair_alike w v old.mark (g.A.Start.texts old.words) (g.K.Token.means c.start.result) (g.B.Start.texts old.values) (g.V.Token.means c.renew-value.new.token) c.start.ensures.spells.is c.renew-value.ensures.spells.is))
+    (value_one w v K old.mark paired g.F.Pairing.whole D (one_last w old.items.items) (g.V.Token.one_value old.value)) (rw c.if-byte-self.false at none)
+    (pair_alike w v old.mark (SpellsWord old.words.controller) (word_text.ghosts.means c.start.result) (g.B.Start.texts old.values) (g.V.Token.means c.renew-value.new.token) c.start.ensures.spells.is c.renew-value.ensures.spells.is))
 
 pub returns-clause-size : goal.returns-clause-size
 returns-clause-size g c =
@@ -180,11 +182,26 @@ returns-clause-size g c =
     let w = g.F.Pairing.word_of in
     let v = g.F.Pairing.value_of in
     let paired = g.F.Pairing.paired in
-    let hw = g.met.F.Pairing.has_word in
-    let hv = g.met.F.Pairing.has_value in
-    let K = g.K.Token.means old.word in
+    let hw = g.F.Pairing.has_word in
+    let hv = g.F.Pairing.has_value in
+    let K = word_text.ghosts.means old.word in
     let D = g.V.Token.means old.value in
-    let R = IsPairText w v (g.A.Start.texts old.words) (g.B.Start.texts old.values) old.mark in
+    let R = IsPairText w v (SpellsWord old.words.controller) (g.B.Start.texts old.values) old.mark in
     let same_size = rw c.in-Ok-false.field-0-test at c.in-Ok-false.ensures.same_size in
-    let weight = completed_weight w v g.K.Token.weight g.V.Token.weight old.items.items c.complete_last.new.items.items c.renew-value.result c.complete_last.ensures (old.awaits c.requires) in
+    let weight = completed_weight w v word_text.ghosts.weight g.V.Token.weight old.items.items c.complete_last.new.items.items c.renew-value.result c.complete_last.ensures (old.awaits c.requires) in
     omega (arith, weight, same_size, c.start.ensures.size, c.renew-value.ensures.size, c.renew-value.ensures.weight)
+
+pub returns-in-Err-clause-last : goal.returns-in-Err-clause-last
+returns-in-Err-clause-last g c =
+    let old = c.args.self.now in
+    let w = g.F.Pairing.word_of in
+    let v = g.F.Pairing.value_of in
+    let paired = g.F.Pairing.paired in
+    let hw = g.F.Pairing.has_word in
+    let hv = g.F.Pairing.has_value in
+    let D = g.V.Token.means old.value in
+    let R = IsPairText w v (SpellsWord old.words.controller) (g.B.Start.texts old.values) old.mark in
+    let K = WordAtHand w InValue old.items.items (word_text.ghosts.means old.word) in
+    rw c.requires ((value_begins w v paired hw hv old.mark old.separator (before_last old.items.items) R K D (distinct_before w old.items.items old.distinct) c.args.byte true (eqb c.args.byte old.separator) (g.V.Token.ends old.value)
+    (λ e. c.in-Err.ensures.last, λ h. refl) (λ e. eqb-true c.args.byte old.separator e, λ e. eq-eqb c.args.byte old.separator e) (g.V.Token.ends_is old.value)
+    (last_word w old.items.items (old.begun c.requires) old.distinct) (new_pair w v paired hw hv old.mark (SpellsWord old.words.controller) (g.B.Start.texts old.values) (new_word_text old.words.controller) (g.met.B.Start.some_text old.values))).0 refl)

@@ -1,3 +1,4 @@
+use Rattle.cg_join.specs.LabelLaws.{if_err_as}
 use Rattle.std.proofs.Common.{◌≡◌, Bool, true, false, not, [], ◌∷◌, ◌++◌, map, refl, sym, ◌∙◌, ap, arith}
 use Rattle.cg_text.specs.Token.{told}
 use Rattle.cg_join.specs.Repeat.{items_weight}
@@ -6,10 +7,13 @@ use Rattle.cg_join.specs.Distinct.{any_value}
 use Rattle.cg_join.specs.DistinctLaws.{lacks_value}
 use Rattle.cg_join.specs.LinesLaws.{lacks_same}
 use Rattle.cg_join.specs.Pairs.{IsPairText, pair_weight}
-use Rattle.cg_join.specs.PairsLaws.{lacks_stepped, mark_refused, old_word_refused, paired_rest, word_step_refused, word_step_same, word_step_taken, words_pushed}
+use Rattle.cg_join.specs.PairsLaws.{lacks_stepped, mark_refused, old_word_refused, paired_rest, word_step_refused, word_step_same, word_step_taken, words_pushed, word_begins, mark_begins}
 use Rattle.cg_join.specs.PairsStateLaws.{mark_pushed, some_last, weight_last}
 use Rattle.cg_join.specs.declared.pairs.Stage.{Stage}
 use Rattle.cg_join.specs.declared.pairs.Stage.TheVariants.{InWord, InValue}
+use Rattle.cg_text.specs.WordState.{is_taken}
+use Rattle.cg_join.specs.WordStartLaws.{SpellsWord, word_new, taken_is}
+use Rattle.cg_text.specs.contracts.word.WordTextToken.TheImpl as word_text
 use Rattle.cg_join.proofs.pairs.DistinctPairs.step_word.Goals as goal
 
 word_not_value : (s : Stage) → s ≡ InWord → s ≡ InValue → ⊥
@@ -28,7 +32,7 @@ invariant_of-self g c =
     let old = c.args.self.now in
     record {
       counted = old.counted;
-      lacks = lacks_stepped old.mark c.step.result (g.K.Token.means old.word) (g.K.Token.means c.step.new.self) c.args.byte c.step.ensures.taken c.step.ensures.same old.lacks;
+      lacks = lacks_stepped old.mark c.step.result (word_text.ghosts.means old.word) (word_text.ghosts.means c.step.new.self) c.args.byte c.step.ensures.taken c.step.ensures.same old.lacks;
       words_lack = old.words_lack;
       stops = old.stops;
       values_stop = old.values_stop;
@@ -45,14 +49,14 @@ returns-then-byte-self-clause-taken g c =
     let w = g.F.Pairing.word_of in
     let v = g.F.Pairing.value_of in
     let paired = g.F.Pairing.paired in
-    let hw = g.met.F.Pairing.has_word in
-    let hv = g.met.F.Pairing.has_value in
-    let K = g.K.Token.means old.word in
+    let hw = g.F.Pairing.has_word in
+    let hv = g.F.Pairing.has_value in
+    let K = word_text.ghosts.means old.word in
     let D = g.V.Token.means old.value in
-    let R = IsPairText w v (g.A.Start.texts old.words) (g.B.Start.texts old.values) old.mark in
-    let K' = g.K.Token.means c.step.new.self in
-    let k = g.met.K.Token.completes c.step.new.self in
-    let d = g.met.V.Token.completes old.value in
+    let R = IsPairText w v (SpellsWord old.words.controller) (g.B.Start.texts old.values) old.mark in
+    let K' = word_text.ghosts.means c.step.new.self in
+    let k = word_text.ghosts.completes c.step.new.self in
+    let d = g.V.Token.completes old.value in
     rw c.requires
     (word_step_taken w v old.mark old.separator old.items.items R K D c.step.result K' c.args.byte c.if-byte-self.true old.lacks old.stops
     (k.0 ++ old.mark ∷ d.0, paired k.1 d.1, paired_rest w v paired hw hv K' D old.mark k.0 d.0 k.1 d.1 k.2 d.2) c.step.ensures.taken)
@@ -63,11 +67,11 @@ returns-then-byte-self-clause-refused g c =
     let w = g.F.Pairing.word_of in
     let v = g.F.Pairing.value_of in
     let paired = g.F.Pairing.paired in
-    let hw = g.met.F.Pairing.has_word in
-    let hv = g.met.F.Pairing.has_value in
-    let K = g.K.Token.means old.word in
+    let hw = g.F.Pairing.has_word in
+    let hv = g.F.Pairing.has_value in
+    let K = word_text.ghosts.means old.word in
     let D = g.V.Token.means old.value in
-    let R = IsPairText w v (g.A.Start.texts old.words) (g.B.Start.texts old.values) old.mark in
+    let R = IsPairText w v (SpellsWord old.words.controller) (g.B.Start.texts old.values) old.mark in
     rw c.requires (word_step_refused w v old.mark old.separator old.items.items R K D c.step.result c.args.byte c.if-byte-self.true c.step.ensures.refused)
 
 pub returns-then-byte-self-clause-same : goal.returns-then-byte-self-clause-same
@@ -76,12 +80,12 @@ returns-then-byte-self-clause-same g c =
     let w = g.F.Pairing.word_of in
     let v = g.F.Pairing.value_of in
     let paired = g.F.Pairing.paired in
-    let hw = g.met.F.Pairing.has_word in
-    let hv = g.met.F.Pairing.has_value in
-    let K = g.K.Token.means old.word in
+    let hw = g.F.Pairing.has_word in
+    let hv = g.F.Pairing.has_value in
+    let K = word_text.ghosts.means old.word in
     let D = g.V.Token.means old.value in
-    let R = IsPairText w v (g.A.Start.texts old.words) (g.B.Start.texts old.values) old.mark in
-    rw c.requires (word_step_same w v old.mark old.separator old.items.items R K D c.step.result (g.K.Token.means c.step.new.self) c.step.ensures.same)
+    let R = IsPairText w v (SpellsWord old.words.controller) (g.B.Start.texts old.values) old.mark in
+    rw c.requires (word_step_same w v old.mark old.separator old.items.items R K D c.step.result (word_text.ghosts.means c.step.new.self) c.step.ensures.same)
 
 pub returns-then-not-can_end-clause-refused : goal.returns-then-not-can_end-clause-refused
 returns-then-not-can_end-clause-refused g c =
@@ -89,14 +93,14 @@ returns-then-not-can_end-clause-refused g c =
     let w = g.F.Pairing.word_of in
     let v = g.F.Pairing.value_of in
     let paired = g.F.Pairing.paired in
-    let hw = g.met.F.Pairing.has_word in
-    let hv = g.met.F.Pairing.has_value in
-    let K = g.K.Token.means old.word in
+    let hw = g.F.Pairing.has_word in
+    let hv = g.F.Pairing.has_value in
+    let K = word_text.ghosts.means old.word in
     let D = g.V.Token.means old.value in
-    let R = IsPairText w v (g.A.Start.texts old.words) (g.B.Start.texts old.values) old.mark in
+    let R = IsPairText w v (SpellsWord old.words.controller) (g.B.Start.texts old.values) old.mark in
     rw (c.requires, c.if-byte-self.false)
     (mark_refused w v old.mark old.separator old.items.items R K D old.lacks
-    (λ x h. absurd (let t : g.K.Token.ends old.word ≡ true = (g.met.K.Token.ends_is old.word).1 (x, h) in let f = c.if-not-can_end.true in let q = c.can_end.ensures in cc)))
+    (λ x h. absurd (let t : word_text.ghosts.ends old.word ≡ true = (word_text.ghosts.ends_is old.word).1 (x, h) in let f = c.if-not-can_end.true in let q = c.can_end.ensures in cc)))
 
 pub returns-then-not-is_new_word-clause-refused : goal.returns-then-not-is_new_word-clause-refused
 returns-then-not-is_new_word-clause-refused g c =
@@ -104,16 +108,16 @@ returns-then-not-is_new_word-clause-refused g c =
     let w = g.F.Pairing.word_of in
     let v = g.F.Pairing.value_of in
     let paired = g.F.Pairing.paired in
-    let hw = g.met.F.Pairing.has_word in
-    let hv = g.met.F.Pairing.has_value in
-    let K = g.K.Token.means old.word in
+    let hw = g.F.Pairing.has_word in
+    let hv = g.F.Pairing.has_value in
+    let K = word_text.ghosts.means old.word in
     let D = g.V.Token.means old.value in
-    let R = IsPairText w v (g.A.Start.texts old.words) (g.B.Start.texts old.values) old.mark in
-    let f = g.K.Peek.is_value old.word in
+    let R = IsPairText w v (SpellsWord old.words.controller) (g.B.Start.texts old.values) old.mark in
+    let f = is_taken old.word.bytes.items in
     let there : any_value f (map w old.items.items) ≡ true =
     not_false (any_value f (map w old.items.items)) (ap (λ x. not (any_value f (map w x))) (sym c.as_slice.ensures.value) ∙ sym c.is_new_word.ensures ∙ c.if-not-is_new_word.true) in
     rw (c.requires, c.if-byte-self.false)
-    (old_word_refused w v old.mark old.separator old.items.items R K D old.lacks (g.met.K.Token.one_value old.word) f (λ x t. (g.met.K.Peek.is_value_is old.word x).0 t) there)
+    (old_word_refused w v old.mark old.separator old.items.items R K D old.lacks (word_text.ghosts.one_value old.word) f (λ x t. (taken_is old.word.controller old.word.bytes.items old.word.sound x).0 t) there)
 
 pub returns-in-Err-clause-same : goal.returns-in-Err-clause-same
 returns-in-Err-clause-same g c =
@@ -125,25 +129,25 @@ invariant_of-self-2 g c =
     let w = g.F.Pairing.word_of in
     let v = g.F.Pairing.value_of in
     let paired = g.F.Pairing.paired in
-    let hw = g.met.F.Pairing.has_word in
-    let hv = g.met.F.Pairing.has_value in
-    let K = g.K.Token.means old.word in
+    let hw = g.F.Pairing.has_word in
+    let hv = g.F.Pairing.has_value in
+    let K = word_text.ghosts.means old.word in
     let D = g.V.Token.means old.value in
-    let R = IsPairText w v (g.A.Start.texts old.words) (g.B.Start.texts old.values) old.mark in
+    let R = IsPairText w v (SpellsWord old.words.controller) (g.B.Start.texts old.values) old.mark in
     let x = c.renew-word.result in
     let p = c.begin.result in
     let items : c.put.new.items.items ≡ old.items.items ++ p ∷ [] = c.put.ensures ∙ ap (λ y. y ++ p ∷ []) c.make_room.ensures.items in
-    let f = pair_weight w v g.K.Token.weight g.V.Token.weight in
-    let one : f p ≡ g.K.Token.weight x = (let e = ap g.K.Token.weight c.begin.ensures.word in let h = c.begin.ensures.weight in omega (arith, e, h)) in
+    let f = pair_weight w v word_text.ghosts.weight g.V.Token.weight in
+    let one : f p ≡ word_text.ghosts.weight x = (let e = ap word_text.ghosts.weight c.begin.ensures.word in let h = c.begin.ensures.weight in omega (arith, e, h)) in
     let k = c.renew-word.ensures.value in
-    let is = g.met.K.Peek.is_value_is old.word in
-    let fresh : any_value (g.K.Peek.is_value old.word) (map w old.items.items) ≡ false =
-    not_true (any_value (g.K.Peek.is_value old.word) (map w old.items.items)) (ap (λ y. not (any_value (g.K.Peek.is_value old.word) (map w y))) (sym c.as_slice.ensures.value) ∙ sym c.is_new_word.ensures ∙ c.if-not-is_new_word.false) in
+    let is = taken_is old.word.controller old.word.bytes.items old.word.sound in
+    let fresh : any_value (is_taken old.word.bytes.items) (map w old.items.items) ≡ false =
+    not_true (any_value (is_taken old.word.bytes.items) (map w old.items.items)) (ap (λ y. not (any_value (is_taken old.word.bytes.items) (map w y))) (sym c.as_slice.ensures.value) ∙ sym c.is_new_word.ensures ∙ c.if-not-is_new_word.false) in
     let weighs : c.weight_of-weight.result ≡ told (f p) = c.weight_of-weight.ensures ∙ ap told (sym one) in
     record {
       counted = told_more (items_weight f old.items.items) (f p) (items_weight f c.put.new.items.items) old.kept c.saturating_add.result c.weight_of-weight.result c.saturating_add-self.result
           old.counted c.saturating_add.ensures weighs c.saturating_add-self.ensures (weight_pushed f c.put.new.items.items old.items.items p items);
-      lacks = lacks_same old.mark (g.A.Start.texts old.words) (g.K.Token.means c.renew-word.new.token) c.renew-word.ensures.spells.is old.words_lack;
+      lacks = lacks_same old.mark (SpellsWord old.words.controller) (word_text.ghosts.means c.renew-word.new.token) c.renew-word.ensures.spells.is old.words_lack;
       words_lack = old.words_lack;
       stops = old.stops;
       values_stop = old.values_stop;
@@ -152,7 +156,7 @@ invariant_of-self-2 g c =
       begun = λ _. rw items (some_last old.items.items p);
       awaits = λ _. rw items (weight_last (λ q. g.V.Token.weight (v q)) old.items.items p ∙ c.begin.ensures.weight);
       distinct = words_pushed w old.items.items c.put.new.items.items p items old.distinct
-          (rw c.begin.ensures.word (lacks_value (g.K.Peek.is_value old.word) (map w old.items.items) x fresh ((is x).1 k) (λ y e. (is y).1 (rw e k))));
+          (rw c.begin.ensures.word (lacks_value (is_taken old.word.bytes.items) (map w old.items.items) x fresh ((is x).1 k) (λ y e. (is y).1 (rw e k))));
     }
 
 pub returns-clause-taken : goal.returns-clause-taken
@@ -161,21 +165,21 @@ returns-clause-taken g c =
     let w = g.F.Pairing.word_of in
     let v = g.F.Pairing.value_of in
     let paired = g.F.Pairing.paired in
-    let hw = g.met.F.Pairing.has_word in
-    let hv = g.met.F.Pairing.has_value in
-    let K = g.K.Token.means old.word in
+    let hw = g.F.Pairing.has_word in
+    let hv = g.F.Pairing.has_value in
+    let K = word_text.ghosts.means old.word in
     let D = g.V.Token.means old.value in
-    let R = IsPairText w v (g.A.Start.texts old.words) (g.B.Start.texts old.values) old.mark in
+    let R = IsPairText w v (SpellsWord old.words.controller) (g.B.Start.texts old.values) old.mark in
     let x = c.renew-word.result in
     let p = c.begin.result in
     let items : c.put.new.items.items ≡ old.items.items ++ p ∷ [] = c.put.ensures ∙ ap (λ y. y ++ p ∷ []) c.make_room.ensures.items in
-    let f = pair_weight w v g.K.Token.weight g.V.Token.weight in
-    let one : f p ≡ g.K.Token.weight x = (let e = ap g.K.Token.weight c.begin.ensures.word in let h = c.begin.ensures.weight in omega (arith, e, h)) in
+    let f = pair_weight w v word_text.ghosts.weight g.V.Token.weight in
+    let one : f p ≡ word_text.ghosts.weight x = (let e = ap word_text.ghosts.weight c.begin.ensures.word in let h = c.begin.ensures.weight in omega (arith, e, h)) in
     let new = c.put.new.items.items in
     let k = c.renew-word.ensures.value in
-    let d = g.met.V.Token.completes old.value in
+    let d = g.V.Token.completes old.value in
     rw (c.requires, c.if-byte-self.false)
-    (mark_pushed w v old.mark old.separator old.items.items R K D paired hw hv new p items (rw c.begin.ensures.word k) (g.met.K.Token.one_value old.word) old.lacks old.stops d (g.K.Token.means c.renew-word.new.token))
+    (mark_pushed w v old.mark old.separator old.items.items R K D paired hw hv new p items (rw c.begin.ensures.word k) (word_text.ghosts.one_value old.word) old.lacks old.stops d (word_text.ghosts.means c.renew-word.new.token))
 
 pub returns-clause-size : goal.returns-clause-size
 returns-clause-size g c =
@@ -183,14 +187,44 @@ returns-clause-size g c =
     let w = g.F.Pairing.word_of in
     let v = g.F.Pairing.value_of in
     let paired = g.F.Pairing.paired in
-    let hw = g.met.F.Pairing.has_word in
-    let hv = g.met.F.Pairing.has_value in
-    let K = g.K.Token.means old.word in
+    let hw = g.F.Pairing.has_word in
+    let hv = g.F.Pairing.has_value in
+    let K = word_text.ghosts.means old.word in
     let D = g.V.Token.means old.value in
-    let R = IsPairText w v (g.A.Start.texts old.words) (g.B.Start.texts old.values) old.mark in
+    let R = IsPairText w v (SpellsWord old.words.controller) (g.B.Start.texts old.values) old.mark in
     let x = c.renew-word.result in
     let p = c.begin.result in
     let items : c.put.new.items.items ≡ old.items.items ++ p ∷ [] = c.put.ensures ∙ ap (λ y. y ++ p ∷ []) c.make_room.ensures.items in
-    let f = pair_weight w v g.K.Token.weight g.V.Token.weight in
-    let one : f p ≡ g.K.Token.weight x = (let e = ap g.K.Token.weight c.begin.ensures.word in let h = c.begin.ensures.weight in omega (arith, e, h)) in
+    let f = pair_weight w v word_text.ghosts.weight g.V.Token.weight in
+    let one : f p ≡ word_text.ghosts.weight x = (let e = ap word_text.ghosts.weight c.begin.ensures.word in let h = c.begin.ensures.weight in omega (arith, e, h)) in
     omega (arith, weight_pushed f c.put.new.items.items old.items.items p items, one, c.renew-word.ensures.size, c.renew-word.ensures.weight)
+
+pub returns-then-byte-self-clause-last : goal.returns-then-byte-self-clause-last
+returns-then-byte-self-clause-last g c =
+    let old = c.args.self.now in
+    let w = g.F.Pairing.word_of in
+    let v = g.F.Pairing.value_of in
+    let paired = g.F.Pairing.paired in
+    let hw = g.F.Pairing.has_word in
+    let hv = g.F.Pairing.has_value in
+    let D = g.V.Token.means old.value in
+    let R = IsPairText w v (SpellsWord old.words.controller) (g.B.Start.texts old.values) old.mark in
+    let K = word_text.ghosts.means old.word in
+    rw c.requires (if_err_as c.step.result (word_begins w v paired hw hv old.mark old.separator old.items.items R K D old.distinct c.args.byte c.if-byte-self.true
+    (λ h. word_new old.word.controller old.word.bytes.items (c.args.byte ∷ []) h (map w old.items.items)) (g.V.Token.completes old.value)).0 c.step.ensures.last)
+
+pub returns-in-Err-clause-last : goal.returns-in-Err-clause-last
+returns-in-Err-clause-last g c =
+    let old = c.args.self.now in
+    let w = g.F.Pairing.word_of in
+    let v = g.F.Pairing.value_of in
+    let paired = g.F.Pairing.paired in
+    let hw = g.F.Pairing.has_word in
+    let hv = g.F.Pairing.has_value in
+    let D = g.V.Token.means old.value in
+    let R = IsPairText w v (SpellsWord old.words.controller) (g.B.Start.texts old.values) old.mark in
+    let K = word_text.ghosts.means old.word in
+    let f = is_taken old.word.bytes.items in
+    let new : not (any_value f (map w old.items.items)) ≡ true = ap (λ x. not (any_value f (map w x))) (sym c.as_slice.ensures.value) ∙ sym c.is_new_word.ensures ∙ c.if-not-is_new_word.false in
+    rw (c.requires, c.if-byte-self.false) ((mark_begins w v paired hw hv old.mark old.separator old.items.items R K D old.distinct old.lacks (word_text.ghosts.one_value old.word) f (taken_is old.word.controller old.word.bytes.items old.word.sound) true
+    (λ e. (word_text.ghosts.ends_is old.word).0 (sym c.can_end.ensures ∙ c.if-not-can_end.false), λ h. refl) (g.V.Token.completes old.value)).0 new)

@@ -4,6 +4,8 @@ use Rattle.cg_join.specs.PairsState.{IsCompleted, WordAtHand, before_last}
 use Rattle.cg_join.specs.PairsLaws.{pairs_value}
 use Rattle.cg_join.specs.PairsStateLaws.{completed_distinct, completed_weight}
 use Rattle.cg_join.specs.declared.pairs.Stage.TheVariants.{InValue}
+use Rattle.cg_join.specs.WordStartLaws.{SpellsWord}
+use Rattle.cg_text.specs.contracts.word.WordTextToken.TheImpl as word_text
 use Rattle.cg_join.proofs.pairs.DistinctPairsToken.take.Goals as goal
 
 pub returns-clause-value : goal.returns-clause-value
@@ -11,9 +13,9 @@ returns-clause-value g c =
     let old = c.args.self in
     let w = g.F.Pairing.word_of in
     let v = g.F.Pairing.value_of in
-    let K = WordAtHand w InValue old.items.items (g.K.Token.means old.word) in
+    let K = WordAtHand w InValue old.items.items (word_text.ghosts.means old.word) in
     let D = g.V.Token.means old.value in
-    let R = IsPairText w v (g.A.Start.texts old.words) (g.B.Start.texts old.values) old.mark in
+    let R = IsPairText w v (SpellsWord old.words.controller) (g.B.Start.texts old.values) old.mark in
     let y = c.take.result in
     let done : IsCompleted w v old.items.items y c.of-in-InValue.result = rw c.of-in-InValue.ensures c.complete_last.ensures in
     rw c.in-InValue.is
@@ -27,5 +29,5 @@ returns-clause-weight g c =
     let v = g.F.Pairing.value_of in
     let y = c.take.result in
     let done : IsCompleted w v old.items.items y c.of-in-InValue.result = rw c.of-in-InValue.ensures c.complete_last.ensures in
-    let weight = completed_weight w v g.K.Token.weight g.V.Token.weight old.items.items c.of-in-InValue.result y done (old.awaits c.in-InValue.is) in
+    let weight = completed_weight w v word_text.ghosts.weight g.V.Token.weight old.items.items c.of-in-InValue.result y done (old.awaits c.in-InValue.is) in
     omega (arith, weight, c.take.ensures.weight)

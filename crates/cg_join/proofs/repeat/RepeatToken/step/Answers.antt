@@ -1,4 +1,4 @@
-use Rattle.std.proofs.Common.{◌≡◌, true, [], ◌∷◌, ◌++◌, ◌∙◌, ap, arith}
+use Rattle.std.proofs.Common.{◌≡◌, true, [], ◌∷◌, ◌++◌, ◌∙◌, ap, arith, refl}
 use Rattle.cg_join.specs.RepeatLaws.{stops_taken, stops_same, list_taken, list_same, list_none, list_next, told_more, weight_pushed}
 use Rattle.cg_join.specs.Repeat.{items_weight}
 use Rattle.cg_join.proofs.repeat.RepeatToken.step.Goals as goal
@@ -20,7 +20,7 @@ pub returns-in-Ok-true-clause-taken : goal.returns-in-Ok-true-clause-taken
 returns-in-Ok-true-clause-taken g c =
     let taken = rw c.in-Ok-true.field-0-test at c.in-Ok-true.ensures.taken in
     let old = c.args.self.now in
-    rw c.make_room.ensures.items (list_taken old.separator (g.T.Token.means old.current) (g.T.Token.means c.step.new.self) (g.S.Start.texts old.start) c.args.byte old.stops (g.met.T.Token.completes c.step.new.self) taken old.items.items)
+    rw c.make_room.ensures.items (list_taken old.separator (g.T.Token.means old.current) (g.T.Token.means c.step.new.self) (g.S.Start.texts old.start) c.args.byte old.stops (g.T.Token.completes c.step.new.self) taken old.items.items)
 
 pub returns-in-Err-step-clause-same : goal.returns-in-Err-step-clause-same
 returns-in-Err-step-clause-same g c =
@@ -45,7 +45,7 @@ returns-then-not-can_end-clause-refused g c =
     let same = rw c.in-Ok-false.field-0-test at c.in-Ok-false.ensures.same in
     let old = c.args.self.now in
     list_none old.separator (g.T.Token.means old.current) (g.S.Start.texts old.start) c.args.byte none
-    (λ e v h. absurd (let t : g.T.Token.ends c.step.new.self ≡ true = (g.met.T.Token.ends_is c.step.new.self).1 (v, (same [] v).1 h) in let f = c.if-not-can_end.true in let q = c.can_end.ensures in cc))
+    (λ e v h. absurd (let t : g.T.Token.ends c.step.new.self ≡ true = (g.T.Token.ends_is c.step.new.self).1 (v, (same [] v).1 h) in let f = c.if-not-can_end.true in let q = c.can_end.ensures in cc))
     old.items.items
 
 pub returns-then-not-can_end-clause-same : goal.returns-then-not-can_end-clause-same
@@ -64,7 +64,7 @@ returns-clause-taken g c =
     let items : c.put.new.items.items ≡ old.items.items ++ v ∷ [] = c.put.ensures ∙ ap (λ x. x ++ v ∷ []) c.make_room.ensures.items in
     let ended = (same [] v).0 (rw c.replace-done.ensures.value at c.take-value.ensures.value) in
     rw (items, c.replace-done.ensures.after, e)
-    (list_next old.separator (g.T.Token.means old.current) (g.T.Token.means c.start-next.result) (g.S.Start.texts old.start) v ended (g.met.T.Token.one_value old.current) (rw e at none) c.start-next.ensures.spells.is old.items.items)
+    (list_next old.separator (g.T.Token.means old.current) (g.T.Token.means c.start-next.result) (g.S.Start.texts old.start) v ended (g.T.Token.one_value old.current) (rw e at none) c.start-next.ensures.spells.is old.items.items)
 
 pub invariant_of-self-2-clause-counted : goal.invariant_of-self-2-clause-counted
 invariant_of-self-2-clause-counted g c =
@@ -85,7 +85,7 @@ invariant_of-self-2-clause-room g c =
     let old = c.args.self.now in
     let next = c.start-next.result in
     rw c.replace-done.ensures.after
-    (λ e. absurd (let v = (g.met.T.Token.ends_is next).0 e in old.filled v.0 ((c.start-next.ensures.spells.is [] v.0).0 v.1)))
+    (λ e. absurd (let v = (g.T.Token.ends_is next).0 e in old.filled v.0 ((c.start-next.ensures.spells.is [] v.0).0 v.1)))
 
 pub returns-clause-size : goal.returns-clause-size
 returns-clause-size g c =
@@ -105,3 +105,15 @@ returns-else-allowed-clause-refused g c rest v h =
     let allowed : c.allows-allowed.result ≡ true = c.allows-allowed.ensures.1 (rest, v, rw same h) in
     let differs = c.if-allowed.false in
     absurd {A = ⊥} (cc)
+
+pub returns-in-Err-step-clause-last : goal.returns-in-Err-step-clause-last
+returns-in-Err-step-clause-last g c =
+    let old = c.args.self.now in
+    let b = c.in-Err-step.ensures.last in
+    (b.0, old.items.items ++ b.1 ∷ [], (b.1 ∷ [], refl, b.2))
+
+pub returns-then-allowed-clause-last : goal.returns-then-allowed-clause-last
+returns-then-allowed-clause-last g c =
+    let old = c.args.self.now in
+    let same = c.in-Err.ensures.items in
+    rw (← same) (c.allows-allowed.ensures.0 c.if-allowed.true)

@@ -4,7 +4,7 @@ use Rattle.cg_line.proofs.reader.ValueReader.held.Goals as goal
 
 pub returns-clause-exact : goal.returns-clause-exact
 unfolding held_by
-returns-clause-exact c = c.all_held.ensures
+returns-clause-exact c = c.held.ensures
 
 pub returns-clause-most : goal.returns-clause-most
 unfolding held_by

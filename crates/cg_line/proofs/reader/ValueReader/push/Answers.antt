@@ -1,8 +1,9 @@
 use Rattle.std.proofs.Common.{[], ◌∷◌, ◌++◌}
 use Rattle.cg_line.specs.HeldLaws.{holds_more}
+use Rattle.cg_file.specs.HeldLaws.{file_settled}
 use Rattle.cg_file.specs.Kinds.{TextsOf}
-use Rattle.cg_machine.specs.MachineLaws.{is_value}
-use Rattle.cg_file_machine.specs.contracts.file_machine.FileMachineTextMachine.TheImpl.{ghosts}
+use Rattle.cg_line.specs.RestsLaws.{is_value}
+use Rattle.cg_file.specs.contracts.file_text.FileTextToken.TheImpl.{ghosts}
 use Rattle.cg_line.specs.Reads.{is_reads, held_by}
 use Rattle.cg_line.specs.ReadsLaws.{pushed_on, refused_byte}
 use Rattle.cg_line.proofs.reader.ValueReader.push.Goals as goal
@@ -11,21 +12,20 @@ pub returns-in-Ok-clause-pushed : goal.returns-in-Ok-clause-pushed
 unfolding held_by
 returns-in-Ok-clause-pushed c kind taken h =
     let was = is_reads c.args.self.now kind taken h in
-    let settled = c.in-Ok.ensures.settled in
-    pushed_on c.args.self.now c.take_byte.new.self c.after-self.result kind taken c.args.byte c.in-Ok.ensures.pushes (c.after-self.ensures taken)
-    (λ now. holds_more kind taken c.args.byte (held_by c.args.self.now) (ghosts.size c.take_byte.new.self) was.form c.take_byte.ensures.size (λ v t. settled v (is_value (TextsOf kind) (ghosts.means c.take_byte.new.self) (taken ++ c.args.byte ∷ []) v t now)) was.held) h
+    pushed_on c.args.self.now c.push_to.new.token c.after-self.result kind taken c.args.byte c.in-Ok.ensures.pushes (c.after-self.ensures taken)
+    (λ now. holds_more kind taken c.args.byte (held_by c.args.self.now) (ghosts.size c.push_to.new.token) was.form c.push_to.ensures.size (λ v t. file_settled c.push_to.new.token v (is_value (TextsOf kind) (ghosts.means c.push_to.new.token) (taken ++ c.args.byte ∷ []) v t now)) was.held) h
 
 pub returns-in-Ok-clause-held : goal.returns-in-Ok-clause-held
 unfolding held_by
-returns-in-Ok-clause-held c = c.take_byte.ensures.size
+returns-in-Ok-clause-held c = c.push_to.ensures.size
 
 pub returns-in-Err-clause-pushed : goal.returns-in-Err-clause-pushed
 returns-in-Err-clause-pushed c kind taken h =
-    refused_byte c.args.self.now c.take_byte.new.self kind taken c.args.byte c.in-Err.fault c.in-Err.ensures.pushes c.in-Err.ensures.same_size h
+    refused_byte c.args.self.now c.push_to.new.token kind taken c.args.byte c.in-Err.fault c.in-Err.ensures.pushes c.in-Err.ensures.same_size h
 
 pub returns-in-Err-clause-held : goal.returns-in-Err-clause-held
 unfolding held_by
-returns-in-Err-clause-held c = c.take_byte.ensures.size
+returns-in-Err-clause-held c = c.push_to.ensures.size
 
 pub returns-in-Err-clause-same_held : goal.returns-in-Err-clause-same_held
 unfolding held_by

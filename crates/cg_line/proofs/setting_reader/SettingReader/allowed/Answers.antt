@@ -3,17 +3,17 @@ use Rattle.cg_value.specs.Settings.{KindWrite}
 use Rattle.cg_line.specs.AllowedLaws.{allowed_more, allowed_same, allowed_all}
 use Rattle.cg_line.specs.TakesLaws.{next_write, write_bytes}
 use Rattle.cg_line.proofs.setting_reader.SettingReader.allowed.Goals as goal
-use Rattle.cg_line.proofs.setting_reader.SettingReader.allowed.Goals.{then-allows_byte, else-allows_byte}
+use Rattle.cg_line.proofs.setting_reader.SettingReader.allowed.Goals.{then-allows, else-allows}
 
 pub loop-number-preserved : goal.loop-number-preserved
 loop-number-preserved c kind taken h =
     let number = c.loop-number.number in
     let before = c.loop-number.invariant kind taken h in
     let next = next_write c.args.self.now kind taken h number in
-    elim c.if-allows_byte.branch [
-      | then-allows_byte w ↦ rw w.set-is (allowed_more (KindWrite kind) taken c.loop-number.set w.insert.new.self number before w.insert.ensures.added (next.0 (c.allows_byte.ensures.0 w.if-allows_byte.true)))
-      | else-allows_byte w ↦ rw w.set-is (allowed_same (KindWrite kind) taken c.loop-number.set number before
-          (λ goes. (let allowed : c.allows_byte.result ≡ true = c.allows_byte.ensures.1 (next.1 goes) in let refused = w.if-allows_byte.false in cc)))
+    elim c.if-allows.branch [
+      | then-allows w ↦ rw w.set-is (allowed_more (KindWrite kind) taken c.loop-number.set w.insert.new.self number before w.insert.ensures.added (next.0 (c.allows.ensures.0 w.if-allows.true)))
+      | else-allows w ↦ rw w.set-is (allowed_same (KindWrite kind) taken c.loop-number.set number before
+          (λ goes. (let allowed : c.allows.result ≡ true = c.allows.ensures.1 (next.1 goes) in let refused = w.if-allows.false in cc)))
     ]
 
 pub returns : goal.returns

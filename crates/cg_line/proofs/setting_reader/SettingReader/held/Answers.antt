@@ -3,7 +3,7 @@ use Rattle.cg_line.proofs.setting_reader.SettingReader.held.Goals as goal
 
 pub returns-clause-exact : goal.returns-clause-exact
 unfolding held_of
-returns-clause-exact c = c.all_held.ensures
+returns-clause-exact c = c.held.ensures
 
 pub returns-clause-most : goal.returns-clause-most
 unfolding held_of

@@ -1,7 +1,7 @@
-use Rattle.std.proofs.Common.{◌≡◌, true, ◌+◌, ◌∷◌, [], ◌++◌, arith, ap, sym, ◌∙◌}
-use Rattle.cg_text.specs.DecimalLaws.{number_digits}
+use Rattle.std.proofs.Common.{◌≡◌, true, ◌+◌, ◌∷◌, [], ◌++◌, arith, ap, sym, ◌∙◌, inl, inr}
+use Rattle.cg_text.specs.DecimalLaws.{number_digits, IsDecimalRest_completes}
 use Rattle.cg_text.specs.RangesState.{number_rest, begin_of, front}
-use Rattle.cg_text.specs.ListLaws.{list_digit, list_comma, list_dash, sound_comma, sound_dash, closed_length}
+use Rattle.cg_text.specs.ListLaws.{list_digit, list_comma, list_dash, sound_comma, sound_dash, closed_length, begun_list}
 use Rattle.cg_text.specs.RangesLaws.{rest_begun, digit_byte, fresh_new, number_one, some_length, begin_some, begin_none}
 use Rattle.cg_text.proofs.list.StrictListTextToken.step.Goals as goal
 use Rattle.cg_text.proofs.list.StrictListTextToken.step.Goals.{in-Some, in-None}
@@ -62,3 +62,17 @@ returns-in-Ok-close-clause-size c =
     let s = c.args.self.now in
     let t = c.in-Comma.ensures.turn in
     omega (arith, closed_length s.ranges.items c.close.new.ranges.items (c.match-self.begin, c.in-Comma.end) (0, 0) (some_length s.ranges.items (λ e. s.fresh e c.in-Comma.end t.1)) c.in-Ok-close.ensures.closed)
+
+pub returns-in-Err-clause-last : goal.returns-in-Err-clause-last
+returns-in-Err-clause-last c =
+    let s = c.args.self.now in
+    let t = c.in-Digit.ensures.turn in
+    let n = c.in-Digit.number in
+    let k = IsDecimalRest_completes n.lo n.hi n.progress n.range n.live in
+    begun_list s.ranges.items s.most s.low (number_rest s.number) c.args.byte (inl (k.0, k.1, (t k.0 k.1).0 k.2))
+
+pub returns-in-Err-close-clause-last : goal.returns-in-Err-close-clause-last
+returns-in-Err-close-clause-last c =
+    let s = c.args.self.now in
+    let t = c.in-Comma.ensures.turn in
+    begun_list s.ranges.items s.most s.low (number_rest s.number) c.args.byte (inr (inl (t.0, c.in-Comma.end, t.1, t.2)))

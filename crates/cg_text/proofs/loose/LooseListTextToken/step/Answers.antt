@@ -1,10 +1,10 @@
-use Rattle.std.proofs.Common.{◌≡◌, false, ◌∷◌, [], ◌++◌, arith, ap, sym, ◌∙◌}
-use Rattle.cg_text.specs.DecimalLaws.{number_digits}
+use Rattle.std.proofs.Common.{◌≡◌, false, ◌∷◌, [], ◌++◌, arith, ap, sym, ◌∙◌, inl, inr}
+use Rattle.cg_text.specs.DecimalLaws.{number_digits, IsDecimalRest_completes}
 use Rattle.cg_text.specs.RangesState.{number_rest, begin_of, front}
 use Rattle.cg_text.specs.RangesLaws.{rest_begun, digit_byte, fresh_new, number_one, begin_some, begin_none, front_push}
 use Rattle.cg_text.specs.LooseState.{Adds}
 use Rattle.cg_text.specs.NumbersLaws.{inserted, inserted_set}
-use Rattle.cg_text.specs.LooseLaws.{list_digit, list_comma, list_dash, sound_comma}
+use Rattle.cg_text.specs.LooseLaws.{list_digit, list_comma, list_dash, sound_comma, begun_list}
 use Rattle.cg_text.proofs.loose.LooseListTextToken.step.Goals as goal
 use Rattle.cg_text.proofs.loose.LooseListTextToken.step.Goals.{in-Some, in-None}
 
@@ -52,3 +52,17 @@ invariant_of-self-in-Ok-close c =
 
 pub returns-in-Ok-close-clause-size : goal.returns-in-Ok-close-clause-size
 returns-in-Ok-close-clause-size c = omega (arith, c.close.ensures.len, c.close.new.ranges.ok.0, c.args.self.now.ranges.ok.0)
+
+pub returns-in-Err-clause-last : goal.returns-in-Err-clause-last
+returns-in-Err-clause-last c =
+    let s = c.args.self.now in
+    let t = c.in-Digit.ensures.turn in
+    let n = c.in-Digit.number in
+    let k = IsDecimalRest_completes n.lo n.hi n.progress n.range n.live in
+    begun_list s.ranges.items s.most s.low (number_rest s.number) c.args.byte s.set s.sound (inl (k.0, k.1, (t k.0 k.1).0 k.2))
+
+pub returns-in-Err-close-clause-last : goal.returns-in-Err-close-clause-last
+returns-in-Err-close-clause-last c =
+    let s = c.args.self.now in
+    let t = c.in-Comma.ensures.turn in
+    begun_list s.ranges.items s.most s.low (number_rest s.number) c.args.byte s.set s.sound (inr (inl (t.0, c.in-Comma.end, t.1, t.2)))

@@ -1,9 +1,0 @@
-use Rattle.cg_join.specs.CutLaws.{label_spells}
-use Rattle.cg_join.specs.FilledLaws.{filled_spelled, first_filled, fixed_filled}
-use Rattle.cg_join.specs.MaybeLaws.{maybe_spells}
-use Rattle.cg_file.proofs.partition_file.why_text.Goals as goal
-
-pub returns-clause-spells : goal.returns-clause-spells
-returns-clause-spells c =
-    let k = maybe_spells (label_spells c.new.ensures.spells c.labelled.ensures.spells) c.new-2.ensures.spells in
-    record { is = k.is }

@@ -1,0 +1,242 @@
+//! A file of devices and their limits (cgroup-v2.rst, io.max).
+ghost use Rattle.std.specs.Prelude.{◌≡◌, ◌≤◌, ◌+◌, ◌↔◌, true, IsTrue, IsFalse};
+ghost use Rattle.cg_text.specs.Token.{Spells};
+ghost use Rattle.cg_value.specs.Files.{KindText};
+ghost use Rattle.cg_value.specs.declared.kind.ReadForm.TheVariants.{DeviceLimits as DeviceLimitsForm};
+ghost use Rattle.cg_value.specs.ReadLine.{IsLimitLine};
+
+use cg_join::{
+    DeviceText, LabelText, LimitText, Lines, Mapped, Sequence, Start, Turn, labelled, limit_in,
+};
+use cg_text::{Device, Items, Keyword, Limit, OutOfMemory, Token};
+use cg_value::{LimitLine, Value};
+use std::alloc::Global;
+
+/// Four limits, each after its label.
+type FourLimits = Sequence<
+    LabelText<LimitText>,
+    Sequence<LabelText<LimitText>, Sequence<LabelText<LimitText>, LabelText<LimitText>>>,
+>;
+
+/// The values of four limits, each after its label.
+type FourLimitValues = (((), Limit), (((), Limit), (((), Limit), ((), Limit))));
+
+/// A device and its limits, turned into a line's value.
+#[derive(Clone, Copy)]
+pub struct ToLimitLine;
+
+impl Turn<Sequence<DeviceText, FourLimits>> for ToLimitLine {
+    type To = LimitLine;
+
+    ghost use Rattle.cg_join.specs.SettledLaws.{zero_least};
+    ghost use Rattle.cg_file.specs.DeviceLineLaws.{limit_line};
+
+    ghost turned = { limit_line };
+
+    ghost weight = { λ _. 0 };
+
+    fn turn(value: (Device, FourLimitValues)) -> LimitLine {
+        let (device, ((_, rbps), ((_, wbps), ((_, riops), (_, wiops))))) = value;
+        LimitLine {
+            device,
+            rbps,
+            wbps,
+            riops,
+            wiops,
+        }
+    }
+
+    fn weight_of(_value: &LimitLine) -> u64 {
+        0
+    }
+
+    ghost no_more = { λ v. zero_least _ };
+}
+
+type LineParts = Mapped<Sequence<DeviceText, FourLimits>, ToLimitLine>;
+
+/// A line of a device, and ` rbps=`, ` wbps=`, ` riops=` and ` wiops=`, each with a limit.
+#[derive(Drop)]
+pub struct LimitLineText {
+    parts: LineParts,
+}
+
+impl LimitLineText {
+    /// A line of a device, and ` rbps=`, ` wbps=`, ` riops=` and ` wiops=`, each with a limit.
+    pub(crate) fn new() -> LimitLineText
+        ensures spells { Spells ⟦<LimitLineText as Token>⟧.means result (λ text line. IsLimitLine line text) }
+        ensures size { ⟦<LimitLineText as Token>⟧.size result ≡ 0 }
+    {
+        let wiops = labelled(Keyword::Wiops, limit_in(0, u64::MAX));
+        let riops = labelled(Keyword::Riops, limit_in(0, u64::MAX));
+        let wbps = labelled(Keyword::Wbps, limit_in(0, u64::MAX));
+        let rbps = labelled(Keyword::Rbps, limit_in(0, u64::MAX));
+        let two = Sequence::new(riops, wiops);
+        let three = Sequence::new(wbps, two);
+        let four = Sequence::new(rbps, three);
+        LimitLineText {
+            parts: Mapped::new(Sequence::new(DeviceText::new(), four)),
+        }
+    }
+}
+
+impl Token for LimitLineText {
+    type Out = LimitLine;
+
+    ghost means = { λ s. ⟦<LineParts as Token>⟧.means s.parts };
+
+    ghost size = { λ s. ⟦<LineParts as Token>⟧.size s.parts };
+
+    ghost weight = { λ _. 0 };
+
+    ghost ends = { λ s. ⟦<LineParts as Token>⟧.ends s.parts };
+
+    ghost grows = { ⟦<LineParts as Token>⟧.grows };
+
+    ghost completes = { λ s. ⟦<LineParts as Token>⟧.completes s.parts };
+
+    ghost no_size = { λ e s. ⟦<LineParts as Token>⟧.no_size e s.parts };
+
+    ghost ends_is = { λ s. ⟦<LineParts as Token>⟧.ends_is s.parts };
+
+    ghost one_value = { λ s. ⟦<LineParts as Token>⟧.one_value s.parts };
+
+    ghost holds_bytes = { λ s. ⟦<LineParts as Token>⟧.holds_bytes s.parts };
+
+    fn step(&mut self, byte: u8) -> Result<bool, OutOfMemory> {
+        self.parts.step(byte)
+    }
+
+    fn allows(&self, byte: u8) -> bool {
+        self.parts.allows(byte)
+    }
+
+    fn can_end(&self) -> bool {
+        self.parts.can_end()
+    }
+
+    fn held(&self) -> u64 {
+        self.parts.held()
+    }
+
+    fn take(self) -> LimitLine {
+        self.parts.take()
+    }
+
+    fn weight_of(_value: &LimitLine) -> u64 {
+        0
+    }
+}
+
+/// Makes tokens of such lines.
+#[derive(Clone, Copy)]
+pub struct LimitStart;
+
+impl Start<LimitLineText> for LimitStart {
+    ghost use Rattle.cg_file.specs.DeviceLineLaws.{limits_startable};
+
+    ghost texts = { λ _ text line. IsLimitLine line text };
+
+    fn start(&self) -> LimitLineText {
+        LimitLineText::new()
+    }
+
+    ghost some_text = { λ _. limits_startable.some };
+
+    ghost one_text = { λ _. limits_startable.one };
+
+    ghost text_bytes = { λ _. limits_startable.bytes };
+}
+
+/// A line, turned into the file's value.
+#[derive(Clone, Copy)]
+pub struct ToDeviceLimits;
+
+impl Turn<Lines<LimitLineText, LimitStart>> for ToDeviceLimits {
+    type To = Value;
+
+    ghost use Rattle.cg_join.specs.SettledLaws.{zero_least};
+    ghost use Rattle.cg_file.specs.DeviceLineLaws.{limits_value};
+
+    ghost turned = { limits_value };
+
+    ghost weight = { λ _. 0 };
+
+    fn turn(value: Items<LimitLine>) -> Value {
+        Value::DeviceLimits(value)
+    }
+
+    fn weight_of(_value: &Value) -> u64 {
+        0
+    }
+
+    ghost no_more = { λ v. zero_least _ };
+}
+
+type Text = Mapped<Lines<LimitLineText, LimitStart>, ToDeviceLimits>;
+
+/// The text of a file of any number of devices and their limits.
+#[derive(Drop)]
+pub struct DeviceLimitsFile {
+    text: Text,
+}
+
+impl DeviceLimitsFile {
+    /// The text of a file of any number of devices and their limits.
+    pub fn new(alloc: Global) -> DeviceLimitsFile
+        ensures spells { Spells ⟦<DeviceLimitsFile as Token>⟧.means result (λ text v. KindText DeviceLimitsForm v text) }
+        ensures size { ⟦<DeviceLimitsFile as Token>⟧.size result ≡ 0 }
+    {
+        DeviceLimitsFile {
+            text: Mapped::new(Lines::new(alloc, LimitStart, b'\n')),
+        }
+    }
+}
+
+impl Token for DeviceLimitsFile {
+    type Out = Value;
+
+    ghost means = { λ s. ⟦<Text as Token>⟧.means s.text };
+
+    ghost size = { λ s. ⟦<Text as Token>⟧.size s.text };
+
+    ghost weight = { λ _. 0 };
+
+    ghost ends = { λ s. ⟦<Text as Token>⟧.ends s.text };
+
+    ghost grows = { ⟦<Text as Token>⟧.grows };
+
+    ghost completes = { λ s. ⟦<Text as Token>⟧.completes s.text };
+
+    ghost no_size = { λ e s. ⟦<Text as Token>⟧.no_size e s.text };
+
+    ghost ends_is = { λ s. ⟦<Text as Token>⟧.ends_is s.text };
+
+    ghost one_value = { λ s. ⟦<Text as Token>⟧.one_value s.text };
+
+    ghost holds_bytes = { λ s. ⟦<Text as Token>⟧.holds_bytes s.text };
+
+    fn step(&mut self, byte: u8) -> Result<bool, OutOfMemory> {
+        self.text.step(byte)
+    }
+
+    fn allows(&self, byte: u8) -> bool {
+        self.text.allows(byte)
+    }
+
+    fn can_end(&self) -> bool {
+        self.text.can_end()
+    }
+
+    fn held(&self) -> u64 {
+        self.text.held()
+    }
+
+    fn take(self) -> Value {
+        self.text.take()
+    }
+
+    fn weight_of(_value: &Value) -> u64 {
+        0
+    }
+}

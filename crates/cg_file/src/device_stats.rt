@@ -1,0 +1,364 @@
+//! A file of devices and what they did (cgroup-v2.rst, io.stat).
+ghost use Rattle.std.specs.Prelude.{◌≡◌, ◌≤◌, ◌+◌, ◌↔◌, true, IsTrue, IsFalse};
+ghost use Rattle.cg_text.specs.Token.{Spells};
+ghost use Rattle.cg_value.specs.Files.{KindText};
+ghost use Rattle.cg_value.specs.declared.kind.ReadForm.TheVariants.{DeviceStats as DeviceStatsForm};
+ghost use Rattle.cg_value.specs.ReadLine.{IsStatLine};
+ghost use Rattle.cg_file.specs.StatFileLaws.{AreStatPairs};
+
+use crate::pad::PadText;
+use cg_join::{
+    AmountText, DeviceText, DistinctPairs, Lines, Mapped, Pairing, Sequence, Start, Turn, WordStart,
+};
+use cg_text::{Amount, Device, Items, Key, OutOfMemory, Token};
+use cg_value::{StatLine, StatPair, Value};
+use std::alloc::Global;
+
+/// Makes tokens of amounts.
+#[derive(Clone, Copy)]
+pub struct AmountStart;
+
+impl Start<AmountText> for AmountStart {
+    ghost use Rattle.cg_text.specs.Amount.{IsAmount};
+    ghost use Rattle.cg_file.specs.StartableLaws.{amount_startable};
+
+    ghost texts = { λ _ text amount. IsAmount amount text };
+
+    fn start(&self) -> AmountText {
+        AmountText::new()
+    }
+
+    ghost some_text = { λ _. amount_startable.some };
+
+    ghost one_text = { λ _. amount_startable.one };
+
+    ghost text_bytes = { λ _. amount_startable.bytes };
+}
+
+/// Makes a pair of a sub-key and its amount.
+pub struct StatPairing;
+
+impl Pairing<AmountText> for StatPairing {
+    type Pair = StatPair;
+
+    ghost use Rattle.std.specs.Prelude.{refl};
+
+    ghost word_of = { λ p. p.key };
+
+    ghost value_of = { λ p. p.amount };
+
+    ghost paired = { λ word amount. record { key = word; amount = amount } };
+
+    fn begin(word: Key) -> StatPair {
+        StatPair {
+            key: word,
+            amount: Amount::Max,
+        }
+    }
+
+    fn complete(pair: &mut StatPair, value: Amount) {
+        pair.amount = value;
+    }
+
+    fn word(pair: &StatPair) -> &Key {
+        &pair.key
+    }
+
+    fn value(pair: &StatPair) -> &Amount {
+        &pair.amount
+    }
+
+    ghost has_word = { λ _ _. refl };
+
+    ghost has_value = { λ _ _. refl };
+
+    ghost whole = { λ _. refl };
+}
+
+type Pairs = DistinctPairs<AmountText, AmountStart, StatPairing>;
+
+/// One or more pairs of a sub-key, an equals sign and an amount, with spaces between, no sub-key twice.
+#[derive(Drop)]
+pub struct StatPairs {
+    pairs: Pairs,
+}
+
+impl StatPairs {
+    /// One or more pairs of a sub-key, an equals sign and an amount, with spaces between, no sub-key twice.
+    pub(crate) fn new(alloc: Global) -> StatPairs
+        ensures spells { Spells ⟦<StatPairs as Token>⟧.means result AreStatPairs }
+        ensures size { ⟦<StatPairs as Token>⟧.size result ≡ 0 }
+    {
+        let words = WordStart::new(alloc, false);
+        StatPairs {
+            pairs: DistinctPairs::joined(alloc, words, AmountStart, b' ', b'='),
+        }
+    }
+}
+
+impl Token for StatPairs {
+    type Out = Items<StatPair>;
+
+    ghost means = { λ s. ⟦<Pairs as Token>⟧.means s.pairs };
+
+    ghost size = { λ s. ⟦<Pairs as Token>⟧.size s.pairs };
+
+    ghost weight = { ⟦<Pairs as Token>⟧.weight };
+
+    ghost ends = { λ s. ⟦<Pairs as Token>⟧.ends s.pairs };
+
+    ghost grows = { ⟦<Pairs as Token>⟧.grows };
+
+    ghost completes = { λ s. ⟦<Pairs as Token>⟧.completes s.pairs };
+
+    ghost no_size = { λ e s. ⟦<Pairs as Token>⟧.no_size e s.pairs };
+
+    ghost ends_is = { λ s. ⟦<Pairs as Token>⟧.ends_is s.pairs };
+
+    ghost one_value = { λ s. ⟦<Pairs as Token>⟧.one_value s.pairs };
+
+    ghost holds_bytes = { λ s. ⟦<Pairs as Token>⟧.holds_bytes s.pairs };
+
+    fn step(&mut self, byte: u8) -> Result<bool, OutOfMemory> {
+        self.pairs.step(byte)
+    }
+
+    fn allows(&self, byte: u8) -> bool {
+        self.pairs.allows(byte)
+    }
+
+    fn can_end(&self) -> bool {
+        self.pairs.can_end()
+    }
+
+    fn held(&self) -> u64 {
+        self.pairs.held()
+    }
+
+    fn take(self) -> Items<StatPair> {
+        self.pairs.take()
+    }
+
+    fn weight_of(value: &Items<StatPair>) -> u64 {
+        Pairs::weight_of(value)
+    }
+}
+
+/// A device, its pad and its pairs, turned into a line's value.
+#[derive(Clone, Copy)]
+pub struct ToStatLine;
+
+impl Turn<Sequence<DeviceText, PadText<StatPairs>>> for ToStatLine {
+    type To = StatLine;
+
+    ghost use Rattle.cg_file.specs.StatFileLaws.{stat_line, stat_weight, no_less};
+
+    ghost turned = { stat_line };
+
+    ghost weight = { stat_weight };
+
+    fn turn(value: (Device, (bool, Items<StatPair>))) -> StatLine {
+        let (device, (pad, pairs)) = value;
+        StatLine { device, pad, pairs }
+    }
+
+    fn weight_of(value: &StatLine) -> u64 {
+        StatPairs::weight_of(&value.pairs)
+    }
+
+    ghost no_more = { λ v. no_less (stat_weight (stat_line v)) };
+}
+
+type LineParts = Mapped<Sequence<DeviceText, PadText<StatPairs>>, ToStatLine>;
+
+/// A line of a device, at most one space of its own, and pairs of a sub-key and an amount with a space before each, no
+/// sub-key twice. Also a device with no pairs is one.
+#[derive(Drop)]
+pub struct StatLineText {
+    parts: LineParts,
+}
+
+impl StatLineText {
+    /// A line of a device and its pairs.
+    pub(crate) fn new(alloc: Global) -> StatLineText
+        ensures spells { Spells ⟦<StatLineText as Token>⟧.means result (λ text line. IsStatLine line text) }
+        ensures size { ⟦<StatLineText as Token>⟧.size result ≡ 0 }
+    {
+        let pairs = PadText::new(StatPairs::new(alloc), Items::new(alloc));
+        StatLineText {
+            parts: Mapped::new(Sequence::new(DeviceText::new(), pairs)),
+        }
+    }
+}
+
+impl Token for StatLineText {
+    type Out = StatLine;
+
+    ghost use Rattle.cg_file.specs.StatFileLaws.{stat_weight};
+
+    ghost means = { λ s. ⟦<LineParts as Token>⟧.means s.parts };
+
+    ghost size = { λ s. ⟦<LineParts as Token>⟧.size s.parts };
+
+    ghost weight = { stat_weight };
+
+    ghost ends = { λ s. ⟦<LineParts as Token>⟧.ends s.parts };
+
+    ghost grows = { ⟦<LineParts as Token>⟧.grows };
+
+    ghost completes = { λ s. ⟦<LineParts as Token>⟧.completes s.parts };
+
+    ghost no_size = { λ e s. ⟦<LineParts as Token>⟧.no_size e s.parts };
+
+    ghost ends_is = { λ s. ⟦<LineParts as Token>⟧.ends_is s.parts };
+
+    ghost one_value = { λ s. ⟦<LineParts as Token>⟧.one_value s.parts };
+
+    ghost holds_bytes = { λ s. ⟦<LineParts as Token>⟧.holds_bytes s.parts };
+
+    fn step(&mut self, byte: u8) -> Result<bool, OutOfMemory> {
+        self.parts.step(byte)
+    }
+
+    fn allows(&self, byte: u8) -> bool {
+        self.parts.allows(byte)
+    }
+
+    fn can_end(&self) -> bool {
+        self.parts.can_end()
+    }
+
+    fn held(&self) -> u64 {
+        self.parts.held()
+    }
+
+    fn take(self) -> StatLine {
+        self.parts.take()
+    }
+
+    fn weight_of(value: &StatLine) -> u64 {
+        StatPairs::weight_of(&value.pairs)
+    }
+}
+
+/// Makes tokens of such lines.
+#[derive(Clone, Copy)]
+pub struct StatStart {
+    alloc: Global,
+}
+
+impl StatStart {
+    /// Such lines, which take their memory from `alloc`.
+    pub fn new(alloc: Global) -> StatStart {
+        StatStart { alloc }
+    }
+}
+
+impl Start<StatLineText> for StatStart {
+    ghost use Rattle.cg_file.specs.StatFileLaws.{stat_startable};
+
+    ghost texts = { λ _ text line. IsStatLine line text };
+
+    fn start(&self) -> StatLineText {
+        StatLineText::new(self.alloc)
+    }
+
+    ghost some_text = { λ _. stat_startable.some };
+
+    ghost one_text = { λ _. stat_startable.one };
+
+    ghost text_bytes = { λ _. stat_startable.bytes };
+}
+
+/// A line, turned into the file's value.
+#[derive(Clone, Copy)]
+pub struct ToDeviceStats;
+
+impl Turn<Lines<StatLineText, StatStart>> for ToDeviceStats {
+    type To = Value;
+
+    ghost use Rattle.cg_join.specs.SettledLaws.{zero_least};
+    ghost use Rattle.cg_file.specs.StatFileLaws.{stats_value};
+
+    ghost turned = { stats_value };
+
+    ghost weight = { λ _. 0 };
+
+    fn turn(value: Items<StatLine>) -> Value {
+        Value::DeviceStats(value)
+    }
+
+    fn weight_of(_value: &Value) -> u64 {
+        0
+    }
+
+    ghost no_more = { λ v. zero_least _ };
+}
+
+type Text = Mapped<Lines<StatLineText, StatStart>, ToDeviceStats>;
+
+/// The text of a file of any number of devices, each with any number of pairs of a sub-key and an amount.
+#[derive(Drop)]
+pub struct DeviceStatsFile {
+    text: Text,
+}
+
+impl DeviceStatsFile {
+    /// The text of a file of any number of devices, each with any number of pairs of a sub-key and an amount.
+    pub fn new(alloc: Global) -> DeviceStatsFile
+        ensures spells { Spells ⟦<DeviceStatsFile as Token>⟧.means result (λ text v. KindText DeviceStatsForm v text) }
+        ensures size { ⟦<DeviceStatsFile as Token>⟧.size result ≡ 0 }
+    {
+        DeviceStatsFile {
+            text: Mapped::new(Lines::new(alloc, StatStart::new(alloc), b'\n')),
+        }
+    }
+}
+
+impl Token for DeviceStatsFile {
+    type Out = Value;
+
+    ghost means = { λ s. ⟦<Text as Token>⟧.means s.text };
+
+    ghost size = { λ s. ⟦<Text as Token>⟧.size s.text };
+
+    ghost weight = { λ _. 0 };
+
+    ghost ends = { λ s. ⟦<Text as Token>⟧.ends s.text };
+
+    ghost grows = { ⟦<Text as Token>⟧.grows };
+
+    ghost completes = { λ s. ⟦<Text as Token>⟧.completes s.text };
+
+    ghost no_size = { λ e s. ⟦<Text as Token>⟧.no_size e s.text };
+
+    ghost ends_is = { λ s. ⟦<Text as Token>⟧.ends_is s.text };
+
+    ghost one_value = { λ s. ⟦<Text as Token>⟧.one_value s.text };
+
+    ghost holds_bytes = { λ s. ⟦<Text as Token>⟧.holds_bytes s.text };
+
+    fn step(&mut self, byte: u8) -> Result<bool, OutOfMemory> {
+        self.text.step(byte)
+    }
+
+    fn allows(&self, byte: u8) -> bool {
+        self.text.allows(byte)
+    }
+
+    fn can_end(&self) -> bool {
+        self.text.can_end()
+    }
+
+    fn held(&self) -> u64 {
+        self.text.held()
+    }
+
+    fn take(self) -> Value {
+        self.text.take()
+    }
+
+    fn weight_of(_value: &Value) -> u64 {
+        0
+    }
+}

@@ -1,0 +1,221 @@
+//! A file of devices and their target latencies (cgroup-v2.rst, io.latency).
+ghost use Rattle.std.specs.Prelude.{◌≡◌, ◌≤◌, ◌+◌, ◌↔◌, true, IsTrue, IsFalse};
+ghost use Rattle.cg_text.specs.Token.{Spells};
+ghost use Rattle.cg_value.specs.Files.{KindText};
+ghost use Rattle.cg_value.specs.declared.kind.ReadForm.TheVariants.{DeviceTargets as DeviceTargetsForm};
+ghost use Rattle.cg_value.specs.ReadLine.{IsTargetLine};
+
+use cg_join::{DeviceText, LabelText, Lines, Mapped, Sequence, Start, Turn, decimal_in, labelled};
+use cg_text::{DecimalText, Device, Items, Keyword, OutOfMemory, Token};
+use cg_value::{TargetLine, Value};
+use std::alloc::Global;
+
+/// A device and its target, turned into a line's value.
+#[derive(Clone, Copy)]
+pub struct ToTargetLine;
+
+impl Turn<Sequence<DeviceText, LabelText<DecimalText>>> for ToTargetLine {
+    type To = TargetLine;
+
+    ghost use Rattle.cg_join.specs.SettledLaws.{zero_least};
+    ghost use Rattle.cg_file.specs.DeviceLineLaws.{target_line};
+
+    ghost turned = { target_line };
+
+    ghost weight = { λ _. 0 };
+
+    fn turn(value: (Device, ((), u64))) -> TargetLine {
+        TargetLine {
+            device: value.0,
+            target: value.1.1,
+        }
+    }
+
+    fn weight_of(_value: &TargetLine) -> u64 {
+        0
+    }
+
+    ghost no_more = { λ v. zero_least _ };
+}
+
+type LineParts = Mapped<Sequence<DeviceText, LabelText<DecimalText>>, ToTargetLine>;
+
+/// A line of a device, ` target=` and a number.
+#[derive(Drop)]
+pub struct TargetLineText {
+    parts: LineParts,
+}
+
+impl TargetLineText {
+    /// A line of a device, ` target=` and a number.
+    pub(crate) fn new() -> TargetLineText
+        ensures spells { Spells ⟦<TargetLineText as Token>⟧.means result (λ text line. IsTargetLine line text) }
+        ensures size { ⟦<TargetLineText as Token>⟧.size result ≡ 0 }
+    {
+        let target = labelled(Keyword::Target, decimal_in(0, u64::MAX));
+        TargetLineText {
+            parts: Mapped::new(Sequence::new(DeviceText::new(), target)),
+        }
+    }
+}
+
+impl Token for TargetLineText {
+    type Out = TargetLine;
+
+    ghost means = { λ s. ⟦<LineParts as Token>⟧.means s.parts };
+
+    ghost size = { λ s. ⟦<LineParts as Token>⟧.size s.parts };
+
+    ghost weight = { λ _. 0 };
+
+    ghost ends = { λ s. ⟦<LineParts as Token>⟧.ends s.parts };
+
+    ghost grows = { ⟦<LineParts as Token>⟧.grows };
+
+    ghost completes = { λ s. ⟦<LineParts as Token>⟧.completes s.parts };
+
+    ghost no_size = { λ e s. ⟦<LineParts as Token>⟧.no_size e s.parts };
+
+    ghost ends_is = { λ s. ⟦<LineParts as Token>⟧.ends_is s.parts };
+
+    ghost one_value = { λ s. ⟦<LineParts as Token>⟧.one_value s.parts };
+
+    ghost holds_bytes = { λ s. ⟦<LineParts as Token>⟧.holds_bytes s.parts };
+
+    fn step(&mut self, byte: u8) -> Result<bool, OutOfMemory> {
+        self.parts.step(byte)
+    }
+
+    fn allows(&self, byte: u8) -> bool {
+        self.parts.allows(byte)
+    }
+
+    fn can_end(&self) -> bool {
+        self.parts.can_end()
+    }
+
+    fn held(&self) -> u64 {
+        self.parts.held()
+    }
+
+    fn take(self) -> TargetLine {
+        self.parts.take()
+    }
+
+    fn weight_of(_value: &TargetLine) -> u64 {
+        0
+    }
+}
+
+/// Makes tokens of such lines.
+#[derive(Clone, Copy)]
+pub struct TargetStart;
+
+impl Start<TargetLineText> for TargetStart {
+    ghost use Rattle.cg_file.specs.DeviceLineLaws.{target_startable};
+
+    ghost texts = { λ _ text line. IsTargetLine line text };
+
+    fn start(&self) -> TargetLineText {
+        TargetLineText::new()
+    }
+
+    ghost some_text = { λ _. target_startable.some };
+
+    ghost one_text = { λ _. target_startable.one };
+
+    ghost text_bytes = { λ _. target_startable.bytes };
+}
+
+/// A line, turned into the file's value.
+#[derive(Clone, Copy)]
+pub struct ToDeviceTargets;
+
+impl Turn<Lines<TargetLineText, TargetStart>> for ToDeviceTargets {
+    type To = Value;
+
+    ghost use Rattle.cg_join.specs.SettledLaws.{zero_least};
+    ghost use Rattle.cg_file.specs.DeviceLineLaws.{targets_value};
+
+    ghost turned = { targets_value };
+
+    ghost weight = { λ _. 0 };
+
+    fn turn(value: Items<TargetLine>) -> Value {
+        Value::DeviceTargets(value)
+    }
+
+    fn weight_of(_value: &Value) -> u64 {
+        0
+    }
+
+    ghost no_more = { λ v. zero_least _ };
+}
+
+type Text = Mapped<Lines<TargetLineText, TargetStart>, ToDeviceTargets>;
+
+/// The text of a file of any number of devices and their targets.
+#[derive(Drop)]
+pub struct DeviceTargetsFile {
+    text: Text,
+}
+
+impl DeviceTargetsFile {
+    /// The text of a file of any number of devices and their targets.
+    pub fn new(alloc: Global) -> DeviceTargetsFile
+        ensures spells { Spells ⟦<DeviceTargetsFile as Token>⟧.means result (λ text v. KindText DeviceTargetsForm v text) }
+        ensures size { ⟦<DeviceTargetsFile as Token>⟧.size result ≡ 0 }
+    {
+        DeviceTargetsFile {
+            text: Mapped::new(Lines::new(alloc, TargetStart, b'\n')),
+        }
+    }
+}
+
+impl Token for DeviceTargetsFile {
+    type Out = Value;
+
+    ghost means = { λ s. ⟦<Text as Token>⟧.means s.text };
+
+    ghost size = { λ s. ⟦<Text as Token>⟧.size s.text };
+
+    ghost weight = { λ _. 0 };
+
+    ghost ends = { λ s. ⟦<Text as Token>⟧.ends s.text };
+
+    ghost grows = { ⟦<Text as Token>⟧.grows };
+
+    ghost completes = { λ s. ⟦<Text as Token>⟧.completes s.text };
+
+    ghost no_size = { λ e s. ⟦<Text as Token>⟧.no_size e s.text };
+
+    ghost ends_is = { λ s. ⟦<Text as Token>⟧.ends_is s.text };
+
+    ghost one_value = { λ s. ⟦<Text as Token>⟧.one_value s.text };
+
+    ghost holds_bytes = { λ s. ⟦<Text as Token>⟧.holds_bytes s.text };
+
+    fn step(&mut self, byte: u8) -> Result<bool, OutOfMemory> {
+        self.text.step(byte)
+    }
+
+    fn allows(&self, byte: u8) -> bool {
+        self.text.allows(byte)
+    }
+
+    fn can_end(&self) -> bool {
+        self.text.can_end()
+    }
+
+    fn held(&self) -> u64 {
+        self.text.held()
+    }
+
+    fn take(self) -> Value {
+        self.text.take()
+    }
+
+    fn weight_of(_value: &Value) -> u64 {
+        0
+    }
+}

@@ -1,0 +1,234 @@
+//! A file of a default weight and of devices and their weights (cgroup-v2.rst, io.weight).
+ghost use Rattle.std.specs.Prelude.{◌≡◌, ◌≤◌, ◌+◌, ◌↔◌, true, IsTrue, IsFalse};
+ghost use Rattle.cg_text.specs.Token.{Spells};
+ghost use Rattle.cg_value.specs.Files.{KindText};
+ghost use Rattle.cg_value.specs.declared.kind.ReadForm.TheVariants.{DeviceWeights as DeviceWeightsForm};
+ghost use Rattle.cg_value.specs.ReadLine.{IsWeightLine};
+
+use cg_join::{
+    DeviceText, LabelText, Lines, Mapped, Sequence, Spaced, Start, Turn, decimal_in, labelled,
+    spaced,
+};
+use cg_text::{ByteText, DecimalText, Device, Items, Keyword, OutOfMemory, Token};
+use cg_value::{Value, WeightLine};
+use std::alloc::Global;
+
+/// A device and its weight, turned into a line's value.
+#[derive(Clone, Copy)]
+pub struct ToWeightLine;
+
+impl Turn<Sequence<DeviceText, Spaced<DecimalText>>> for ToWeightLine {
+    type To = WeightLine;
+
+    ghost use Rattle.cg_join.specs.SettledLaws.{zero_least};
+    ghost use Rattle.cg_file.specs.DeviceLineLaws.{weight_line};
+
+    ghost turned = { weight_line };
+
+    ghost weight = { λ _. 0 };
+
+    fn turn(value: (Device, ((), u64))) -> WeightLine {
+        WeightLine {
+            device: value.0,
+            weight: value.1.1,
+        }
+    }
+
+    fn weight_of(_value: &WeightLine) -> u64 {
+        0
+    }
+
+    ghost no_more = { λ v. zero_least _ };
+}
+
+type LineParts = Mapped<Sequence<DeviceText, Spaced<DecimalText>>, ToWeightLine>;
+
+/// A line of a device, a space and a weight.
+#[derive(Drop)]
+pub struct WeightLineText {
+    parts: LineParts,
+}
+
+impl WeightLineText {
+    /// A line of a device, a space and a weight.
+    pub(crate) fn new() -> WeightLineText
+        ensures spells { Spells ⟦<WeightLineText as Token>⟧.means result (λ text line. IsWeightLine line text) }
+        ensures size { ⟦<WeightLineText as Token>⟧.size result ≡ 0 }
+    {
+        let weight = spaced(decimal_in(1, 10000));
+        WeightLineText {
+            parts: Mapped::new(Sequence::new(DeviceText::new(), weight)),
+        }
+    }
+}
+
+impl Token for WeightLineText {
+    type Out = WeightLine;
+
+    ghost means = { λ s. ⟦<LineParts as Token>⟧.means s.parts };
+
+    ghost size = { λ s. ⟦<LineParts as Token>⟧.size s.parts };
+
+    ghost weight = { λ _. 0 };
+
+    ghost ends = { λ s. ⟦<LineParts as Token>⟧.ends s.parts };
+
+    ghost grows = { ⟦<LineParts as Token>⟧.grows };
+
+    ghost completes = { λ s. ⟦<LineParts as Token>⟧.completes s.parts };
+
+    ghost no_size = { λ e s. ⟦<LineParts as Token>⟧.no_size e s.parts };
+
+    ghost ends_is = { λ s. ⟦<LineParts as Token>⟧.ends_is s.parts };
+
+    ghost one_value = { λ s. ⟦<LineParts as Token>⟧.one_value s.parts };
+
+    ghost holds_bytes = { λ s. ⟦<LineParts as Token>⟧.holds_bytes s.parts };
+
+    fn step(&mut self, byte: u8) -> Result<bool, OutOfMemory> {
+        self.parts.step(byte)
+    }
+
+    fn allows(&self, byte: u8) -> bool {
+        self.parts.allows(byte)
+    }
+
+    fn can_end(&self) -> bool {
+        self.parts.can_end()
+    }
+
+    fn held(&self) -> u64 {
+        self.parts.held()
+    }
+
+    fn take(self) -> WeightLine {
+        self.parts.take()
+    }
+
+    fn weight_of(_value: &WeightLine) -> u64 {
+        0
+    }
+}
+
+/// Makes tokens of such lines.
+#[derive(Clone, Copy)]
+pub struct WeightStart;
+
+impl Start<WeightLineText> for WeightStart {
+    ghost use Rattle.cg_file.specs.DeviceLineLaws.{weight_startable};
+
+    ghost texts = { λ _ text line. IsWeightLine line text };
+
+    fn start(&self) -> WeightLineText {
+        WeightLineText::new()
+    }
+
+    ghost some_text = { λ _. weight_startable.some };
+
+    ghost one_text = { λ _. weight_startable.one };
+
+    ghost text_bytes = { λ _. weight_startable.bytes };
+}
+
+/// The default weight and a newline.
+type DefaultLine = Sequence<LabelText<Spaced<DecimalText>>, ByteText>;
+
+/// A line, turned into the file's value.
+#[derive(Clone, Copy)]
+pub struct ToDeviceWeights;
+
+impl Turn<Sequence<DefaultLine, Lines<WeightLineText, WeightStart>>> for ToDeviceWeights {
+    type To = Value;
+
+    ghost use Rattle.cg_join.specs.SettledLaws.{zero_least};
+    ghost use Rattle.cg_file.specs.WeightFileLaws.{weights_value};
+
+    ghost turned = { weights_value };
+
+    ghost weight = { λ _. 0 };
+
+    fn turn(value: ((((), ((), u64)), ()), Items<WeightLine>)) -> Value {
+        Value::DeviceWeights {
+            default: value.0.0.1.1,
+            lines: value.1,
+        }
+    }
+
+    fn weight_of(_value: &Value) -> u64 {
+        0
+    }
+
+    ghost no_more = { λ v. zero_least _ };
+}
+
+type Text = Mapped<Sequence<DefaultLine, Lines<WeightLineText, WeightStart>>, ToDeviceWeights>;
+
+/// The text of a file of a default weight, and of any number of devices and their weights.
+#[derive(Drop)]
+pub struct DeviceWeightsFile {
+    text: Text,
+}
+
+impl DeviceWeightsFile {
+    /// The text of a file of a default weight, and of any number of devices and their weights.
+    pub fn new(alloc: Global) -> DeviceWeightsFile
+        ensures spells { Spells ⟦<DeviceWeightsFile as Token>⟧.means result (λ text v. KindText DeviceWeightsForm v text) }
+        ensures size { ⟦<DeviceWeightsFile as Token>⟧.size result ≡ 0 }
+    {
+        let default = spaced(decimal_in(1, 10000));
+        let first = labelled(Keyword::Default, default);
+        let line = Sequence::new(first, ByteText::new(b'\n'));
+        let lines = Lines::new(alloc, WeightStart, b'\n');
+        DeviceWeightsFile {
+            text: Mapped::new(Sequence::new(line, lines)),
+        }
+    }
+}
+
+impl Token for DeviceWeightsFile {
+    type Out = Value;
+
+    ghost means = { λ s. ⟦<Text as Token>⟧.means s.text };
+
+    ghost size = { λ s. ⟦<Text as Token>⟧.size s.text };
+
+    ghost weight = { λ _. 0 };
+
+    ghost ends = { λ s. ⟦<Text as Token>⟧.ends s.text };
+
+    ghost grows = { ⟦<Text as Token>⟧.grows };
+
+    ghost completes = { λ s. ⟦<Text as Token>⟧.completes s.text };
+
+    ghost no_size = { λ e s. ⟦<Text as Token>⟧.no_size e s.text };
+
+    ghost ends_is = { λ s. ⟦<Text as Token>⟧.ends_is s.text };
+
+    ghost one_value = { λ s. ⟦<Text as Token>⟧.one_value s.text };
+
+    ghost holds_bytes = { λ s. ⟦<Text as Token>⟧.holds_bytes s.text };
+
+    fn step(&mut self, byte: u8) -> Result<bool, OutOfMemory> {
+        self.text.step(byte)
+    }
+
+    fn allows(&self, byte: u8) -> bool {
+        self.text.allows(byte)
+    }
+
+    fn can_end(&self) -> bool {
+        self.text.can_end()
+    }
+
+    fn held(&self) -> u64 {
+        self.text.held()
+    }
+
+    fn take(self) -> Value {
+        self.text.take()
+    }
+
+    fn weight_of(_value: &Value) -> u64 {
+        0
+    }
+}

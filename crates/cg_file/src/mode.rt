@@ -1,0 +1,128 @@
+//! A file of one mode (cgroup-v2.rst, cgroup.type).
+ghost use Rattle.std.specs.Prelude.{◌≡◌, ◌≤◌, ◌+◌, ◌↔◌, true, IsTrue, IsFalse};
+ghost use Rattle.cg_text.specs.Token.{Spells};
+ghost use Rattle.cg_value.specs.Files.{KindText};
+ghost use Rattle.cg_value.specs.declared.kind.ReadForm.TheVariants.{Mode as ModeForm};
+ghost use Rattle.cg_file.specs.OneLineTurned.{IsModeWord};
+
+use cg_join::{Choice, Either, Line, Sequence, Turn, one_line};
+use cg_text::{ByteText, Keyword, KeywordText, OutOfMemory, Token};
+use cg_value::{GroupMode, Value};
+
+/// One of two fixed texts.
+type TwoWords = Choice<KeywordText, KeywordText>;
+
+/// The words of modes: `domain` or `domain threaded`, or else `domain invalid` or `threaded`.
+pub type ModeText = Choice<TwoWords, TwoWords>;
+
+/// The words of modes.
+fn mode_text() -> ModeText
+    ensures spells { Spells ⟦<ModeText as Token>⟧.means result IsModeWord }
+    ensures size { ⟦<ModeText as Token>⟧.size result ≡ 0 }
+{
+    let domain = KeywordText::new(Keyword::Domain);
+    let domain_threaded = KeywordText::new(Keyword::DomainThreaded);
+    let domain_invalid = KeywordText::new(Keyword::DomainInvalid);
+    let threaded = KeywordText::new(Keyword::Threaded);
+    let sound = Choice::new(domain, domain_threaded);
+    let other = Choice::new(domain_invalid, threaded);
+    Choice::new(sound, other)
+}
+
+/// A line, turned into the file's value.
+#[derive(Clone, Copy)]
+pub struct ToMode;
+
+impl Turn<Sequence<ModeText, ByteText>> for ToMode {
+    type To = Value;
+
+    ghost use Rattle.cg_join.specs.SettledLaws.{zero_least};
+    ghost use Rattle.cg_file.specs.OneLineTurned.{mode_value};
+
+    ghost turned = { mode_value };
+
+    ghost weight = { λ _. 0 };
+
+    fn turn(value: (Either<Either<(), ()>, Either<(), ()>>, ())) -> Value {
+        Value::Mode(match value.0 {
+            Either::Left(Either::Left(_)) => GroupMode::Domain,
+            Either::Left(Either::Right(_)) => GroupMode::DomainThreaded,
+            Either::Right(Either::Left(_)) => GroupMode::DomainInvalid,
+            Either::Right(Either::Right(_)) => GroupMode::Threaded,
+        })
+    }
+
+    fn weight_of(_value: &Value) -> u64 {
+        0
+    }
+
+    ghost no_more = { λ v. zero_least _ };
+}
+
+type Text = Line<ModeText, ToMode>;
+
+/// The text of a file of one mode.
+#[derive(Drop)]
+pub struct ModeFile {
+    text: Text,
+}
+
+impl ModeFile {
+    /// The text of a file of one mode.
+    pub fn new() -> ModeFile
+        ensures spells { Spells ⟦<ModeFile as Token>⟧.means result (λ text v. KindText ModeForm v text) }
+        ensures size { ⟦<ModeFile as Token>⟧.size result ≡ 0 }
+    {
+        ModeFile {
+            text: one_line(mode_text()),
+        }
+    }
+}
+
+impl Token for ModeFile {
+    type Out = Value;
+
+    ghost means = { λ s. ⟦<Text as Token>⟧.means s.text };
+
+    ghost size = { λ s. ⟦<Text as Token>⟧.size s.text };
+
+    ghost weight = { λ _. 0 };
+
+    ghost ends = { λ s. ⟦<Text as Token>⟧.ends s.text };
+
+    ghost grows = { ⟦<Text as Token>⟧.grows };
+
+    ghost completes = { λ s. ⟦<Text as Token>⟧.completes s.text };
+
+    ghost no_size = { λ e s. ⟦<Text as Token>⟧.no_size e s.text };
+
+    ghost ends_is = { λ s. ⟦<Text as Token>⟧.ends_is s.text };
+
+    ghost one_value = { λ s. ⟦<Text as Token>⟧.one_value s.text };
+
+    ghost holds_bytes = { λ s. ⟦<Text as Token>⟧.holds_bytes s.text };
+
+    fn step(&mut self, byte: u8) -> Result<bool, OutOfMemory> {
+        self.text.step(byte)
+    }
+
+    fn allows(&self, byte: u8) -> bool {
+        self.text.allows(byte)
+    }
+
+    fn can_end(&self) -> bool {
+        self.text.can_end()
+    }
+
+    fn held(&self) -> u64 {
+        self.text.held()
+    }
+
+    fn take(self) -> Value {
+        self.text.take()
+    }
+
+    fn weight_of(_value: &Value) -> u64 {
+        0
+    }
+}

@@ -1,0 +1,27 @@
+//! Runs of bytes.
+ghost use Rattle.std.specs.Prelude.{◌≤◌, ◌+◌, length, take};
+ghost use Rattle.cg_text.specs.Scan.{FollowsRun};
+ghost use Rattle.cg_text.specs.Texts.{Lacks};
+
+use cg_text::Token;
+
+/// Takes bytes from the front of `bytes`, one after another, until a newline, or a byte that is refused or for which
+/// memory is. Answers how many it took.
+pub(crate) fn run_of<T: Token>(token: &mut T, bytes: &[u8]) -> usize
+    ensures within { result ≤ length bytes.now }
+    ensures plain { Lacks 10 (take result bytes.now) }
+    ensures follows { FollowsRun T.means token.old (take result bytes.now) token.new }
+    ensures size { T.size token.new ≤ T.size token.old + result }
+{
+    for (used, byte) in bytes.iter().enumerate() {
+        if *byte == b'\n' {
+            return used;
+        }
+        match token.step(*byte) {
+            Ok(true) => {}
+            Ok(false) => return used,
+            Err(_) => return used,
+        }
+    }
+    bytes.len()
+}

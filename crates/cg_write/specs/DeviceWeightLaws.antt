@@ -1,0 +1,62 @@
+-- What holds of the lines of weights.
+use Rattle.std.proofs.Common.{◌≡◌, ℕ, ◌↔◌, List, [], ◌∷◌, ◌++◌, Option, Some, None, refl, sym, ◌∙◌, append_assoc, codes, arith}
+use Rattle.cg_text.specs.Device.{IsDevice}
+use Rattle.cg_text.specs.Keyword.{text_of}
+use Rattle.cg_text.specs.declared.keyword.Keyword.TheVariants as word
+use Rattle.cg_text.specs.declared.values.Device.{Device}
+use Rattle.cg_join.specs.ApartLaws.{label_apart}
+use Rattle.cg_join.specs.CutLaws.{parts_is}
+use Rattle.cg_join.specs.DisjointLaws.{device_has, first_has, lacking_disjoint}
+use Rattle.cg_join.specs.LackingLaws.{concat_lacking, device_lacking, either_lacking, fixed_lacking}
+use Rattle.cg_join.specs.Spelling.{Apart, Disjoint, IsConcat}
+use Rattle.cg_join.specs.TextBytes.{IsFixed, Lacking}
+use Rattle.cg_join.specs.declared.choice.Either.{Either}
+use Rattle.cg_join.specs.declared.choice.Either.TheVariants.{Left, Right}
+use Rattle.cg_value.specs.Lines.{IsLineOf}
+use Rattle.cg_value.specs.WriteLine.{IsWeightSetting}
+use Rattle.cg_value.specs.declared.setting.Setting.{Setting}
+use Rattle.cg_value.specs.declared.setting.Setting.TheVariants as setting
+use Rattle.cg_write.specs.Texts.{IsAnyWeight, IsChosen, IsDefault, IsDeviceAndWeight}
+use Rattle.cg_write.specs.Turned.{weight_of}
+use Rattle.cg_write.specs.ChosenWeightLaws.{chosen_lacking}
+use Rattle.cg_write.specs.DefaultWeightLaws.{default_lacking}
+
+weight_from : (text : List ℕ) (v : Either ℕ (Device × (Unit {0} × Option ℕ))) → IsAnyWeight text v → IsWeightSetting (weight_of v) text
+weight_from text (Left n) h = h
+weight_from text (Right v) h = device_from text v.0 v.1.1 ((parts_is (codes " ") IsChosen (λ t d. IsDevice d t) text v).0 h)
+  where
+    device_from : (text : List ℕ) (device : Device) (w : Option ℕ) → (front : List ℕ) × (back : List ℕ) × (text ≡ front ++ codes " " ++ back) × IsDevice device front × IsChosen back w → IsWeightSetting (setting.DeviceWeight device w) text
+    device_from text device None k = (k.0, (rw k.4 at k.2) ∙ append_assoc k.0 (codes " ") (codes "default"), k.3)
+    device_from text device (Some n) k = record { front = k.0; back = k.1; text_is = k.2; front_is = k.3; back_is = k.4 }
+
+weight_to : (s : Setting) (text : List ℕ) → IsWeightSetting s text → IsLineOf (λ v l. IsAnyWeight l v) weight_of s text
+weight_to (setting.DefaultWeight n) text h = record { x = Left n; value = refl; spelled = h }
+weight_to (setting.DeviceWeight device None) text h = record {
+  x = Right (device, (tt, None));
+  value = refl;
+  spelled = (parts_is (codes " ") IsChosen (λ t d. IsDevice d t) text (device, (tt, None))).1 (h.0, codes "default", h.1 ∙ sym (append_assoc h.0 (codes " ") (codes "default")), h.2, refl);
+}
+weight_to (setting.DeviceWeight device (Some n)) text h = record {
+  x = Right (device, (tt, Some n));
+  value = refl;
+  spelled = (parts_is (codes " ") IsChosen (λ t d. IsDevice d t) text (device, (tt, Some n))).1 (h.front, h.back, h.text_is, h.front_is, h.back_is);
+}
+weight_to _ text h = absurd h
+
+-- The lines, turned into settings.
+pub weight_is : (s : Setting) (line : List ℕ) → IsWeightSetting s line ↔ IsLineOf (λ v l. IsAnyWeight l v) weight_of s line
+weight_is s line = (λ h. weight_to s line h, λ h. rw h.value (weight_from line h.x h.spelled))
+
+-- ---- The side conditions
+
+pub device_apart : Apart (λ t d. IsDevice d t) (IsConcat (IsFixed (32 ∷ [])) IsChosen)
+device_apart = label_apart (device_lacking 32 (omega arith))
+
+-- A device has a colon, and the default weight's lines have none.
+pub default_no_device : Disjoint IsDefault IsDeviceAndWeight
+default_no_device = lacking_disjoint (default_lacking 58 (λ h k. omega (arith, h, k)) (fixed_lacking 58 (text_of word.Default) refl) (fixed_lacking 58 (32 ∷ []) refl)) (first_has device_has)
+
+pub weight_lacking : Lacking IsAnyWeight 10
+weight_lacking = either_lacking
+    (default_lacking 10 (λ h k. omega (arith, h, k)) (fixed_lacking 10 (text_of word.Default) refl) (fixed_lacking 10 (32 ∷ []) refl))
+    (concat_lacking (device_lacking 10 (omega arith)) (concat_lacking (fixed_lacking 10 (32 ∷ []) refl) chosen_lacking))

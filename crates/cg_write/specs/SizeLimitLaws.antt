@@ -1,0 +1,35 @@
+-- What holds of the lines of limits that are sizes.
+use Rattle.std.proofs.Common.{ℕ, ◌↔◌, List, refl, arith}
+use Rattle.cg_text.specs.Keyword.{text_of}
+use Rattle.cg_text.specs.declared.keyword.Keyword.TheVariants as word
+use Rattle.cg_text.specs.declared.values.Limit.{Limit}
+use Rattle.cg_text.specs.declared.values.Limit.TheVariants.{Max, At}
+use Rattle.cg_join.specs.BeginsLaws.{fixed_begins, size_begins}
+use Rattle.cg_join.specs.DisjointLaws.{digits_disjoint}
+use Rattle.cg_join.specs.FilledLaws.{fixed_filled}
+use Rattle.cg_join.specs.LackingLaws.{either_lacking, keyword_lacking, size_lacking}
+use Rattle.cg_join.specs.LimitState.{limit_of}
+use Rattle.cg_join.specs.Spelling.{Disjoint, IsTurned}
+use Rattle.cg_join.specs.TextBytes.{IsFixed, Lacking}
+use Rattle.cg_join.specs.declared.choice.Either.{Either}
+use Rattle.cg_join.specs.declared.choice.Either.TheVariants.{Left, Right}
+use Rattle.cg_value.specs.WriteLine.{IsSizeLimit}
+use Rattle.cg_write.specs.Texts.{IsASize, IsMaxOrSize}
+
+size_limit_from : (text : List ℕ) (x : Either (Unit {0}) ℕ) → IsMaxOrSize text x → IsSizeLimit (limit_of x) text
+size_limit_from text (Left u) h = h
+size_limit_from text (Right n) h = h
+
+size_limit_to : (text : List ℕ) (v : Limit) → IsSizeLimit v text → IsTurned IsMaxOrSize limit_of text v
+size_limit_to text Max h = (Left tt, h, refl)
+size_limit_to text (At n) h = (Right n, h, refl)
+
+-- The two alternatives, turned into a limit.
+pub size_limit_is : (text : List ℕ) (v : Limit) → IsTurned IsMaxOrSize limit_of text v ↔ IsSizeLimit v text
+size_limit_is text v = (λ h. (let k = size_limit_from text h.0 h.1 in rw h.2 at k), λ h. size_limit_to text v h)
+
+pub max_no_size : Disjoint (IsFixed (text_of word.Max)) IsASize
+max_no_size = digits_disjoint (fixed_filled 109 _) (fixed_begins 109 _) size_begins (λ h k. omega (arith, h, k))
+
+pub size_limit_lacking : Lacking IsMaxOrSize 10
+size_limit_lacking = either_lacking (keyword_lacking word.Max) (size_lacking 10 (omega arith))

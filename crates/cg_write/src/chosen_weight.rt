@@ -1,0 +1,104 @@
+//! A weight of a device, or that it has none of its own (cgroup-v2.rst, io.weight).
+ghost use Rattle.std.specs.Prelude.{◌≡◌, ◌≤◌, ◌+◌, ◌↔◌, true, IsTrue, IsFalse};
+ghost use Rattle.cg_text.specs.Token.{Spells};
+ghost use Rattle.cg_write.specs.Texts.{IsChosen};
+
+use cg_join::{Choice, Either, Mapped, Turn, decimal_in};
+use cg_text::{DecimalText, Keyword, KeywordText, OutOfMemory, Token};
+
+/// The value, without how it is spelled.
+#[derive(Clone, Copy)]
+struct ToChosen;
+
+impl Turn<Choice<KeywordText, DecimalText>> for ToChosen {
+    type To = Option<u64>;
+
+    ghost use Rattle.cg_write.specs.Turned.{chosen_weight};
+    ghost use Rattle.std.proofs.Common.{arith};
+
+    ghost turned = { chosen_weight };
+
+    ghost weight = { λ _. 0 };
+
+    fn turn(value: Either<(), u64>) -> Option<u64> {
+        match value {
+            Either::Left(_) => None,
+            Either::Right(weight) => Some(weight),
+        }
+    }
+
+    fn weight_of(_value: &Option<u64>) -> u64 {
+        0
+    }
+
+    ghost no_more = { λ v. Prim.omega arith };
+}
+
+type Parts = Mapped<Choice<KeywordText, DecimalText>, ToChosen>;
+
+/// The word `default`, whose value is none, or a weight of 1 to 10000.
+#[derive(Drop)]
+pub struct ChosenText {
+    parts: Parts,
+}
+
+impl ChosenText {
+    /// The word `default`, whose value is none, or a weight of 1 to 10000.
+    pub(crate) fn new() -> ChosenText
+        ensures spells { Spells ⟦<ChosenText as Token>⟧.means result IsChosen }
+        ensures size { ⟦<ChosenText as Token>⟧.size result ≡ 0 }
+    {
+        let word = KeywordText::new(Keyword::Default);
+        ChosenText {
+            parts: Mapped::new(Choice::new(word, decimal_in(1, 10000))),
+        }
+    }
+}
+
+impl Token for ChosenText {
+    type Out = Option<u64>;
+
+    ghost means = { λ s. ⟦<Parts as Token>⟧.means s.parts };
+
+    ghost size = { λ s. ⟦<Parts as Token>⟧.size s.parts };
+
+    ghost weight = { λ _. 0 };
+
+    ghost ends = { λ s. ⟦<Parts as Token>⟧.ends s.parts };
+
+    ghost grows = { ⟦<Parts as Token>⟧.grows };
+
+    ghost completes = { λ s. ⟦<Parts as Token>⟧.completes s.parts };
+
+    ghost no_size = { λ e s. ⟦<Parts as Token>⟧.no_size e s.parts };
+
+    ghost ends_is = { λ s. ⟦<Parts as Token>⟧.ends_is s.parts };
+
+    ghost one_value = { λ s. ⟦<Parts as Token>⟧.one_value s.parts };
+
+    ghost holds_bytes = { λ s. ⟦<Parts as Token>⟧.holds_bytes s.parts };
+
+    fn step(&mut self, byte: u8) -> Result<bool, OutOfMemory> {
+        self.parts.step(byte)
+    }
+
+    fn allows(&self, byte: u8) -> bool {
+        self.parts.allows(byte)
+    }
+
+    fn can_end(&self) -> bool {
+        self.parts.can_end()
+    }
+
+    fn held(&self) -> u64 {
+        self.parts.held()
+    }
+
+    fn take(self) -> Option<u64> {
+        self.parts.take()
+    }
+
+    fn weight_of(_value: &Option<u64>) -> u64 {
+        0
+    }
+}

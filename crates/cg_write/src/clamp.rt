@@ -1,0 +1,102 @@
+//! A write of one utilization clamp (cgroup-v2.rst, cpu.uclamp.min).
+ghost use Rattle.std.specs.Prelude.{◌≡◌, ◌≤◌, ◌+◌, ◌↔◌, true, IsTrue, IsFalse};
+ghost use Rattle.cg_text.specs.Token.{Spells};
+ghost use Rattle.cg_value.specs.Settings.{WriteText};
+ghost use Rattle.cg_value.specs.declared.kind.WriteForm.TheVariants.{Clamp as ClampForm};
+
+use cg_join::{ClampText, Line, Sequence, Turn, one_line};
+use cg_text::{ByteText, Clamp, Form, OutOfMemory, Token};
+use cg_value::Setting;
+
+/// The line, turned into the setting.
+#[derive(Clone, Copy)]
+struct ToClamp;
+
+impl Turn<Sequence<ClampText, ByteText>> for ToClamp {
+    type To = Setting;
+
+    ghost use Rattle.cg_write.specs.Turned.{clamp_setting};
+    ghost use Rattle.std.proofs.Common.{arith};
+
+    ghost turned = { clamp_setting };
+
+    ghost weight = { λ _. 0 };
+
+    fn turn(value: (Clamp, ())) -> Setting {
+        Setting::Clamp(value.0)
+    }
+
+    fn weight_of(_value: &Setting) -> u64 {
+        0
+    }
+
+    ghost no_more = { λ v. Prim.omega arith };
+}
+
+type Text = Line<ClampText, ToClamp>;
+
+/// The text of a write of one utilization clamp.
+#[derive(Drop)]
+pub struct ClampWrite {
+    text: Text,
+}
+
+impl ClampWrite {
+    /// The text of a write of one utilization clamp (cgroup-v2.rst, cpu.uclamp.min).
+    pub fn new() -> ClampWrite
+        ensures spells { Spells ⟦<ClampWrite as Token>⟧.means result (λ text s. WriteText ClampForm s text) }
+        ensures size { ⟦<ClampWrite as Token>⟧.size result ≡ 0 }
+    {
+        ClampWrite {
+            text: one_line(ClampText::new(Form::Written)),
+        }
+    }
+}
+
+impl Token for ClampWrite {
+    type Out = Setting;
+
+    ghost means = { λ s. ⟦<Text as Token>⟧.means s.text };
+
+    ghost size = { λ s. ⟦<Text as Token>⟧.size s.text };
+
+    ghost weight = { λ _. 0 };
+
+    ghost ends = { λ s. ⟦<Text as Token>⟧.ends s.text };
+
+    ghost grows = { ⟦<Text as Token>⟧.grows };
+
+    ghost completes = { λ s. ⟦<Text as Token>⟧.completes s.text };
+
+    ghost no_size = { λ e s. ⟦<Text as Token>⟧.no_size e s.text };
+
+    ghost ends_is = { λ s. ⟦<Text as Token>⟧.ends_is s.text };
+
+    ghost one_value = { λ s. ⟦<Text as Token>⟧.one_value s.text };
+
+    ghost holds_bytes = { λ s. ⟦<Text as Token>⟧.holds_bytes s.text };
+
+    fn step(&mut self, byte: u8) -> Result<bool, OutOfMemory> {
+        self.text.step(byte)
+    }
+
+    fn allows(&self, byte: u8) -> bool {
+        self.text.allows(byte)
+    }
+
+    fn can_end(&self) -> bool {
+        self.text.can_end()
+    }
+
+    fn held(&self) -> u64 {
+        self.text.held()
+    }
+
+    fn take(self) -> Setting {
+        self.text.take()
+    }
+
+    fn weight_of(_value: &Setting) -> u64 {
+        0
+    }
+}

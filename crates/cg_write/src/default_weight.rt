@@ -1,0 +1,106 @@
+//! The weight of the devices that have none of their own (cgroup-v2.rst, io.weight).
+ghost use Rattle.std.specs.Prelude.{◌≡◌, ◌≤◌, ◌+◌, ◌↔◌, true, IsTrue, IsFalse};
+ghost use Rattle.cg_text.specs.Token.{Spells};
+ghost use Rattle.cg_write.specs.Texts.{IsDefault};
+
+use cg_join::{Choice, Either, LabelText, Mapped, Spaced, Turn, decimal_in, labelled, spaced};
+use cg_text::{DecimalText, Keyword, OutOfMemory, Token};
+
+/// The value, without how it is spelled.
+#[derive(Clone, Copy)]
+struct ToDefault;
+
+impl Turn<Choice<DecimalText, LabelText<Spaced<DecimalText>>>> for ToDefault {
+    type To = u64;
+
+    ghost use Rattle.cg_write.specs.Turned.{default_weight};
+    ghost use Rattle.std.proofs.Common.{arith};
+
+    ghost turned = { default_weight };
+
+    ghost weight = { λ _. 0 };
+
+    fn turn(value: Either<u64, ((), ((), u64))>) -> u64 {
+        match value {
+            Either::Left(weight) => weight,
+            Either::Right((_, (_, weight))) => weight,
+        }
+    }
+
+    fn weight_of(_value: &u64) -> u64 {
+        0
+    }
+
+    ghost no_more = { λ v. Prim.omega arith };
+}
+
+type Parts = Mapped<Choice<DecimalText, LabelText<Spaced<DecimalText>>>, ToDefault>;
+
+/// A weight of 1 to 10000, alone or after the word `default` and a space.
+#[derive(Drop)]
+pub struct DefaultText {
+    parts: Parts,
+}
+
+impl DefaultText {
+    /// A weight of 1 to 10000, alone or after the word `default` and a space.
+    pub(crate) fn new() -> DefaultText
+        ensures spells { Spells ⟦<DefaultText as Token>⟧.means result IsDefault }
+        ensures size { ⟦<DefaultText as Token>⟧.size result ≡ 0 }
+    {
+        let alone = decimal_in(1, 10000);
+        let weight = spaced(decimal_in(1, 10000));
+        let named = labelled(Keyword::Default, weight);
+        DefaultText {
+            parts: Mapped::new(Choice::new(alone, named)),
+        }
+    }
+}
+
+impl Token for DefaultText {
+    type Out = u64;
+
+    ghost means = { λ s. ⟦<Parts as Token>⟧.means s.parts };
+
+    ghost size = { λ s. ⟦<Parts as Token>⟧.size s.parts };
+
+    ghost weight = { λ _. 0 };
+
+    ghost ends = { λ s. ⟦<Parts as Token>⟧.ends s.parts };
+
+    ghost grows = { ⟦<Parts as Token>⟧.grows };
+
+    ghost completes = { λ s. ⟦<Parts as Token>⟧.completes s.parts };
+
+    ghost no_size = { λ e s. ⟦<Parts as Token>⟧.no_size e s.parts };
+
+    ghost ends_is = { λ s. ⟦<Parts as Token>⟧.ends_is s.parts };
+
+    ghost one_value = { λ s. ⟦<Parts as Token>⟧.one_value s.parts };
+
+    ghost holds_bytes = { λ s. ⟦<Parts as Token>⟧.holds_bytes s.parts };
+
+    fn step(&mut self, byte: u8) -> Result<bool, OutOfMemory> {
+        self.parts.step(byte)
+    }
+
+    fn allows(&self, byte: u8) -> bool {
+        self.parts.allows(byte)
+    }
+
+    fn can_end(&self) -> bool {
+        self.parts.can_end()
+    }
+
+    fn held(&self) -> u64 {
+        self.parts.held()
+    }
+
+    fn take(self) -> u64 {
+        self.parts.take()
+    }
+
+    fn weight_of(_value: &u64) -> u64 {
+        0
+    }
+}

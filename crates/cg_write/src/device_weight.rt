@@ -1,0 +1,187 @@
+//! A write of the default weight, or of the weight of a device (cgroup-v2.rst, io.weight).
+ghost use Rattle.std.specs.Prelude.{◌≡◌, ◌≤◌, ◌+◌, ◌↔◌, true, IsTrue, IsFalse};
+ghost use Rattle.cg_text.specs.Token.{Spells};
+ghost use Rattle.cg_value.specs.Settings.{WriteText};
+ghost use Rattle.cg_value.specs.declared.kind.WriteForm.TheVariants.{DeviceWeight as DeviceWeightForm};
+ghost use Rattle.cg_write.specs.Texts.{IsAnyWeight, IsDeviceAndWeight};
+
+use crate::chosen_weight::ChosenText;
+use crate::default_weight::DefaultText;
+use cg_join::{Choice, DeviceText, Either, Line, Sequence, Spaced, Turn, one_line, spaced};
+use cg_text::{ByteText, Device, OutOfMemory, Token};
+use cg_value::Setting;
+
+/// A device, a space and its weight.
+type DeviceWeightText = Sequence<DeviceText, Spaced<ChosenText>>;
+
+/// A device, a space and its weight, or `default`.
+fn device_weight_text() -> DeviceWeightText
+    ensures spells { Spells ⟦<DeviceWeightText as Token>⟧.means result IsDeviceAndWeight }
+    ensures size { ⟦<DeviceWeightText as Token>⟧.size result ≡ 0 }
+{
+    Sequence::new(DeviceText::new(), spaced(ChosenText::new()))
+}
+
+type Parts = Choice<DefaultText, DeviceWeightText>;
+
+/// The default weight, or a device and its weight.
+#[derive(Drop)]
+pub struct AnyWeightText {
+    parts: Parts,
+}
+
+impl AnyWeightText {
+    /// The default weight, or a device and its weight.
+    pub(crate) fn new() -> AnyWeightText
+        ensures spells { Spells ⟦<AnyWeightText as Token>⟧.means result IsAnyWeight }
+        ensures size { ⟦<AnyWeightText as Token>⟧.size result ≡ 0 }
+    {
+        AnyWeightText {
+            parts: Choice::new(DefaultText::new(), device_weight_text()),
+        }
+    }
+}
+
+impl Token for AnyWeightText {
+    type Out = Either<u64, (Device, ((), Option<u64>))>;
+
+    ghost means = { λ s. ⟦<Parts as Token>⟧.means s.parts };
+
+    ghost size = { λ s. ⟦<Parts as Token>⟧.size s.parts };
+
+    ghost weight = { λ _. 0 };
+
+    ghost ends = { λ s. ⟦<Parts as Token>⟧.ends s.parts };
+
+    ghost grows = { ⟦<Parts as Token>⟧.grows };
+
+    ghost completes = { λ s. ⟦<Parts as Token>⟧.completes s.parts };
+
+    ghost no_size = { λ e s. ⟦<Parts as Token>⟧.no_size e s.parts };
+
+    ghost ends_is = { λ s. ⟦<Parts as Token>⟧.ends_is s.parts };
+
+    ghost one_value = { λ s. ⟦<Parts as Token>⟧.one_value s.parts };
+
+    ghost holds_bytes = { λ s. ⟦<Parts as Token>⟧.holds_bytes s.parts };
+
+    fn step(&mut self, byte: u8) -> Result<bool, OutOfMemory> {
+        self.parts.step(byte)
+    }
+
+    fn allows(&self, byte: u8) -> bool {
+        self.parts.allows(byte)
+    }
+
+    fn can_end(&self) -> bool {
+        self.parts.can_end()
+    }
+
+    fn held(&self) -> u64 {
+        self.parts.held()
+    }
+
+    fn take(self) -> Either<u64, (Device, ((), Option<u64>))> {
+        self.parts.take()
+    }
+
+    fn weight_of(_value: &Either<u64, (Device, ((), Option<u64>))>) -> u64 {
+        0
+    }
+}
+
+/// The line, turned into the setting.
+#[derive(Clone, Copy)]
+struct ToDeviceWeight;
+
+impl Turn<Sequence<AnyWeightText, ByteText>> for ToDeviceWeight {
+    type To = Setting;
+
+    ghost use Rattle.cg_write.specs.Turned.{weight_setting};
+    ghost use Rattle.std.proofs.Common.{arith};
+
+    ghost turned = { weight_setting };
+
+    ghost weight = { λ _. 0 };
+
+    fn turn(value: (Either<u64, (Device, ((), Option<u64>))>, ())) -> Setting {
+        match value.0 {
+            Either::Left(weight) => Setting::DefaultWeight(weight),
+            Either::Right((device, (_, weight))) => Setting::DeviceWeight { device, weight },
+        }
+    }
+
+    fn weight_of(_value: &Setting) -> u64 {
+        0
+    }
+
+    ghost no_more = { λ v. Prim.omega arith };
+}
+
+type Text = Line<AnyWeightText, ToDeviceWeight>;
+
+/// The text of a write of the default weight, or of the weight of a device, which `default` takes away.
+#[derive(Drop)]
+pub struct DeviceWeightWrite {
+    text: Text,
+}
+
+impl DeviceWeightWrite {
+    /// The text of a write of the default weight, or of the weight of a device, which `default` takes away (cgroup-v2.rst, io.weight).
+    pub fn new() -> DeviceWeightWrite
+        ensures spells { Spells ⟦<DeviceWeightWrite as Token>⟧.means result (λ text s. WriteText DeviceWeightForm s text) }
+        ensures size { ⟦<DeviceWeightWrite as Token>⟧.size result ≡ 0 }
+    {
+        DeviceWeightWrite {
+            text: one_line(AnyWeightText::new()),
+        }
+    }
+}
+
+impl Token for DeviceWeightWrite {
+    type Out = Setting;
+
+    ghost means = { λ s. ⟦<Text as Token>⟧.means s.text };
+
+    ghost size = { λ s. ⟦<Text as Token>⟧.size s.text };
+
+    ghost weight = { λ _. 0 };
+
+    ghost ends = { λ s. ⟦<Text as Token>⟧.ends s.text };
+
+    ghost grows = { ⟦<Text as Token>⟧.grows };
+
+    ghost completes = { λ s. ⟦<Text as Token>⟧.completes s.text };
+
+    ghost no_size = { λ e s. ⟦<Text as Token>⟧.no_size e s.text };
+
+    ghost ends_is = { λ s. ⟦<Text as Token>⟧.ends_is s.text };
+
+    ghost one_value = { λ s. ⟦<Text as Token>⟧.one_value s.text };
+
+    ghost holds_bytes = { λ s. ⟦<Text as Token>⟧.holds_bytes s.text };
+
+    fn step(&mut self, byte: u8) -> Result<bool, OutOfMemory> {
+        self.text.step(byte)
+    }
+
+    fn allows(&self, byte: u8) -> bool {
+        self.text.allows(byte)
+    }
+
+    fn can_end(&self) -> bool {
+        self.text.can_end()
+    }
+
+    fn held(&self) -> u64 {
+        self.text.held()
+    }
+
+    fn take(self) -> Setting {
+        self.text.take()
+    }
+
+    fn weight_of(_value: &Setting) -> u64 {
+        0
+    }
+}

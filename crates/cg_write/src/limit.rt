@@ -1,0 +1,103 @@
+//! A write of one limit (cgroup-v2.rst, pids.max).
+ghost use Rattle.std.specs.Prelude.{◌≡◌, ◌≤◌, ◌+◌, ◌↔◌, true, IsTrue, IsFalse};
+ghost use Rattle.cg_text.specs.Token.{Spells};
+ghost use Rattle.cg_value.specs.Settings.{WriteText};
+ghost use Rattle.cg_value.specs.declared.kind.WriteForm.TheVariants.{Limit as LimitForm};
+
+use cg_join::{LimitText, Line, Sequence, Turn, limit_in, one_line};
+use cg_text::{ByteText, Limit, OutOfMemory, Token};
+use cg_value::Setting;
+
+/// The line, turned into the setting.
+#[derive(Clone, Copy)]
+struct ToLimit;
+
+impl Turn<Sequence<LimitText, ByteText>> for ToLimit {
+    type To = Setting;
+
+    ghost use Rattle.cg_write.specs.Turned.{limit_setting};
+    ghost use Rattle.std.proofs.Common.{arith};
+
+    ghost turned = { limit_setting };
+
+    ghost weight = { λ _. 0 };
+
+    fn turn(value: (Limit, ())) -> Setting {
+        Setting::Limit(value.0)
+    }
+
+    fn weight_of(_value: &Setting) -> u64 {
+        0
+    }
+
+    ghost no_more = { λ v. Prim.omega arith };
+}
+
+type Text = Line<LimitText, ToLimit>;
+
+/// The text of a write of `max`, or of one number from `lo` to `hi`.
+#[derive(Drop)]
+pub struct LimitWrite {
+    text: Text,
+}
+
+impl LimitWrite {
+    /// The text of a write of `max`, or of one number from `lo` to `hi` (cgroup-v2.rst, pids.max).
+    pub fn new(lo: u64, hi: u64) -> LimitWrite
+        requires { lo ≤ hi }
+        ensures spells { Spells ⟦<LimitWrite as Token>⟧.means result (λ text s. WriteText (LimitForm lo hi) s text) }
+        ensures size { ⟦<LimitWrite as Token>⟧.size result ≡ 0 }
+    {
+        LimitWrite {
+            text: one_line(limit_in(lo, hi)),
+        }
+    }
+}
+
+impl Token for LimitWrite {
+    type Out = Setting;
+
+    ghost means = { λ s. ⟦<Text as Token>⟧.means s.text };
+
+    ghost size = { λ s. ⟦<Text as Token>⟧.size s.text };
+
+    ghost weight = { λ _. 0 };
+
+    ghost ends = { λ s. ⟦<Text as Token>⟧.ends s.text };
+
+    ghost grows = { ⟦<Text as Token>⟧.grows };
+
+    ghost completes = { λ s. ⟦<Text as Token>⟧.completes s.text };
+
+    ghost no_size = { λ e s. ⟦<Text as Token>⟧.no_size e s.text };
+
+    ghost ends_is = { λ s. ⟦<Text as Token>⟧.ends_is s.text };
+
+    ghost one_value = { λ s. ⟦<Text as Token>⟧.one_value s.text };
+
+    ghost holds_bytes = { λ s. ⟦<Text as Token>⟧.holds_bytes s.text };
+
+    fn step(&mut self, byte: u8) -> Result<bool, OutOfMemory> {
+        self.text.step(byte)
+    }
+
+    fn allows(&self, byte: u8) -> bool {
+        self.text.allows(byte)
+    }
+
+    fn can_end(&self) -> bool {
+        self.text.can_end()
+    }
+
+    fn held(&self) -> u64 {
+        self.text.held()
+    }
+
+    fn take(self) -> Setting {
+        self.text.take()
+    }
+
+    fn weight_of(_value: &Setting) -> u64 {
+        0
+    }
+}

@@ -1,0 +1,102 @@
+//! A write of a mode (cgroup-v2.rst, cgroup.type).
+ghost use Rattle.std.specs.Prelude.{◌≡◌, ◌≤◌, ◌+◌, ◌↔◌, true, IsTrue, IsFalse};
+ghost use Rattle.cg_text.specs.Token.{Spells};
+ghost use Rattle.cg_value.specs.Settings.{WriteText};
+ghost use Rattle.cg_value.specs.declared.kind.WriteForm.TheVariants.{Mode as ModeForm};
+
+use cg_join::{Line, Sequence, Turn, one_line};
+use cg_text::{ByteText, Keyword, KeywordText, OutOfMemory, Token};
+use cg_value::Setting;
+
+/// The line, turned into the setting.
+#[derive(Clone, Copy)]
+struct ToMode;
+
+impl Turn<Sequence<KeywordText, ByteText>> for ToMode {
+    type To = Setting;
+
+    ghost use Rattle.cg_write.specs.Turned.{mode_setting};
+    ghost use Rattle.std.proofs.Common.{arith};
+
+    ghost turned = { mode_setting };
+
+    ghost weight = { λ _. 0 };
+
+    fn turn(_value: ((), ())) -> Setting {
+        Setting::Threaded
+    }
+
+    fn weight_of(_value: &Setting) -> u64 {
+        0
+    }
+
+    ghost no_more = { λ v. Prim.omega arith };
+}
+
+type Text = Line<KeywordText, ToMode>;
+
+/// The text of a write of the word `threaded`.
+#[derive(Drop)]
+pub struct ModeWrite {
+    text: Text,
+}
+
+impl ModeWrite {
+    /// The text of a write of the word `threaded` (cgroup-v2.rst, cgroup.type).
+    pub fn new() -> ModeWrite
+        ensures spells { Spells ⟦<ModeWrite as Token>⟧.means result (λ text s. WriteText ModeForm s text) }
+        ensures size { ⟦<ModeWrite as Token>⟧.size result ≡ 0 }
+    {
+        ModeWrite {
+            text: one_line(KeywordText::new(Keyword::Threaded)),
+        }
+    }
+}
+
+impl Token for ModeWrite {
+    type Out = Setting;
+
+    ghost means = { λ s. ⟦<Text as Token>⟧.means s.text };
+
+    ghost size = { λ s. ⟦<Text as Token>⟧.size s.text };
+
+    ghost weight = { λ _. 0 };
+
+    ghost ends = { λ s. ⟦<Text as Token>⟧.ends s.text };
+
+    ghost grows = { ⟦<Text as Token>⟧.grows };
+
+    ghost completes = { λ s. ⟦<Text as Token>⟧.completes s.text };
+
+    ghost no_size = { λ e s. ⟦<Text as Token>⟧.no_size e s.text };
+
+    ghost ends_is = { λ s. ⟦<Text as Token>⟧.ends_is s.text };
+
+    ghost one_value = { λ s. ⟦<Text as Token>⟧.one_value s.text };
+
+    ghost holds_bytes = { λ s. ⟦<Text as Token>⟧.holds_bytes s.text };
+
+    fn step(&mut self, byte: u8) -> Result<bool, OutOfMemory> {
+        self.text.step(byte)
+    }
+
+    fn allows(&self, byte: u8) -> bool {
+        self.text.allows(byte)
+    }
+
+    fn can_end(&self) -> bool {
+        self.text.can_end()
+    }
+
+    fn held(&self) -> u64 {
+        self.text.held()
+    }
+
+    fn take(self) -> Setting {
+        self.text.take()
+    }
+
+    fn weight_of(_value: &Setting) -> u64 {
+        0
+    }
+}

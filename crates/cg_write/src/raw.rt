@@ -1,0 +1,103 @@
+//! A write of a raw line (cgroup-v2.rst, "Interface Files").
+ghost use Rattle.std.specs.Prelude.{◌≡◌, ◌≤◌, ◌+◌, ◌↔◌, true, IsTrue, IsFalse};
+ghost use Rattle.cg_text.specs.Token.{Spells};
+ghost use Rattle.cg_value.specs.Settings.{WriteText};
+ghost use Rattle.cg_value.specs.declared.kind.WriteForm.TheVariants.{Raw as RawForm};
+
+use cg_join::{Line, Sequence, Turn, one_line};
+use cg_text::{ByteText, Items, OutOfMemory, RawText, Token};
+use cg_value::Setting;
+use std::alloc::Global;
+
+/// The line, turned into the setting.
+#[derive(Clone, Copy)]
+struct ToRaw;
+
+impl Turn<Sequence<RawText, ByteText>> for ToRaw {
+    type To = Setting;
+
+    ghost use Rattle.cg_write.specs.Turned.{raw_setting};
+    ghost use Rattle.std.proofs.Common.{arith};
+
+    ghost turned = { raw_setting };
+
+    ghost weight = { λ _. 0 };
+
+    fn turn(value: (Items<u8>, ())) -> Setting {
+        Setting::Raw(value.0)
+    }
+
+    fn weight_of(_value: &Setting) -> u64 {
+        0
+    }
+
+    ghost no_more = { λ v. Prim.omega arith };
+}
+
+type Text = Line<RawText, ToRaw>;
+
+/// The text of a write of a line of any bytes but NUL.
+#[derive(Drop)]
+pub struct RawWrite {
+    text: Text,
+}
+
+impl RawWrite {
+    /// The text of a write of a line of any bytes but NUL (cgroup-v2.rst, "Interface Files").
+    pub fn new(alloc: Global) -> RawWrite
+        ensures spells { Spells ⟦<RawWrite as Token>⟧.means result (λ text s. WriteText RawForm s text) }
+        ensures size { ⟦<RawWrite as Token>⟧.size result ≡ 0 }
+    {
+        RawWrite {
+            text: one_line(RawText::new(alloc)),
+        }
+    }
+}
+
+impl Token for RawWrite {
+    type Out = Setting;
+
+    ghost means = { λ s. ⟦<Text as Token>⟧.means s.text };
+
+    ghost size = { λ s. ⟦<Text as Token>⟧.size s.text };
+
+    ghost weight = { λ _. 0 };
+
+    ghost ends = { λ s. ⟦<Text as Token>⟧.ends s.text };
+
+    ghost grows = { ⟦<Text as Token>⟧.grows };
+
+    ghost completes = { λ s. ⟦<Text as Token>⟧.completes s.text };
+
+    ghost no_size = { λ e s. ⟦<Text as Token>⟧.no_size e s.text };
+
+    ghost ends_is = { λ s. ⟦<Text as Token>⟧.ends_is s.text };
+
+    ghost one_value = { λ s. ⟦<Text as Token>⟧.one_value s.text };
+
+    ghost holds_bytes = { λ s. ⟦<Text as Token>⟧.holds_bytes s.text };
+
+    fn step(&mut self, byte: u8) -> Result<bool, OutOfMemory> {
+        self.text.step(byte)
+    }
+
+    fn allows(&self, byte: u8) -> bool {
+        self.text.allows(byte)
+    }
+
+    fn can_end(&self) -> bool {
+        self.text.can_end()
+    }
+
+    fn held(&self) -> u64 {
+        self.text.held()
+    }
+
+    fn take(self) -> Setting {
+        self.text.take()
+    }
+
+    fn weight_of(_value: &Setting) -> u64 {
+        0
+    }
+}

@@ -1,0 +1,106 @@
+//! A write of one signed number (cgroup-v2.rst, cpu.weight.nice).
+ghost use Rattle.std.specs.Prelude.{◌≡◌, ◌≤◌, ◌+◌, ◌↔◌, true, IsTrue, IsFalse, ◌≤ℤ◌};
+ghost use Rattle.cg_text.specs.Token.{Spells};
+ghost use Rattle.cg_value.specs.Settings.{WriteText};
+ghost use Rattle.cg_value.specs.declared.kind.WriteForm.TheVariants.{Signed as SignedForm};
+
+use cg_join::{Line, Sequence, Turn, one_line};
+use cg_text::{ByteText, OutOfMemory, SignedText, Token};
+use cg_value::Setting;
+
+/// The line, turned into the setting.
+#[derive(Clone, Copy)]
+struct ToSigned;
+
+impl Turn<Sequence<SignedText, ByteText>> for ToSigned {
+    type To = Setting;
+
+    ghost use Rattle.cg_write.specs.Turned.{signed_setting};
+    ghost use Rattle.std.proofs.Common.{arith};
+
+    ghost turned = { signed_setting };
+
+    ghost weight = { λ _. 0 };
+
+    fn turn(value: (i64, ())) -> Setting {
+        Setting::Signed(value.0)
+    }
+
+    fn weight_of(_value: &Setting) -> u64 {
+        0
+    }
+
+    ghost no_more = { λ v. Prim.omega arith };
+}
+
+type Text = Line<SignedText, ToSigned>;
+
+/// The text of a write of one signed number from `lo` to `hi`.
+#[derive(Drop)]
+pub struct SignedWrite {
+    text: Text,
+}
+
+impl SignedWrite {
+    /// The text of a write of one signed number from `lo` to `hi` (cgroup-v2.rst, cpu.weight.nice).
+    pub fn new(lo: i64, hi: i64) -> SignedWrite
+        requires { lo ≤ℤ hi }
+        ensures spells { Spells ⟦<SignedWrite as Token>⟧.means result (λ text s. WriteText (SignedForm lo hi) s text) }
+        ensures size { ⟦<SignedWrite as Token>⟧.size result ≡ 0 }
+    {
+        match SignedText::new(lo, hi) {
+            Some(number) => SignedWrite {
+                text: one_line(number),
+            },
+            None => unreachable!(),
+        }
+    }
+}
+
+impl Token for SignedWrite {
+    type Out = Setting;
+
+    ghost means = { λ s. ⟦<Text as Token>⟧.means s.text };
+
+    ghost size = { λ s. ⟦<Text as Token>⟧.size s.text };
+
+    ghost weight = { λ _. 0 };
+
+    ghost ends = { λ s. ⟦<Text as Token>⟧.ends s.text };
+
+    ghost grows = { ⟦<Text as Token>⟧.grows };
+
+    ghost completes = { λ s. ⟦<Text as Token>⟧.completes s.text };
+
+    ghost no_size = { λ e s. ⟦<Text as Token>⟧.no_size e s.text };
+
+    ghost ends_is = { λ s. ⟦<Text as Token>⟧.ends_is s.text };
+
+    ghost one_value = { λ s. ⟦<Text as Token>⟧.one_value s.text };
+
+    ghost holds_bytes = { λ s. ⟦<Text as Token>⟧.holds_bytes s.text };
+
+    fn step(&mut self, byte: u8) -> Result<bool, OutOfMemory> {
+        self.text.step(byte)
+    }
+
+    fn allows(&self, byte: u8) -> bool {
+        self.text.allows(byte)
+    }
+
+    fn can_end(&self) -> bool {
+        self.text.can_end()
+    }
+
+    fn held(&self) -> u64 {
+        self.text.held()
+    }
+
+    fn take(self) -> Setting {
+        self.text.take()
+    }
+
+    fn weight_of(_value: &Setting) -> u64 {
+        0
+    }
+}
