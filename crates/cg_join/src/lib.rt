@@ -68,16 +68,3 @@ pub use settled::{Full, Light, Settled, Weigh};
 pub use start::Start;
 pub use starts::NumberStart;
 pub use words::WordStart;
-
-#[cfg(test)]
-mod composite_tests;
-#[cfg(test)]
-mod joined_tests;
-#[cfg(test)]
-mod keyed_tests;
-#[cfg(test)]
-mod label_tests;
-#[cfg(test)]
-mod tests;
-#[cfg(test)]
-mod word_tests;

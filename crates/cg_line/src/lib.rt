@@ -6,12 +6,6 @@ pub mod decode_write;
 pub mod place;
 pub mod reader;
 pub mod setting_reader;
-#[cfg(test)]
-mod setting_tests;
-#[cfg(test)]
-mod tests;
-#[cfg(test)]
-mod value_tests;
 
 pub use cg_machine::PushFault;
 pub use decode::{FileFault, decode_file};

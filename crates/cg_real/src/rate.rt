@@ -1,15 +1,10 @@
-//! Reads the text of a file many times, or prints its value many times, and prints how many bytes went through.
-//!
-//! The words are `read` or `print`, the file's name, the profile and how often; the text comes on standard input.
-#![tactic(auto)]
-
+//! How fast files are read and printed.
 use cg_line::decode_file;
 use cg_print::print_file;
 use cg_value::Profile;
 use std::alloc::Global;
 use std::io;
 use std::io::Read;
-use std::process::ExitCode;
 
 /// What is done.
 #[derive(Clone, Copy)]
@@ -20,21 +15,15 @@ enum Task {
 
 /// What is done, by which grammar, with which file, and how often.
 #[derive(Clone, Copy)]
-struct Work<'a> {
+pub(crate) struct Work<'a> {
     task: Task,
     profile: Profile,
     name: &'a str,
     times: u64,
 }
 
-/// The words after the program's name.
-fn words_of(rt: &HostRuntime) -> io::Result<Vec<String>> {
-    let mut words = std::env::args(rt)?;
-    let _program = words.next();
-    Ok(words.collect(rt.alloc())?)
-}
-
-fn parse_words(words: &[String]) -> Option<Work<'_>> {
+/// What the words of the command line ask for.
+pub(crate) fn parse_words(words: &[String]) -> Option<Work<'_>> {
     if words.len() != 4 {
         return None;
     }
@@ -84,12 +73,8 @@ fn print_often(alloc: Global, profile: Profile, name: &str, text: &[u8], times: 
     bytes
 }
 
-fn main(rt: HostRuntime) -> io::Result<ExitCode> {
-    let words = words_of(&rt)?;
-    let Some(work) = parse_words(words.as_slice()) else {
-        println!(rt; "cg_rate: the words are `read` or `print`, a name, a profile and how often")?;
-        return Ok(ExitCode::from(2));
-    };
+/// Does the work with the text on standard input, and prints how many bytes went through.
+pub(crate) fn measure(rt: &HostRuntime, work: Work<'_>) -> io::Result<()> {
     let mut text = Vec::new(rt.alloc());
     rt.stdin().read_to_end(&mut text)?;
     let alloc = rt.alloc();
@@ -97,6 +82,5 @@ fn main(rt: HostRuntime) -> io::Result<ExitCode> {
         Task::Read => read_often(alloc, work.profile, work.name, text.as_slice(), work.times),
         Task::Print => print_often(alloc, work.profile, work.name, text.as_slice(), work.times),
     };
-    println!(rt; "{bytes} bytes")?;
-    Ok(ExitCode::from(0))
+    println!(rt; "{bytes} bytes")
 }
