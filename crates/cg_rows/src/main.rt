@@ -18,9 +18,19 @@
 //! In a field `$` is a newline, `^` is NUL, and `\xNN` is the byte of two hexadecimal digits. A word without a byte is `""`.
 #![tactic(auto)]
 
+#[cfg(test)]
+mod calls;
+#[cfg(test)]
+mod entries;
 mod escape;
+#[cfg(test)]
+mod readers;
 mod row;
+#[cfg(test)]
+mod starved;
 mod trial;
+#[cfg(test)]
+mod values;
 
 use row::row_of;
 use std::process::ExitCode;
