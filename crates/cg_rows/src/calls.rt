@@ -77,34 +77,34 @@ fn plain_readers(rt: HostRuntime) -> Result<(), Fail> {
     Ok(())
 }
 
-/// Whether a sink that fails after `budget` bytes, and takes `step` bytes in one call, answers so and has as many bytes.
-fn takes(budget: usize, step: usize, text: &[u8], wanted: Result<(), WriteStopped>) -> bool {
+/// Whether a sink that fails after `budget` bytes, and takes `step` bytes in one call, stops after so many bytes of the text,
+/// and where it doesn't stop takes all.
+fn takes(budget: usize, step: usize, text: &[u8], stop: Option<usize>) -> bool {
     let mut sink = CutSink::new(budget, step);
     let answer = write_text(&mut sink, text);
-    let count = match wanted {
-        Ok(()) => text.len(),
-        Err(WriteStopped { written }) => written as usize,
+    let wanted = match stop {
+        None => Ok(()),
+        Some(count) => Err(WriteStopped {
+            written: count as u64,
+        }),
     };
+    let count = stop.unwrap_or(text.len());
     answer == wanted && sink.bytes().len() == count && text.starts_with(sink.bytes())
 }
 
 #[test]
 fn cut_sinks(rt: HostRuntime) {
     for (budget, step) in [(5, 1), (5, 2), (5, 5), (6, 4096), (usize::MAX, 3), (5, 0)] {
-        assert!(rt; takes(budget, step, b"a b\0c", Ok(())), "{budget} {step}");
+        assert!(rt; takes(budget, step, b"a b\0c", None), "{budget} {step}");
     }
-    assert!(rt; takes(0, 1, b"", Ok(())));
     for (budget, step) in [(0, 1), (1, 1), (3, 2), (4, 4096)] {
-        let stopped = WriteStopped {
-            written: budget as u64,
-        };
         assert!(rt;
-            takes(budget, step, b"a b\0c", Err(stopped)),
+            takes(budget, step, b"a b\0c", Some(budget)),
             "{budget} {step}"
         );
     }
-    let full = WriteStopped { written: 4096 };
-    assert!(rt; takes(usize::MAX, 100, &[b'x'; 5000], Err(full)));
+    assert!(rt; takes(0, 1, b"", None));
+    assert!(rt; takes(usize::MAX, 100, &[b'x'; 5000], Some(4096)));
 }
 
 #[test]
@@ -169,12 +169,14 @@ fn value<T: Token>(token: T, text: &[u8]) -> Option<T::Out> {
 
 /// The number of a whole text, where it lies in the range.
 fn decimal(lo: u64, hi: u64, text: &[u8]) -> Option<u64> {
-    value(DecimalText::new(lo, hi)?, text)
+    let token = DecimalText::new(lo, hi)?;
+    value(token, text)
 }
 
 /// The signed number of a whole text, where it lies in the range.
 fn signed(lo: i64, hi: i64, text: &[u8]) -> Option<i64> {
-    value(SignedText::new(lo, hi)?, text)
+    let token = SignedText::new(lo, hi)?;
+    value(token, text)
 }
 
 #[test]

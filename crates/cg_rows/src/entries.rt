@@ -138,7 +138,8 @@ fn values_fit(rt: HostRuntime) -> Result<(), Fail> {
         ("cpu.uclamp.min", clamped(10001), false),
     ];
     for (name, value, wanted) in &rows {
-        assert_eq!(rt; is_value_of(name, value)?, *wanted, "{name} {value:?}");
+        let fits = is_value_of(name, value)?;
+        assert_eq!(rt; fits, *wanted, "{name} {value:?}");
     }
     Ok(())
 }
@@ -158,9 +159,10 @@ fn is_controller(alloc: Global, word: &[u8]) -> Result<bool, Fail> {
 
 #[test]
 fn words_fit(rt: HostRuntime) -> Result<(), Fail> {
-    assert!(rt; is_controller(rt.alloc(), b"cpu")?);
-    assert!(rt; is_controller(rt.alloc(), b"cpu-")?);
-    assert!(rt; !is_controller(rt.alloc(), b"+cpu")?);
+    for (word, wanted) in [("cpu", true), ("cpu-", true), ("+cpu", false)] {
+        let fits = is_controller(rt.alloc(), word.as_bytes())?;
+        assert_eq!(rt; fits, wanted, "{word}");
+    }
     Ok(())
 }
 
@@ -192,11 +194,8 @@ fn settings_fit(rt: HostRuntime) -> Result<(), Fail> {
         ("io.weight", Setting::DefaultWeight(10001), false),
     ];
     for (name, setting, wanted) in &rows {
-        assert_eq!(rt;
-            is_setting_of(name, setting)?,
-            *wanted,
-            "{name} {setting:?}"
-        );
+        let fits = is_setting_of(name, setting)?;
+        assert_eq!(rt; fits, *wanted, "{name} {setting:?}");
     }
     Ok(())
 }
@@ -233,11 +232,8 @@ fn settings_of_devices_fit(rt: HostRuntime) -> Result<(), Fail> {
         ("io.latency", target_of(4096), false),
     ];
     for (name, setting, wanted) in &rows {
-        assert_eq!(rt;
-            is_setting_of(name, setting)?,
-            *wanted,
-            "{name} {setting:?}"
-        );
+        let fits = is_setting_of(name, setting)?;
+        assert_eq!(rt; fits, *wanted, "{name} {setting:?}");
     }
     Ok(())
 }
@@ -263,23 +259,37 @@ fn raw(alloc: Global, bytes: &[u8]) -> Result<Setting, Fail> {
     Ok(Setting::Raw(Items::of(held)))
 }
 
-/// Whether a setting of a write to a file of the name is made, and fits.
-fn fits_made(name: &str, made: Result<Setting, Fail>) -> Result<bool, Fail> {
-    let setting = made?;
-    is_setting_of(name, &setting)
+/// Whether a toggle of this name is one of a write of controllers.
+fn is_toggle(alloc: Global, name: &[u8]) -> Result<bool, Fail> {
+    let setting = toggle(alloc, name)?;
+    is_setting_of("cgroup.subtree_control", &setting)
+}
+
+/// Whether a set up to this number is one of a write of processors.
+fn is_set(alloc: Global, end: u32) -> Result<bool, Fail> {
+    let setting = set_to(alloc, end)?;
+    is_setting_of("cpuset.cpus", &setting)
+}
+
+/// Whether a line is one of a write to a file of any name.
+fn is_line(alloc: Global, bytes: &[u8]) -> Result<bool, Fail> {
+    let setting = raw(alloc, bytes)?;
+    is_setting_of("any", &setting)
 }
 
 #[test]
 fn settings_of_lists_fit(rt: HostRuntime) -> Result<(), Fail> {
-    let alloc = rt.alloc();
-    let control = "cgroup.subtree_control";
-    assert!(rt; fits_made(control, toggle(alloc, b"cpu"))?);
-    assert!(rt; !fits_made(control, toggle(alloc, b"+cpu"))?);
-    assert!(rt; !is_setting_of(control, &Setting::Controllers(Items::new(alloc)))?);
-    assert!(rt; fits_made("cpuset.cpus", set_to(alloc, 65535))?);
-    assert!(rt; !fits_made("cpuset.cpus", set_to(alloc, 65536))?);
-    assert!(rt; fits_made("any", raw(alloc, b"a\xff"))?);
-    assert!(rt; !fits_made("any", raw(alloc, b"a\n"))?);
-    assert!(rt; !fits_made("any", raw(alloc, b"\0"))?);
+    let none = Setting::Controllers(Items::new(rt.alloc()));
+    let no_toggle = is_setting_of("cgroup.subtree_control", &none)?;
+    let one_toggle = is_toggle(rt.alloc(), b"cpu")?;
+    let bad_toggle = is_toggle(rt.alloc(), b"+cpu")?;
+    assert!(rt; one_toggle && !no_toggle && !bad_toggle);
+    let small_set = is_set(rt.alloc(), 65535)?;
+    let large_set = is_set(rt.alloc(), 65536)?;
+    assert!(rt; small_set && !large_set);
+    let line = is_line(rt.alloc(), b"a\xff")?;
+    let lines = is_line(rt.alloc(), b"a\n")?;
+    let with_nul = is_line(rt.alloc(), b"\0")?;
+    assert!(rt; line && !lines && !with_nul);
     Ok(())
 }

@@ -1,5 +1,7 @@
 //! Calls that may want memory, made with the heap starved: after each refusal one block is given back, and the call is made
 //! again. Each answer is want of memory, or the answer with ample memory.
+ghost use Rattle.std.specs.Prelude.{◌≤◌};
+
 use cg_command::{Command, UsageFault, parse_words};
 use cg_line::{
     FileFault, PushFault, SettingFault, SettingReader, ValueReader, decode_file, decode_setting,
@@ -199,7 +201,8 @@ fn one_pair(alloc: Global) -> Result<Flat, Fail> {
 fn two_words(alloc: Global) -> Result<Vec<String>, AllocError> {
     let first = String::from_str(alloc, "file")?;
     let second = String::from_str(alloc, "cpu.max")?;
-    Ok(vec![in alloc; first, second]?)
+    let words = vec![in alloc; first, second]?;
+    Ok(words)
 }
 
 /// A run of `file`.
@@ -241,7 +244,8 @@ fn cases(alloc: Global) -> Result<Vec<Case>, AllocError> {
     let lines = file(alloc, b"hugetlb.2MB.max", b"ab\nc\n", b"ab\nc\n")?;
     let set = setting(alloc, b"cpuset.cpus", b"9,3-5,4\n", b"3-5,9\n")?;
     let line = setting(alloc, b"hugetlb.2MB.max", b"ab\n", b"ab\n")?;
-    Ok(vec![in alloc; number, list, numbers, lines, set, line]?)
+    let cases = vec![in alloc; number, list, numbers, lines, set, line]?;
+    Ok(cases)
 }
 
 /// What the calls are made on.
@@ -386,7 +390,8 @@ fn is_written(reader: SettingReader, ranges: &[(u32, u32)]) -> bool {
 fn files(rt: HostRuntime) -> Result<(), Fail> {
     let kind = read_kind(Profile::One, b"cpuset.cpus")?;
     let mut reader = ValueReader::new(rt.alloc(), kind);
-    assert!(rt; takes_starved(rt.alloc(), &mut reader, b"0-3,5\n")?);
+    let is_taken = takes_starved(rt.alloc(), &mut reader, b"0-3,5\n")?;
+    assert!(rt; is_taken);
     assert!(rt; ends_with(reader, &[(0, 3), (5, 5)]));
     Ok(())
 }
@@ -395,7 +400,8 @@ fn files(rt: HostRuntime) -> Result<(), Fail> {
 fn writes(rt: HostRuntime) -> Result<(), Fail> {
     let kind = write_kind(Profile::One, b"cpuset.cpus")?;
     let mut reader = SettingReader::new(rt.alloc(), kind);
-    assert!(rt; takes_starved(rt.alloc(), &mut reader, b"9,3-5,4\n")?);
+    let is_taken = takes_starved(rt.alloc(), &mut reader, b"9,3-5,4\n")?;
+    assert!(rt; is_taken);
     assert!(rt; is_written(reader, &[(3, 5), (9, 9)]));
     Ok(())
 }
@@ -403,14 +409,17 @@ fn writes(rt: HostRuntime) -> Result<(), Fail> {
 #[test]
 fn tokens(rt: HostRuntime) -> Result<(), Fail> {
     let mut token = StrictListText::new(rt.alloc(), 65535);
-    assert!(rt; takes_starved(rt.alloc(), &mut token, b"0-3,5")?);
+    let is_taken = takes_starved(rt.alloc(), &mut token, b"0-3,5")?;
+    assert!(rt; is_taken);
     assert!(rt; token.can_end());
     Ok(())
 }
 
 /// Inserts a range once there is memory, of which a block is given back after each refusal. Answers how often memory was
 /// refused, and whether the set was as before each time.
-fn insert_starved(set: &mut NumberSet, held: &mut Blocks, first: u32, last: u32) -> (u64, bool) {
+fn insert_starved(set: &mut NumberSet, held: &mut Blocks, first: u32, last: u32) -> (u64, bool)
+    requires { first ≤ last }
+{
     let mut refusals: u64 = 0;
     let before = set.len();
     for _ in 0..5000 {
@@ -452,7 +461,8 @@ fn key_back(pushed: Result<(), FlatRefused>) -> Option<Key> {
 #[test]
 fn pairs(rt: HostRuntime) -> Result<(), Fail> {
     let mut flat = Flat::new(rt.alloc());
-    let mut next = Some(Key::new(rt.alloc(), b"anon")?);
+    let first = Key::new(rt.alloc(), b"anon")?;
+    let mut next = Some(first);
     let mut held = hog(rt.alloc())?;
     let mut refusals: u64 = 0;
     for _ in 0..5000 {

@@ -109,13 +109,14 @@ fn pairs_of_keys(rt: HostRuntime) -> Result<(), Fail> {
 }
 
 /// As many pairs, of which the number is the key's place, neither in the order of the keys nor in the reverse order.
-fn filled(alloc: Global, count: u64) -> Result<Flat, Fail> {
+fn filled(alloc: Global, count: u32) -> Result<Flat, Fail> {
     let mut flat = FlatBuilder::new(alloc);
     for place in 0..count {
-        let name = format!(in alloc; "key{}", place * 3 % count)?;
+        let number = u64::from(place) * 3 % u64::from(count);
+        let name = format!(in alloc; "key{number}")?;
         let key = Key::new(alloc, name.as_bytes())?;
         flat.reserve()?;
-        flat.push(key, place)?;
+        flat.push(key, u64::from(place))?;
     }
     Ok(flat.finish())
 }
@@ -158,7 +159,8 @@ fn copies_of_pairs(rt: HostRuntime) -> Result<(), Fail> {
 
 /// The value of a file of the first profile.
 fn value_of(alloc: Global, name: &[u8], text: &[u8]) -> Result<Value, Fail> {
-    Ok(decode_file(alloc, Profile::One, name, text)?)
+    let value = decode_file(alloc, Profile::One, name, text)?;
+    Ok(value)
 }
 
 #[test]
