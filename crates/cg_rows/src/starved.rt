@@ -2,14 +2,14 @@
 //! again. Each answer is want of memory, or the answer with ample memory.
 ghost use Rattle.std.specs.Prelude.{◌≤◌};
 
-use cg_command::{Command, UsageFault, parse_words};
+use cg_command::{Command, parse_words};
 use cg_line::{
     FileFault, PushFault, SettingFault, SettingReader, ValueReader, decode_file, decode_setting,
 };
 use cg_print::{CutSink, print_file, print_setting};
 use cg_run::{CutSource, Outcome, run, status};
 use cg_snap::Limits;
-use cg_text::{Key, KeyFault, NumberSet, OutOfMemory, StrictListText, Token};
+use cg_text::{Items, Key, KeyFault, NumberSet, OutOfMemory, StrictListText, Token};
 use cg_value::{Entry, Flat, FlatRefused, Profile, Setting, Value, read_kind, write_kind};
 use std::alloc::{AllocError, Global};
 use std::test::Fail;
@@ -138,7 +138,6 @@ fn parses_words(alloc: Global, words: &[String]) -> Option<bool> {
                 && name.as_slice() == b"cpu.max".as_slice(),
         ),
         Ok(_) => Some(false),
-        Err(UsageFault::Help(_)) => Some(false),
         Err(_) => None,
     }
 }
@@ -345,6 +344,12 @@ impl Taking for StrictListText {
     }
 }
 
+impl Taking for Items<u8> {
+    fn take(&mut self, byte: u8) -> Option<bool> {
+        self.push(byte).is_ok().then_some(true)
+    }
+}
+
 /// Whether all bytes are taken, and memory was refused before.
 fn takes_starved<T: Taking>(
     alloc: Global,
@@ -412,6 +417,15 @@ fn tokens(rt: HostRuntime) -> Result<(), Fail> {
     let is_taken = takes_starved(rt.alloc(), &mut token, b"0-3,5")?;
     assert!(rt; is_taken);
     assert!(rt; token.can_end());
+    Ok(())
+}
+
+#[test]
+fn items(rt: HostRuntime) -> Result<(), Fail> {
+    let mut items = Items::new(rt.alloc());
+    let is_taken = takes_starved(rt.alloc(), &mut items, b"abc")?;
+    assert!(rt; is_taken);
+    assert!(rt; items.as_slice() == b"abc".as_slice());
     Ok(())
 }
 
