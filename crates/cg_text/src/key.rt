@@ -98,30 +98,3 @@ impl PartialEq for Key {
         self.bytes == other.bytes
     }
 }
-
-#[cfg(test)]
-mod tests {
-    use super::*;
-
-    #[test]
-    fn makes_keys(rt: HostRuntime) -> Result<(), KeyFault> {
-        let rows: [(&[u8], bool); 6] = [
-            (b"nr_dying", true),
-            (b"!~", true),
-            (b"", false),
-            (b"a=b", false),
-            (b"a b", false),
-            (b"a\x7f", false),
-        ];
-        for (bytes, is_word) in rows {
-            match Key::new(rt.alloc(), bytes) {
-                Ok(key) => assert!(rt; is_word && key.bytes() == bytes),
-                Err(fault) => assert!(rt; !is_word && fault == KeyFault::BadKey),
-            }
-        }
-        let key = Key::new(rt.alloc(), b"usage")?;
-        assert!(rt; key == Key::new(rt.alloc(), b"usage")?);
-        assert!(rt; key != Key::new(rt.alloc(), b"user")?);
-        Ok(())
-    }
-}

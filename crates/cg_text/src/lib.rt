@@ -47,8 +47,3 @@ pub use token::Token;
 pub use trigger::{Times, TriggerText};
 pub use values::{Amount, Clamp, Device, Hundredths, Limit};
 pub use word::WordText;
-
-#[cfg(test)]
-mod spelled;
-#[cfg(test)]
-mod tests;

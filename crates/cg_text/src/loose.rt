@@ -178,33 +178,3 @@ impl Token for LooseListText {
 
     ghost holds_bytes = { λ s rest all h. rest_bytes false s.ranges.items s.most s.low (number_rest s.number) (number_digits s.number.lo s.number.hi s.number.progress) (λ rs. Adds (front s.ranges.items) rs all) rest h };
 }
-
-#[cfg(test)]
-mod tests {
-    use super::*;
-    use crate::spelled::{reach, value};
-
-    #[test]
-    fn loose_lists(rt: HostRuntime) {
-        let alloc = rt.alloc();
-        let rows = [
-            (b"".as_slice(), 0, true),
-            (b"9,3-5,4".as_slice(), 7, true),
-            (b"3-3".as_slice(), 3, true),
-            (b"5-3,".as_slice(), 3, false),
-            (b"65535,65535-65535".as_slice(), 17, true),
-            (b"65536".as_slice(), 4, true),
-        ];
-        for (text, end, whole) in rows {
-            assert_eq!(rt; reach(LooseListText::new(alloc, 65535), text), (end, whole));
-        }
-        match value(LooseListText::new(alloc, 65535), b"9,3-5,4".as_slice()) {
-            Some(set) => assert_eq!(rt; set.ranges(), [(3, 5), (9, 9)].as_slice()),
-            None => assert!(rt; false),
-        }
-        match value(LooseListText::new(alloc, 65535), b"3-3".as_slice()) {
-            Some(set) => assert_eq!(rt; set.ranges(), [(3, 3)].as_slice()),
-            None => assert!(rt; false),
-        }
-    }
-}

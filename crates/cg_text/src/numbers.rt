@@ -145,33 +145,3 @@ impl PartialEq for NumberSet {
         self.ranges == other.ranges
     }
 }
-
-#[cfg(test)]
-mod tests {
-    use super::*;
-    use std::test::Fail;
-
-    #[test]
-    fn ranges_merge(rt: HostRuntime) -> Result<(), Fail> {
-        let mut set = NumberSet::new(rt.alloc());
-        for (first, last) in [(8, 10), (0, 4), (6, 6)] {
-            set.insert_range(first, last)?;
-        }
-        assert_eq!(rt; set.ranges(), [(0, 4), (6, 6), (8, 10)].as_slice());
-        assert_eq!(rt; set.len(), 9);
-        assert!(rt; set.contains(10) && !set.contains(5) && !set.contains(11));
-        set.insert_range(5, 5)?;
-        assert_eq!(rt; set.ranges(), [(0, 6), (8, 10)].as_slice());
-        assert_eq!(rt; set.len(), 10);
-        assert!(rt; set.copy(rt.alloc())? == set);
-        let mut whole = NumberSet::new(rt.alloc());
-        whole.insert_range(7, 4294967295)?;
-        assert!(rt; whole != set);
-        whole.insert_range(0, 6)?;
-        assert_eq!(rt; whole.ranges(), [(0, 4294967295)].as_slice());
-        set.insert_range(0, 4294967295)?;
-        assert!(rt; whole == set);
-        assert_eq!(rt; set.len(), 4294967296);
-        Ok(())
-    }
-}

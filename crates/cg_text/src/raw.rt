@@ -106,27 +106,3 @@ impl Scan for RawText {
         }
     }
 }
-
-#[cfg(test)]
-mod tests {
-    use super::*;
-    use crate::spelled::read;
-
-    #[test]
-    fn reads_raw_lines(rt: HostRuntime) {
-        let rows: [(&[u8], usize, bool); 4] = [
-            (b"", 0, true),
-            (b"any = thing\xff", 12, true),
-            (b"a\nb", 1, false),
-            (b"a\0b", 1, false),
-        ];
-        for (text, taken, whole) in rows {
-            let (at, line) = read(RawText::new(rt.alloc()), text);
-            assert_eq!(rt; at, taken);
-            match line {
-                Some(line) => assert!(rt; whole && line.as_slice() == text),
-                None => assert!(rt; !whole),
-            }
-        }
-    }
-}

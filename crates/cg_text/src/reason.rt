@@ -88,30 +88,3 @@ impl Token for ReasonText {
 
     ghost holds_bytes = { λ s rest v h. reason_bytes s.bytes.items rest v h };
 }
-
-#[cfg(test)]
-mod tests {
-    use super::*;
-    use crate::spelled::read;
-
-    #[test]
-    fn reads_reasons(rt: HostRuntime) {
-        let rows: [(&[u8], usize, Option<&[u8]>); 6] = [
-            (b"Cpu list empty)", 15, Some(b"Cpu list empty")),
-            (b")", 1, Some(b"")),
-            (b"a (b))", 6, Some(b"a (b)")),
-            (b"a) b", 4, None),
-            (b"", 0, None),
-            (b"a\n)", 1, None),
-        ];
-        for (text, taken, value) in rows {
-            let (at, reason) = read(ReasonText::new(rt.alloc()), text);
-            assert_eq!(rt; at, taken);
-            match (reason, value) {
-                (Some(reason), Some(value)) => assert!(rt; reason.as_slice() == value),
-                (None, None) => {}
-                _ => assert!(rt; false),
-            }
-        }
-    }
-}

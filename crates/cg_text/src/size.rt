@@ -154,28 +154,3 @@ impl Token for SizeText {
 
     ghost holds_bytes = { λ s. size_bytes s.taken };
 }
-
-#[cfg(test)]
-mod tests {
-    use super::*;
-    use crate::spelled::read;
-
-    #[test]
-    fn reads_sizes(rt: HostRuntime) {
-        let rows: [(&[u8], usize, Option<u64>); 10] = [
-            (b"15E", 3, Some(17293822569102704640)),
-            (b"16E", 2, None),
-            (b"18014398509481983K", 18, Some(18446744073709550592)),
-            (b"18014398509481984K", 17, None),
-            (b"0K", 2, Some(0)),
-            (b"3g", 2, Some(3221225472)),
-            (b"18446744073709551615", 20, Some(18446744073709551615)),
-            (b"18446744073709551616", 19, None),
-            (b"1MB", 2, None),
-            (b"K", 0, None),
-        ];
-        for (text, taken, value) in rows {
-            assert_eq!(rt; read(SizeText::new(), text), (taken, value));
-        }
-    }
-}

@@ -152,38 +152,3 @@ impl Token for TriggerText {
 
     ghost holds_bytes = { λ s. times_bytes s.stall (number_rest s.number) (number_digits s.number.lo s.number.hi s.number.progress) };
 }
-
-#[cfg(test)]
-mod tests {
-    use super::*;
-    use crate::spelled::{allowed, reach, value};
-    use std::test::Fail;
-
-    #[test]
-    fn triggers(rt: HostRuntime) -> Result<(), Fail> {
-        let rows = [
-            (b"150000 1000000".as_slice(), 14, true),
-            (b"0".as_slice(), 0, false),
-            (b"9999999 2".as_slice(), 8, false),
-            (b"9999999 9999998".as_slice(), 14, false),
-            (b"10000000 10000000".as_slice(), 17, true),
-            (b"10000001".as_slice(), 7, false),
-            (b"5  ".as_slice(), 2, false),
-        ];
-        for (text, end, whole) in rows {
-            assert_eq!(rt; reach(TriggerText::new(), text), (end, whole));
-        }
-        assert_eq!(rt;
-            value(TriggerText::new(), b"150000 1000000".as_slice()),
-            Some(Times {
-                stall: 150000,
-                window: 1000000
-            })
-        );
-        assert_eq!(rt;
-            allowed(rt.alloc(), TriggerText::new(), b"9999999 ".as_slice())?.as_slice(),
-            b"19".as_slice()
-        );
-        Ok(())
-    }
-}

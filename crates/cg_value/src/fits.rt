@@ -111,31 +111,3 @@ impl Value {
         }
     }
 }
-
-#[cfg(test)]
-mod tests {
-    use super::*;
-    use cg_text::{Clamp, Hundredths};
-    use std::test::Fail;
-
-    #[test]
-    fn fits(rt: HostRuntime) -> Result<(), Fail> {
-        let weight = ReadKind::of(ReadForm::Number { lo: 0, hi: 10000 });
-        for (number, wanted) in [(0, true), (10000, true), (10001, false)] {
-            assert_eq!(rt; Value::Number(number).fits(weight), wanted, "{number}");
-            assert!(rt; !Value::Signed(0).fits(weight));
-        }
-        let clamp = ReadKind::of(ReadForm::Clamp);
-        for (count, wanted) in [(0, true), (10000, true), (10001, false)] {
-            let value = Value::Clamp(Clamp::At(Hundredths { count }));
-            assert_eq!(rt; value.fits(clamp), wanted, "{count}");
-        }
-        let words = ReadKind::of(ReadForm::Words);
-        for (word, wanted) in [("cpu", true), ("+cpu", false), ("cpu-", true)] {
-            let mut held = Items::new(rt.alloc());
-            held.push(Key::new(rt.alloc(), word.as_bytes())?)?;
-            assert_eq!(rt; Value::Words(held).fits(words), wanted, "{word}");
-        }
-        Ok(())
-    }
-}

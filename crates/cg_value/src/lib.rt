@@ -18,8 +18,6 @@ pub mod setting;
 pub mod setting_laws;
 mod spelled;
 pub mod table;
-#[cfg(test)]
-mod tests;
 pub mod value;
 
 pub use copied::Copied;

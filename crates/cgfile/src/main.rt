@@ -1,27 +1,9 @@
 //! A reader and writer of cgroup interface files.
 #![tactic(auto)]
 
-mod cut;
-mod kinds;
-mod line;
-mod outcome;
-mod plain;
-mod reading;
-mod run;
-#[cfg(test)]
-mod setting_tests;
-mod source;
-#[cfg(test)]
-mod starved;
-#[cfg(test)]
-mod tests;
-mod text_reader;
-
 use cg_command::{UsageFault, parse_words};
 use cg_print::{PlainWriter, Sink, write_text};
-use outcome::status;
-use plain::PlainReader;
-use run::run;
+use cg_run::{PlainReader, run, status};
 use std::io;
 use std::process::ExitCode;
 

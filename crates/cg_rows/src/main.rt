@@ -1,0 +1,85 @@
+//! Worked rows: runs of the program over bytes in memory, each compared with what the formats say of it.
+//!
+//! It runs in the folder `data`. The names of its tables come on standard input, one a line. It prints how many rows of each
+//! table agree, and before that a line for each row that doesn't: the row, and the run that differs.
+//!
+//! A table has a row a line, of fields with `|` between. Spaces around a field don't belong to it, and a line that ends in
+//! `\` goes on in the next. Lines that begin with `#`, and lines without a byte, are no rows. There are two forms:
+//!
+//!     WORDS | INPUT | OUTPUT | STATUS
+//!     WORDS | INPUT | BYTES
+//!
+//! The first says what the program writes, called with these words over this input, and its exit status. It is run with
+//! pieces of several lengths, with a source that fails after each count of bytes, and with a sink that does. An output that
+//! begins with `~` is only a part of what is written. The second says which bytes may follow the input, by which a text may
+//! go on: each of the 256 bytes is tried after it, also where the limit of the stream is the input's length. Where the bytes
+//! begin with `!`, all others may follow.
+//!
+//! In a field `$` is a newline, `^` is NUL, and `\xNN` is the byte of two hexadecimal digits. A word without a byte is `""`.
+#![tactic(auto)]
+
+#[cfg(test)]
+mod calls;
+#[cfg(test)]
+mod entries;
+mod escape;
+#[cfg(test)]
+mod readers;
+mod row;
+#[cfg(test)]
+mod starved;
+mod trial;
+#[cfg(test)]
+mod values;
+
+use row::row_of;
+use std::process::ExitCode;
+use std::{fs, io};
+use trial::{Verdict, verdict_of};
+
+/// Judges the row of a line. Prints a line where it doesn't agree.
+fn is_met(rt: &HostRuntime, table: &str, line: &str) -> io::Result<bool> {
+    let verdict = match row_of(rt.alloc(), line) {
+        Ok(row) => verdict_of(rt.alloc(), &row),
+        Err(fault) => Verdict::Unread(fault),
+    };
+    match verdict {
+        Verdict::Agrees => return Ok(true),
+        Verdict::Differs(difference) => println!(rt; "{table}: {line}: {difference}")?,
+        Verdict::Unread(fault) => println!(rt; "{table}: {line}: {fault}")?,
+    }
+    Ok(false)
+}
+
+/// Judges the rows of a table, and prints how many agree.
+fn judge(rt: &HostRuntime, table: &str, text: &str) -> io::Result<()> {
+    let mut agreeing: u64 = 0;
+    let mut all: u64 = 0;
+    let mut row = String::new(rt.alloc());
+    for line in text.lines() {
+        if line.is_empty() || line.starts_with('#') {
+            continue;
+        }
+        match line.strip_suffix('\\') {
+            Some(front) => row.push_str(front.trim_start())?,
+            None => {
+                row.push_str(line.trim_start())?;
+                all = all.saturating_add(1);
+                if is_met(rt, table, row.as_str())? {
+                    agreeing = agreeing.saturating_add(1);
+                }
+                row.clear();
+            }
+        }
+    }
+    println!(rt; "{table}: {agreeing} of {all} rows agree")
+}
+
+fn main(rt: HostRuntime) -> io::Result<ExitCode> {
+    for line in rt.lines(rt.alloc()) {
+        let table = line?;
+        let text = fs::read_to_string(&rt, table.as_str())?;
+        judge(&rt, table.as_str(), text.as_str())?;
+    }
+    Ok(ExitCode::from(0))
+}

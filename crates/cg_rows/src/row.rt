@@ -1,0 +1,176 @@
+//! Rows, as a table spells them.
+use crate::escape::bytes_of;
+use cg_text::ByteSet;
+use std::alloc::{AllocError, AllocFailed, Global};
+use std::fmt;
+
+/// Why a line is no row.
+#[derive(Clone, Copy, Debug, PartialEq, Eq)]
+pub(crate) enum RowFault {
+    /// It has not three or four fields.
+    Fields,
+    /// A byte isn't spelled by two hexadecimal digits.
+    BadByte,
+    /// A word isn't text.
+    BadWord,
+    /// A status is no number.
+    BadStatus,
+    OutOfMemory,
+}
+
+impl fmt::Display for RowFault {
+    fn fmt<W: fmt::Write>(&self, f: &mut fmt::Formatter<W>) -> fmt::Result {
+        f.write_str(match self {
+            RowFault::Fields => "not three or four fields",
+            RowFault::BadByte => "a byte without two hexadecimal digits",
+            RowFault::BadWord => "a word that isn't text",
+            RowFault::BadStatus => "a status that is no number",
+            RowFault::OutOfMemory => "out of memory",
+        })
+    }
+}
+
+impl From<AllocError> for RowFault {
+    fn from(_e: AllocError) -> RowFault {
+        RowFault::OutOfMemory
+    }
+}
+
+impl<T: Drop> From<AllocFailed<T>> for RowFault {
+    fn from(_e: AllocFailed<T>) -> RowFault {
+        RowFault::OutOfMemory
+    }
+}
+
+/// Which bytes of the input settle what is written.
+#[derive(Clone, Copy, Debug, PartialEq, Eq)]
+pub(crate) enum Reach {
+    /// Nothing is read.
+    Nothing,
+    /// The byte of this place, and those before it.
+    UpTo(usize),
+    /// All bytes, and that they end there.
+    End,
+}
+
+/// What is written, and the exit status.
+#[derive(Drop)]
+pub(crate) struct Told {
+    pub(crate) text: Vec<u8>,
+    /// Whether this is the whole text, and not only a part of it.
+    pub(crate) is_whole: bool,
+    pub(crate) status: u8,
+    pub(crate) reach: Reach,
+}
+
+/// What a row says.
+#[derive(Drop)]
+pub(crate) enum Claim {
+    /// The input is answered so.
+    Ends(Told),
+    /// These bytes may follow the input.
+    GoesOn(ByteSet),
+}
+
+/// A row of a table.
+#[derive(Drop)]
+pub(crate) struct Row {
+    pub(crate) words: Vec<String>,
+    pub(crate) input: Vec<u8>,
+    pub(crate) claim: Claim,
+}
+
+/// A word of a command line.
+fn word_of(alloc: Global, text: &str) -> Result<String, RowFault> {
+    if text == "\"\"" {
+        return Ok(String::new(alloc));
+    }
+    let bytes = bytes_of(alloc, text)?;
+    match String::from_utf8(bytes) {
+        Ok(word) => Ok(word),
+        Err(_) => Err(RowFault::BadWord),
+    }
+}
+
+/// The words of a command line.
+fn words_of(alloc: Global, field: &str) -> Result<Vec<String>, RowFault> {
+    let mut words = Vec::new(alloc);
+    for text in field.split_whitespace() {
+        let word = word_of(alloc, text)?;
+        words.push(word)?;
+    }
+    Ok(words)
+}
+
+/// The place of the byte that stops a run, which its last line names.
+fn stop_of(output: &str) -> Option<usize> {
+    let place = match output.strip_prefix("cgfile: refused at ") {
+        Some(rest) => rest.strip_suffix(": line$")?,
+        None => output
+            .strip_prefix("cgfile: stream too long at ")?
+            .strip_suffix('$')?,
+    };
+    place.parse::<usize>().ok()
+}
+
+/// What settles an answer.
+fn reach_of(words: &str, output: &str) -> Reach {
+    if words.ends_with("kinds") || output.starts_with("cgfile: not ") {
+        return Reach::Nothing;
+    }
+    match stop_of(output) {
+        Some(at) => Reach::UpTo(at),
+        None => Reach::End,
+    }
+}
+
+/// What is written and the status, by the fields of a row.
+fn told_of(alloc: Global, words: &str, output: &str, status: &str) -> Result<Told, RowFault> {
+    let Ok(status) = status.parse::<u8>() else {
+        return Err(RowFault::BadStatus);
+    };
+    let part = output.strip_prefix('~');
+    let text = bytes_of(alloc, part.unwrap_or(output))?;
+    Ok(Told {
+        text,
+        is_whole: part.is_none(),
+        status,
+        reach: reach_of(words, output),
+    })
+}
+
+/// The bytes of a field, or after `!` all others.
+fn set_of(alloc: Global, field: &str) -> Result<ByteSet, RowFault> {
+    let others = field.strip_prefix('!');
+    let named = bytes_of(alloc, others.unwrap_or(field))?;
+    let mut set = ByteSet::new();
+    for byte in 0..=u8::MAX {
+        if named.as_slice().contains(&byte) != others.is_some() {
+            set.insert(byte);
+        }
+    }
+    Ok(set)
+}
+
+/// The row of a line.
+pub(crate) fn row_of(alloc: Global, line: &str) -> Result<Row, RowFault> {
+    let mut fields = line.split('|').map(|field| field.trim());
+    let (Some(words), Some(input), Some(output)) = (fields.next(), fields.next(), fields.next())
+    else {
+        return Err(RowFault::Fields);
+    };
+    let claim = match fields.next() {
+        Some(status) => Claim::Ends(told_of(alloc, words, output, status)?),
+        None => Claim::GoesOn(set_of(alloc, output)?),
+    };
+    if fields.next().is_some() {
+        return Err(RowFault::Fields);
+    }
+    let words = words_of(alloc, words)?;
+    let input = bytes_of(alloc, input)?;
+    Ok(Row {
+        words,
+        input,
+        claim,
+    })
+}

@@ -1,0 +1,148 @@
+-- What a run wrote for what it read.
+use Rattle.std.specs.Prelude.{◌≡◌, ℕ, ◌≤◌, Bool, true, false, List, [], ◌∷◌, ◌++◌, length, take, Option, Some, None}
+use Rattle.std.specs.Io.KnownBytes.{Appends, Consumes, IsAtEnd}
+use Rattle.cg_text.specs.Texts.{TextOf}
+use Rattle.cg_text.specs.Token.{told}
+use Rattle.cg_value.specs.Files.{KindText}
+use Rattle.cg_value.specs.Print.{print_of, print_setting_of}
+use Rattle.cg_value.specs.Settings.{WriteText}
+use Rattle.cg_value.specs.Table.{read_form_of, write_form_of}
+use Rattle.cg_value.specs.declared.kind.ReadForm.{ReadForm}
+use Rattle.cg_value.specs.declared.kind.WriteForm.{WriteForm}
+use Rattle.cg_value.specs.declared.profile.Profile.{Profile}
+use Rattle.cg_snap.specs.Stop.{IsTextUnstopped, TextStopOf}
+use Rattle.cg_snap.specs.declared.limits.Limits.{Limits}
+use Rattle.cg_snap.specs.declared.stop.Stop.{Stop}
+use Rattle.cg_snap.specs.declared.stop.Stop.TheVariants as stop
+use Rattle.cg_run.specs.Kinds.{kinds_lines}
+use Rattle.cg_run.specs.Outcome.{last_line}
+use Rattle.cg_run.specs.declared.outcome.Outcome.{Outcome}
+use Rattle.cg_run.specs.declared.outcome.Outcome.TheVariants as out
+use Rattle.cg_command.specs.declared.words.Command.{Command}
+use Rattle.cg_command.specs.declared.words.Command.TheVariants as command
+
+-- The bytes that were read, and how reading ended: what the source has left, and whether it has failed.
+pub record Reading : Type 0 where
+  pub bytes : List ℕ
+  pub left : Option (List ℕ)
+  pub failed : Bool
+
+-- The source has nothing to come and hasn't failed.
+abbrev pub IsEnded : Reading → Type 0
+IsEnded r = IsAtEnd r.left × (r.failed ≡ false)
+
+-- The texts are a relation to the values that they spell, and a value's canonical text is printed.
+module _ {V : Type 0} (Text : List ℕ → V → Type 0) (print : V → List ℕ) (max : ℕ) where
+  -- A whole text was read, and the part is its canonical text.
+  pub record IsTextPart (r : Reading) (part : List ℕ) : Type 0 where
+    pub ended : IsEnded r
+    pub unstopped : IsTextUnstopped (TextOf Text) max r.bytes
+    pub value : V
+    pub spelled : Text r.bytes value
+    pub part_is : part ≡ print value
+
+  -- The input ended before a text did.
+  pub record IsTextCut (r : Reading) (at : ℕ) : Type 0 where
+    pub ended : IsEnded r
+    pub unstopped : IsTextUnstopped (TextOf Text) max r.bytes
+    pub not_whole : TextOf Text r.bytes → ⊥
+    pub at_end : at ≡ length r.bytes
+
+  -- A read failed, and no byte before it stopped the run.
+  pub record IsTextFault (r : Reading) : Type 0 where
+    pub unstopped : IsTextUnstopped (TextOf Text) max r.bytes
+    pub failed : r.failed ≡ true
+
+  -- The input stopped so: by its first byte at fault, or by its end.
+  abbrev pub IsTextStop : Reading → Stop → Type 0
+  IsTextStop r (stop.Cut at) = IsTextCut r at
+  IsTextStop r s = TextStopOf (TextOf Text) max r.bytes s
+
+  -- The outcome that is right for such a text, and the parts that are written before the last line.
+  abbrev pub IsTextEnding : Reading → Outcome → List (List ℕ) → Type 0
+  IsTextEnding r out.Done parts = (part : List ℕ) × IsTextPart r part × (parts ≡ part ∷ [])
+  IsTextEnding r (out.Findings n) parts = ⊥
+  IsTextEnding r (out.Stopped s) parts = IsTextStop r s × (parts ≡ [])
+  IsTextEnding r out.NotReadable parts = ⊥
+  IsTextEnding r out.NotWritable parts = ⊥
+  IsTextEnding r out.ReadFault parts = IsTextFault r × (parts ≡ [])
+  IsTextEnding r (out.WriteFault n) parts = ⊥
+  IsTextEnding r out.OutOfMemory parts = ⊥
+
+  -- The first parts of a run over one text: none, or its one part.
+  abbrev pub AreTextParts : Reading → List (List ℕ) → Type 0
+  AreTextParts r [] = Unit {0}
+  AreTextParts r (part ∷ []) = IsTextPart r part
+  AreTextParts r (part ∷ other ∷ parts) = ⊥
+
+  -- Where memory was refused, some first parts, each whole; else the outcome that is right, with its parts.
+  abbrev pub IsTextRight : Reading → Outcome → List (List ℕ) → Type 0
+  IsTextRight r out.OutOfMemory parts = AreTextParts r parts
+  IsTextRight r o parts = IsTextEnding r o parts
+
+-- Nothing was read, and nothing is written but the last line of this outcome.
+pub record IsIdleRight (wanted : Outcome) (r : Reading) (o : Outcome) (parts : List (List ℕ)) : Type 0 where
+  pub outcome : o ≡ wanted
+  pub unread : r.bytes ≡ []
+  pub none : parts ≡ []
+
+-- By the form that the file's name has in the table. Where it has none, the outcome is the wanted one, before any read.
+abbrev pub IsFormRight : {F : Type 0} → Outcome → (F → Reading → Outcome → List (List ℕ) → Type 0) → Option F → Reading → Outcome → List (List ℕ) → Type 0
+IsFormRight wanted Right None r o parts = IsIdleRight wanted r o parts
+IsFormRight wanted Right (Some form) r o parts = Right form r o parts
+
+-- One file, and one write.
+abbrev pub IsFileRight : Option ReadForm → ℕ → Reading → Outcome → List (List ℕ) → Type 0
+IsFileRight form max = IsFormRight out.NotReadable (λ kind. IsTextRight (λ text v. KindText kind v text) print_of max) form
+
+abbrev pub IsWriteRight : Option WriteForm → ℕ → Reading → Outcome → List (List ℕ) → Type 0
+IsWriteRight form max = IsFormRight out.NotWritable (λ kind. IsTextRight (λ text s. WriteText kind s text) print_setting_of max) form
+
+-- The list of the kinds, for which nothing is read.
+pub record IsListRight (profile : Profile) (r : Reading) (o : Outcome) (parts : List (List ℕ)) : Type 0 where
+  pub outcome : o ≡ out.Done
+  pub unread : r.bytes ≡ []
+  pub lines : parts ≡ kinds_lines profile
+
+-- The outcome of a command that isn't built yet: there is nothing that it could read or write.
+abbrev pub unbuilt : Command → Outcome
+unbuilt command.Plan = out.NotWritable
+unbuilt c = out.NotReadable
+
+-- The outcome that is right for what was read, with the parts that are written before the last line.
+abbrev pub IsRight : Profile → Command → Limits → Reading → Outcome → List (List ℕ) → Type 0
+IsRight profile (command.File name) limits r o parts = IsFileRight (read_form_of profile name.items) limits.max_stream r o parts
+IsRight profile (command.Setting name) limits r o parts = IsWriteRight (write_form_of profile name.items) limits.max_stream r o parts
+IsRight profile command.Kinds limits r o parts = IsListRight profile r o parts
+IsRight profile c limits r o parts = IsIdleRight (unbuilt c) r o parts
+
+abbrev pub joined : List (List ℕ) → List ℕ
+joined [] = []
+joined (part ∷ parts) = part ++ joined parts
+
+-- The writer took the whole text of the outcome that is right; or, where it failed, the first bytes of it.
+abbrev pub Wrote : Option (List ℕ) → Option (List ℕ) → Bool → List ℕ → Outcome → Outcome → Type 0
+Wrote taken now failed text wanted (out.WriteFault written) = (n : ℕ) × (n ≤ length text) × Appends taken now (take n text) × (written ≡ told n) × (failed ≡ true)
+Wrote taken now failed text wanted o = (o ≡ wanted) × Appends taken now text
+
+-- What a run did: the bytes that it read, the outcome that is right for them with its parts, and what it wrote of these
+-- and the last line. Right says which outcome is, of a reading.
+pub record DidRun (Right : Reading → Outcome → List (List ℕ) → Type 0) (coming left : Option (List ℕ)) (read_failed : Bool)
+    (taken now : Option (List ℕ)) (write_failed : Bool) (o : Outcome) : Type 0 where
+  pub read : List ℕ
+  pub consumed : Consumes coming left read
+  pub wanted : Outcome
+  pub parts : List (List ℕ)
+  pub right : Right (record { bytes = read; left = left; failed = read_failed }) wanted parts
+  pub wrote : Wrote taken now write_failed (joined parts ++ last_line wanted) wanted o
+
+-- A whole run of a command.
+abbrev pub Ran : Profile → Command → Limits → Option (List ℕ) → Option (List ℕ) → Bool → Option (List ℕ) → Option (List ℕ) → Bool → Outcome → Type 0
+Ran profile c limits = DidRun (IsRight profile c limits)
+
+-- A command that reads nothing and takes no memory: the list of the kinds, one that names a file without the form, and one
+-- that isn't built.
+abbrev pub IsIdle : Profile → Command → Type 0
+IsIdle profile (command.File name) = read_form_of profile name.items ≡ None
+IsIdle profile (command.Setting name) = write_form_of profile name.items ≡ None
+IsIdle profile c = Unit {0}

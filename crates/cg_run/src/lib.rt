@@ -1,0 +1,18 @@
+//! A run of a command: from a source of bytes to a sink, with an exit status.
+#![tactic(auto)]
+
+pub mod cut;
+mod kinds;
+mod line;
+pub mod outcome;
+pub mod plain;
+mod reading;
+pub mod running;
+pub mod source;
+mod text_reader;
+
+pub use cut::CutSource;
+pub use outcome::{Outcome, status};
+pub use plain::PlainReader;
+pub use running::run;
+pub use source::Source;

@@ -1,0 +1,110 @@
+//! Reading one text from a source.
+ghost use Rattle.std.specs.Prelude.{◌≡◌, ◌≤◌, ◌<◌, ◌+◌, ℕ, List, [], ◌∷◌, ◌++◌, false, length, take, IfNone};
+ghost use Rattle.cg_text.specs.Texts.{TextOf};
+ghost use Rattle.cg_snap.specs.Stop.{TextStopOf};
+ghost use Rattle.cg_run.specs.Reading.{ending_of, GoesOn, TookPiece, HasRead};
+
+use crate::source::Source;
+use crate::text_reader::TextReader;
+use cg_line::PushFault;
+use cg_print::Failed;
+use cg_snap::{Stop, Why};
+
+/// How reading ended.
+#[derive(Clone, Copy, Debug, PartialEq, Eq)]
+pub(crate) enum Ending {
+    /// The source had no more bytes than these.
+    End { at: u64 },
+    /// A byte stopped it.
+    Stopped(Stop),
+    /// The source failed.
+    ReadFault,
+    OutOfMemory,
+}
+
+/// How the byte whose place is the limit of the stream stops it: by the grammar first.
+fn stop_at_limit<T: TextReader>(reader: &T, byte: u8, at: u64) -> Stop
+    ensures { (form : T.Form) (taken : List ℕ) → T.took reader.now form taken → at ≡ length taken → TextStopOf (TextOf (T.text form)) at (taken ++ byte ∷ []) result }
+{
+    if reader.allowed().contains(byte) {
+        Stop::TooMuch { at }
+    } else {
+        Stop::Refused { at, why: Why::Line }
+    }
+}
+
+/// As many bytes from the front as there is room for.
+fn front_of(bytes: &[u8], room: u64) -> &[u8]
+    ensures front { result.now ≡ take (length result.now) bytes.now }
+    ensures most { length result.now ≤ room }
+    ensures some { 0 < room → 0 < length bytes.now → 0 < length result.now }
+{
+    if room < bytes.len() as u64 {
+        bytes.split_at(room as usize).0
+    } else {
+        bytes
+    }
+}
+
+/// How reading ends at a byte of this place, which was not taken.
+fn ending_at(fault: PushFault, at: u64) -> Ending
+    ensures { result ≡ ending_of fault at }
+{
+    match fault {
+        PushFault::Refused => Ending::Stopped(Stop::Refused { at, why: Why::Line }),
+        PushFault::OutOfMemory => Ending::OutOfMemory,
+    }
+}
+
+/// Takes the bytes of a piece, of which the first has the place `at`.
+fn take_piece<T: TextReader>(reader: &mut T, piece: &[u8], at: u64, max: u64) -> Option<Ending>
+    requires { at ≤ max }
+    ensures took { (form : T.Form) (taken : List ℕ) → at ≡ length taken → GoesOn (T.took reader.old form) max taken →
+        TookPiece (TextOf (T.text form)) (T.took reader.new form) max taken piece.now result }
+    ensures room { IfNone result (at + length piece.now ≤ max) }
+{
+    let mut used = 0;
+    while used < piece.len() {
+        let place = at + used as u64;
+        if place == max {
+            return Some(Ending::Stopped(stop_at_limit(reader, piece[used], place)));
+        }
+        let (_, rest) = piece.split_at(used);
+        let run = reader.push_run(front_of(rest, max - place));
+        used += run.used;
+        match run.fault {
+            None => {}
+            Some(fault) => return Some(ending_at(fault, place + run.used as u64)),
+        }
+    }
+    None
+}
+
+/// Reads a text to the end of its source, or until something stops it.
+pub(crate) fn read_all<T: TextReader, R: Source>(
+    reader: &mut T,
+    source: &mut R,
+    buffer: &mut [u8],
+    max: u64,
+) -> Ending
+    requires { 0 < length buffer.old }
+    ensures read { (form : T.Form) → T.took reader.old form [] → R.has_failed source.old ≡ false →
+        HasRead (TextOf (T.text form)) (T.took reader.new form) max (R.coming source.old) (R.coming source.new) (R.has_failed source.new) result }
+    ensures asks { R.asks source.new ≤ R.asks source.old + max + 1 }
+{
+    let mut at = 0;
+    'reads: loop {
+        let count = match source.pull(buffer) {
+            Ok(count) => count,
+            Err(Failed) => return Ending::ReadFault,
+        };
+        if count == 0 {
+            return Ending::End { at };
+        }
+        let (piece, _) = buffer.split_at(count);
+        match take_piece(reader, piece, at, max) {
+            None => at += count as u64,
+            Some(ending) => return ending,
+        }
+    }
+}

@@ -1,0 +1,166 @@
+//! The program's run.
+ghost use Rattle.std.specs.Prelude.{◌≡◌, ◌≢◌, ◌≤◌, ◌+◌, ℕ, List, [], false, None, length};
+ghost use Rattle.cg_value.specs.Table.{read_form_of, write_form_of};
+ghost use Rattle.cg_run.specs.Outcome.{last_line, is_write_fault};
+ghost use Rattle.cg_run.specs.Run.{Ran, DidRun, Wrote, IsIdle, IsTextRight, IsFileRight, IsWriteRight};
+ghost use Rattle.cg_run.specs.Ended.{HasEnded};
+
+use crate::kinds::told_kinds;
+use crate::line::last_line_of;
+use crate::outcome::Outcome;
+use crate::reading::{Ending, read_all};
+use crate::source::Source;
+use crate::text_reader::TextReader;
+use cg_command::Command;
+use cg_line::{SettingReader, ValueReader};
+use cg_print::{Sink, WriteStopped, write_text};
+use cg_snap::{Limits, Stop};
+use cg_value::{Profile, read_kind, write_kind};
+use std::alloc::Global;
+
+/// How many bytes are read at once.
+const PIECE: usize = 65536;
+
+/// Writes the text of an outcome, and answers the outcome, or how much of the text was taken.
+fn told<W: Sink>(writer: &mut W, text: &[u8], outcome: Outcome) -> Outcome
+    requires { is_write_fault outcome ≡ false }
+    ensures { Wrote (W.taken writer.old) (W.taken writer.new) (W.has_failed writer.new) text.now outcome result }
+{
+    match write_text(writer, text) {
+        Ok(()) => outcome,
+        Err(WriteStopped { written }) => Outcome::WriteFault { written },
+    }
+}
+
+/// Writes the last line of an outcome.
+fn told_line<W: Sink>(writer: &mut W, outcome: Outcome) -> Outcome
+    requires { is_write_fault outcome ≡ false }
+    ensures { Wrote (W.taken writer.old) (W.taken writer.new) (W.has_failed writer.new) (last_line outcome) outcome result }
+{
+    let line = last_line_of(outcome);
+    told(writer, line.bytes(), outcome)
+}
+
+/// What is written of what a whole text spells.
+fn told_spelled<T: TextReader, W: Sink>(
+    alloc: Global,
+    spelled: &T::Spelled,
+    writer: &mut W,
+) -> Outcome
+    ensures { (form : T.Form) (bytes : List ℕ) → T.text form bytes spelled.now →
+        HasEnded (T.text form) T.printed bytes (W.taken writer.old) (W.taken writer.new) (W.has_failed writer.new) result }
+{
+    match T::print(alloc, spelled) {
+        Ok(text) => told(writer, text.as_slice(), Outcome::Done),
+        Err(_) => told_line(writer, Outcome::OutOfMemory),
+    }
+}
+
+/// What is written once the input of a text has ended at this place.
+fn told_end<T: TextReader, W: Sink>(alloc: Global, text: T, at: u64, writer: &mut W) -> Outcome
+    ensures { (form : T.Form) (bytes : List ℕ) → T.took text form bytes → at ≡ length bytes →
+        HasEnded (T.text form) T.printed bytes (W.taken writer.old) (W.taken writer.new) (W.has_failed writer.new) result }
+{
+    match text.finish() {
+        Some(spelled) => told_spelled::<T, W>(alloc, &spelled, writer),
+        None => told_line(writer, Outcome::Stopped(Stop::Cut { at })),
+    }
+}
+
+/// Reads a text and writes its canonical text after the end of input.
+fn run_text<T: TextReader, R: Source, W: Sink>(
+    alloc: Global,
+    mut text: T,
+    reader: &mut R,
+    writer: &mut W,
+    max: u64,
+) -> Outcome
+    ensures ran { (form : T.Form) → T.took text form [] → R.has_failed reader.old ≡ false → DidRun (IsTextRight (T.text form) T.printed max)
+        (R.coming reader.old) (R.coming reader.new) (R.has_failed reader.new)
+        (W.taken writer.old) (W.taken writer.new) (W.has_failed writer.new) result }
+    ensures asks { R.asks reader.new ≤ R.asks reader.old + max + 1 }
+{
+    let mut buffer = [0; PIECE];
+    match read_all(&mut text, reader, &mut buffer, max) {
+        Ending::End { at } => told_end(alloc, text, at, writer),
+        Ending::Stopped(stop) => told_line(writer, Outcome::Stopped(stop)),
+        Ending::ReadFault => told_line(writer, Outcome::ReadFault),
+        Ending::OutOfMemory => told_line(writer, Outcome::OutOfMemory),
+    }
+}
+
+/// Reads the file of this name, where it can be read.
+fn run_file<R: Source, W: Sink>(
+    alloc: Global,
+    profile: Profile,
+    name: &[u8],
+    reader: &mut R,
+    writer: &mut W,
+    max: u64,
+) -> Outcome
+    ensures ran { R.has_failed reader.old ≡ false → DidRun (IsFileRight (read_form_of profile name.now) max)
+        (R.coming reader.old) (R.coming reader.new) (R.has_failed reader.new)
+        (W.taken writer.old) (W.taken writer.new) (W.has_failed writer.new) result }
+    ensures asks { R.asks reader.new ≤ R.asks reader.old + max + 1 }
+    ensures unasked { read_form_of profile name.now ≡ None → R.asks reader.new ≡ R.asks reader.old }
+    ensures no_memory { read_form_of profile name.now ≡ None → result ≢ Outcome.OutOfMemory }
+{
+    match read_kind(profile, name) {
+        Ok(kind) => run_text(alloc, ValueReader::new(alloc, kind), reader, writer, max),
+        Err(_) => told_line(writer, Outcome::NotReadable),
+    }
+}
+
+/// Reads one write to the file of this name, where it can be written.
+fn run_setting<R: Source, W: Sink>(
+    alloc: Global,
+    profile: Profile,
+    name: &[u8],
+    reader: &mut R,
+    writer: &mut W,
+    max: u64,
+) -> Outcome
+    ensures ran { R.has_failed reader.old ≡ false → DidRun (IsWriteRight (write_form_of profile name.now) max)
+        (R.coming reader.old) (R.coming reader.new) (R.has_failed reader.new)
+        (W.taken writer.old) (W.taken writer.new) (W.has_failed writer.new) result }
+    ensures asks { R.asks reader.new ≤ R.asks reader.old + max + 1 }
+    ensures unasked { write_form_of profile name.now ≡ None → R.asks reader.new ≡ R.asks reader.old }
+    ensures no_memory { write_form_of profile name.now ≡ None → result ≢ Outcome.OutOfMemory }
+{
+    match write_kind(profile, name) {
+        Ok(kind) => run_text(alloc, SettingReader::new(alloc, kind), reader, writer, max),
+        Err(_) => told_line(writer, Outcome::NotWritable),
+    }
+}
+
+/// Runs a command: reads from the source by pieces, and writes to the sink.
+///
+/// A command that isn't built yet reads nothing, and answers that there is nothing to read or write.
+pub fn run<R: Source, W: Sink>(
+    alloc: Global,
+    profile: Profile,
+    command: &Command,
+    reader: &mut R,
+    writer: &mut W,
+    limits: Limits,
+) -> Outcome
+    ensures ran { R.has_failed reader.old ≡ false → Ran profile command.now limits
+        (R.coming reader.old) (R.coming reader.new) (R.has_failed reader.new)
+        (W.taken writer.old) (W.taken writer.new) (W.has_failed writer.new) result }
+    ensures asks { R.asks reader.new ≤ R.asks reader.old + limits.max_stream + 2 }
+    ensures unasked { IsIdle profile command.now → R.asks reader.new ≡ R.asks reader.old }
+    ensures no_memory { IsIdle profile command.now → result ≢ Outcome.OutOfMemory }
+{
+    let max = limits.max_stream;
+    match command {
+        Command::File { name } => run_file(alloc, profile, name.as_slice(), reader, writer, max),
+        Command::Setting { name } => {
+            run_setting(alloc, profile, name.as_slice(), reader, writer, max)
+        }
+        Command::Kinds => told_kinds(profile, writer),
+        Command::Plan => told_line(writer, Outcome::NotWritable),
+        Command::Show => told_line(writer, Outcome::NotReadable),
+        Command::Json => told_line(writer, Outcome::NotReadable),
+        Command::Check => told_line(writer, Outcome::NotReadable),
+    }
+}

@@ -1,0 +1,124 @@
+//! What reads one text, of a file or of a write.
+ghost use Rattle.std.specs.Prelude.{◌≡◌, ◌≤◌, ◌<◌, ◌↔◌, ℕ, List, length, MatchOption, IfOk, IfNone};
+ghost use Rattle.cg_text.specs.Bytes.{HasByte};
+ghost use Rattle.cg_text.specs.Texts.{TextOf, Viable, Next};
+ghost use Rattle.cg_run.specs.TextReader.{IsRunTaken};
+
+use cg_line::{PushedRun, SettingReader, ValueReader};
+use cg_print::{print_file, print_setting};
+use cg_text::{ByteSet, OutOfMemory};
+use cg_value::{ReadForm, Setting, Value, WriteForm};
+use std::alloc::Global;
+
+/// A reader of one text, and how what the text spells is printed.
+pub(crate) trait TextReader: Drop {
+    /// What tells which texts are read.
+    type Form;
+
+    /// What a text spells.
+    type Spelled: Drop;
+
+    // The texts of a form, each with what it spells.
+    ghost text: { Self.Form → List ℕ → Self.Spelled → Type 0 };
+
+    // The canonical text of what is spelled.
+    ghost printed: { Self.Spelled → List ℕ };
+
+    // The reader is of this form and took these bytes.
+    ghost took: { Self → Self.Form → List ℕ → Type 0 };
+
+    /// Takes bytes from the front of `bytes`: until a newline was taken, none is left, or one is refused or memory is.
+    fn push_run(&mut self, bytes: &[u8]) -> PushedRun
+        ensures taken { (form : Self.Form) (taken : List ℕ) → took self.old form taken → IsRunTaken (TextOf (text form)) (took self.new form) taken bytes.now result }
+        ensures within { result.used ≤ length bytes.now }
+        ensures goes_on { IfNone result.fault (0 < length bytes.now → 0 < result.used) };
+
+    /// The bytes with which some text of the form goes on.
+    fn allowed(&self) -> ByteSet
+        ensures { (form : Self.Form) (taken : List ℕ) → took self.now form taken → (byte : ℕ) → HasByte result byte ↔ Next (TextOf (text form)) taken byte };
+
+    /// What the bytes spell, where they are a whole text.
+    fn finish(self) -> Option<Self::Spelled>
+        ensures { (form : Self.Form) (taken : List ℕ) → took self form taken → MatchOption result (TextOf (text form) taken → ⊥) (λ v. text form taken v) };
+
+    /// The canonical text of what is spelled. `OutOfMemory` where no memory is left.
+    fn print(alloc: Global, spelled: &Self::Spelled) -> Result<Vec<u8>, OutOfMemory>
+        ensures { IfOk result (λ text. text.items ≡ printed spelled.now) };
+
+    /// Some text of the form begins with the bytes that were taken.
+    ghost viable: { (s : Self) (form : Self.Form) (taken : List ℕ) → took s form taken → Viable (TextOf (text form)) taken };
+}
+
+impl TextReader for ValueReader {
+    type Form = ReadForm;
+
+    type Spelled = Value;
+
+    ghost use Rattle.cg_line.specs.Reads.{Reads, reads_viable};
+    ghost use Rattle.cg_value.specs.Files.{KindText};
+    ghost use Rattle.cg_value.specs.Print.{print_of};
+
+    ghost text = { λ form text v. KindText form v text };
+
+    ghost printed = { print_of };
+
+    ghost took = { Reads };
+
+    ghost viable = { reads_viable };
+
+    fn push_run(&mut self, bytes: &[u8]) -> PushedRun {
+        ValueReader::push_run(self, bytes)
+    }
+
+    fn allowed(&self) -> ByteSet {
+        ValueReader::allowed(self)
+    }
+
+    fn finish(self) -> Option<Value> {
+        match ValueReader::finish(self) {
+            Ok(value) => Some(value),
+            Err(_) => None,
+        }
+    }
+
+    fn print(alloc: Global, spelled: &Value) -> Result<Vec<u8>, OutOfMemory> {
+        print_file(alloc, spelled)
+    }
+}
+
+impl TextReader for SettingReader {
+    type Form = WriteForm;
+
+    type Spelled = Setting;
+
+    ghost use Rattle.cg_line.specs.Takes.{Takes, takes_viable};
+    ghost use Rattle.cg_value.specs.Settings.{WriteText};
+    ghost use Rattle.cg_value.specs.Print.{print_setting_of};
+
+    ghost text = { λ form text s. WriteText form s text };
+
+    ghost printed = { print_setting_of };
+
+    ghost took = { Takes };
+
+    ghost viable = { takes_viable };
+
+    fn push_run(&mut self, bytes: &[u8]) -> PushedRun {
+        SettingReader::push_run(self, bytes)
+    }
+
+    fn allowed(&self) -> ByteSet {
+        SettingReader::allowed(self)
+    }
+
+    fn finish(self) -> Option<Setting> {
+        match SettingReader::finish(self) {
+            Ok(setting) => Some(setting),
+            Err(_) => None,
+        }
+    }
+
+    fn print(alloc: Global, spelled: &Setting) -> Result<Vec<u8>, OutOfMemory> {
+        print_setting(alloc, spelled)
+    }
+}
