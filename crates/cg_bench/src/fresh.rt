@@ -1,7 +1,7 @@
 //! New tokens of the values that cgroup files hold.
 use crate::stat::StatPairing;
-use cg_join::{Distinct, DistinctPairs, LimitText, Lines, NumberStart, Repeat, WordStart};
-use cg_text::{DecimalText, SignedText, WordText};
+use cg_join::{DistinctPairs, DistinctWords, LimitText, Lines, NumberStart, Repeat, WordStart};
+use cg_text::{DecimalText, SignedText};
 use std::alloc::Global;
 
 /// A number of `memory.stat`.
@@ -55,14 +55,14 @@ pub(crate) fn lines(alloc: Global) -> Lines<DecimalText, NumberStart> {
 }
 
 /// The controllers of `cgroup.controllers`, which are all different.
-pub(crate) fn controllers(alloc: Global) -> Distinct<WordText, WordStart> {
-    Distinct::new(alloc, WordStart::new(alloc, true), b' ')
+pub(crate) fn controllers(alloc: Global) -> DistinctWords {
+    DistinctWords::new(alloc, WordStart::new(alloc, true), b' ')
 }
 
 /// The pairs of `io.stat` behind the device, each a word and a whole number, the words all different.
 pub(crate) fn stats(
     alloc: Global,
-) -> DistinctPairs<WordText, DecimalText, WordStart, NumberStart, StatPairing> {
+) -> DistinctPairs<DecimalText, NumberStart, StatPairing> {
     DistinctPairs::new(
         alloc,
         WordStart::new(alloc, false),

@@ -1,6 +1,6 @@
 //! A word and a number, as `io.stat` pairs them.
 use cg_join::Pairing;
-use cg_text::{DecimalText, Key, WordText};
+use cg_text::{DecimalText, Key};
 
 /// A word and its number.
 #[derive(Drop)]
@@ -12,7 +12,7 @@ pub(crate) struct Stat {
 /// Makes it.
 pub(crate) struct StatPairing;
 
-impl Pairing<WordText, DecimalText> for StatPairing {
+impl Pairing<DecimalText> for StatPairing {
     type Pair = Stat;
 
     ghost use Rattle.std.specs.Prelude.{refl};

@@ -4,8 +4,8 @@ use Rattle.std.proofs.Math.Seq.{take-add}
 use Rattle.std.proofs.lemmas.List.{get_or-drop, get_or-take, take_all}
 use Rattle.std.specs.Io.KnownBytes.{Consumes, Keeps}
 use Rattle.cg_text.specs.Texts.{Viable, Next}
-use Rattle.cg_machine.specs.declared.machine.PushFault.{PushFault}
-use Rattle.cg_machine.specs.declared.machine.PushFault.TheVariants as push
+use Rattle.cg_line.specs.declared.push.PushFault.{PushFault}
+use Rattle.cg_line.specs.declared.push.PushFault.TheVariants as push
 use Rattle.cg_line.specs.Runs.{StopsAt}
 use Rattle.cg_snap.specs.Stop.{IsTextUnstopped, TextStopOf}
 use Rattle.cg_snap.specs.declared.stop.Stop.{Stop}

@@ -1,6 +1,0 @@
-use Rattle.cg_keyed_machine.specs.LimitsRests.{limits_rests}
-use Rattle.cg_keyed_machine.proofs.limits_machine.LimitsMachineTextMachine.allows_byte.Goals as goal
-
-pub returns : goal.returns
-unfolding limits_rests
-returns c = c.allows_byte.ensures

@@ -1,6 +1,0 @@
-use Rattle.cg_keyed_machine.specs.NestedRests.{nested_rests}
-use Rattle.cg_keyed_machine.proofs.nested_machine.NestedMachineTextMachine.allows_byte.Goals as goal
-
-pub returns : goal.returns
-unfolding nested_rests
-returns c = c.allows_byte.ensures

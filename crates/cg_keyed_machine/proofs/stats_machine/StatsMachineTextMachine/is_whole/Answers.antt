@@ -1,6 +1,0 @@
-use Rattle.cg_keyed_machine.specs.StatsRests.{stats_rests}
-use Rattle.cg_keyed_machine.proofs.stats_machine.StatsMachineTextMachine.is_whole.Goals as goal
-
-pub returns : goal.returns
-unfolding stats_rests
-returns c = c.is_whole.ensures

@@ -1,6 +1,0 @@
-use Rattle.cg_keyed_machine.specs.WeightsRests.{weights_rests}
-use Rattle.cg_keyed_machine.proofs.weights_machine.WeightsMachineTextMachine.allows_byte.Goals as goal
-
-pub returns : goal.returns
-unfolding weights_rests
-returns c = c.allows_byte.ensures

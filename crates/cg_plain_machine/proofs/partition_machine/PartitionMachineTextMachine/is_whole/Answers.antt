@@ -1,6 +1,0 @@
-use Rattle.cg_plain_machine.specs.PartitionRests.{partition_rests}
-use Rattle.cg_plain_machine.proofs.partition_machine.PartitionMachineTextMachine.is_whole.Goals as goal
-
-pub returns : goal.returns
-unfolding partition_rests
-returns c = c.is_whole.ensures

@@ -1,6 +1,0 @@
-use Rattle.cg_write_machine.specs.SignedRests.{signed_rests}
-use Rattle.cg_write_machine.proofs.signed_machine.SignedMachineTextMachine.is_whole.Goals as goal
-
-pub returns : goal.returns
-unfolding signed_rests
-returns c = c.is_whole.ensures
