@@ -1,6 +1,6 @@
 -- How a piece is taken.
 use Rattle.std.proofs.Common.{◌≡◌, ℕ, zero, suc, Bool, ◌+◌, ◌-◌, ◌<◌, ◌≤◌, List, [], ◌∷◌, ◌++◌, take, drop, length, get_or, Option, Some, None, refl, sym, ap, ◌∙◌, append_assoc, append-nil, arith, length-append, length-drop, length-take}
-use Rattle.std.proofs.Math.Seq.{take-add}
+use Rattle.std.proofs.Math.Seq.{take-add, take-append_seam}
 use Rattle.std.proofs.lemmas.List.{get_or-drop, get_or-take, take_all}
 use Rattle.std.specs.Io.KnownBytes.{Consumes, Keeps}
 use Rattle.cg_text.specs.Texts.{Viable, Next}
@@ -11,6 +11,7 @@ use Rattle.cg_snap.specs.Stop.{IsTextUnstopped, TextStopOf}
 use Rattle.cg_snap.specs.declared.stop.Stop.{Stop}
 use Rattle.cg_snap.specs.declared.stop.Stop.TheVariants.{Refused}
 use Rattle.cg_snap.specs.declared.stop.Why.TheVariants.{Line}
+use Rattle.cg_run.specs.Run.{IsTextStarved}
 use Rattle.cg_run.specs.Reading.{ending_of, GoesOn, TookPiece, EndsBy}
 use Rattle.cg_run.specs.declared.reading.Ending.{Ending}
 use Rattle.cg_run.specs.declared.reading.Ending.TheVariants.{End, Stopped, ReadFault, OutOfMemory}
@@ -28,6 +29,19 @@ module _ (L Took : List ℕ → Type 0) (viable : (taken : List ℕ) → Took ta
       let at : place ≡ length (taken ++ take i piece) = omega (arith, e, within, length-append taken (take i piece), length-take i piece) in
       let here = stop_refused L max (taken ++ take i piece) (get_or piece i 0) (viable _ h.0) h.1 none in
       rw (at, ← piece_at taken piece i within) (stop_longer L max _ (drop (i + 1) piece) _ here)
+
+-- Memory was refused for a byte of the piece.
+piece_starved : (L : List ℕ → Type 0) (max : ℕ) (taken piece : List ℕ) (i : ℕ) → i < length piece → length taken + i < max → Next L (taken ++ take i piece) (get_or piece i 0) → IsTextStarved L max (taken ++ piece)
+piece_starved L max taken piece i within room goes =
+    let front = taken ++ take i piece in
+    let whole = front ++ get_or piece i 0 ∷ [] in
+    let long : length front ≡ length taken + i = omega (arith, within, length-append taken (take i piece), length-take i piece) in
+    let more : length whole ≡ length front + 1 = length-append front (get_or piece i 0 ∷ []) in
+    record {
+      at = length front;
+      within = omega (arith, long, within, length-append taken piece);
+      unstopped = rw (← more, ← piece_at taken piece i within, take-append_seam whole (drop (i + 1) piece)) (unstopped L max whole goes (omega (arith, long, more, room)));
+    }
 
 module _ (Took : List ℕ → Type 0) (max : ℕ) (taken piece : List ℕ) where
   pub goes_first : GoesOn Took max taken → GoesOn Took max (taken ++ take 0 piece)
@@ -66,13 +80,15 @@ module _ (piece rest front : List ℕ) (used n : ℕ) (rest_is : rest ≡ drop u
       (rw same at h, omega (arith, room, length-append taken (take (used + n) piece), length-take (used + n) piece))
 
   -- The byte after it was not.
-  pub run_stopped : (L Took : List ℕ → Type 0) → ((taken : List ℕ) → Took taken → Viable L taken) → (max at place : ℕ) (taken : List ℕ) (fault : PushFault) → at ≡ length taken → place ≡ at + used → used ≤ length piece → place + n ≤ max → n ≤ length front →
+  pub run_stopped : (L Took : List ℕ → Type 0) → ((taken : List ℕ) → Took taken → Viable L taken) → (max at place : ℕ) (taken : List ℕ) (fault : PushFault) → at ≡ length taken → place ≡ at + used → used ≤ length piece → place + length front ≤ max → n ≤ length front →
       Took ((taken ++ take used piece) ++ take n front) → StopsAt L (taken ++ take used piece) front n (Some fault) → TookPiece L Took max taken piece (Some (ending_of fault (place + n)))
   run_stopped L Took viable max at place taken push.Refused e f here room most h stops =
       let same : (taken ++ take used piece) ++ take n front ≡ taken ++ take (used + n) piece = append_assoc taken (take used piece) (take n front) ∙ ap (λ t. taken ++ t) (sym (run_front most)) in
-      let goes = goes_run Took max taken most (omega (arith, e, f, room)) h in
+      let goes = goes_run Took max taken most (omega (arith, e, f, room, most)) h in
       piece_refused L Took viable max taken piece (used + n) (place + n) (omega (arith, stops.0, front_within, here)) (omega (arith, e, f)) goes (rw (same, front_byte stops.0) at stops.2)
-  run_stopped L Took viable max at place taken push.OutOfMemory e f here room most h stops = tt
+  run_stopped L Took viable max at place taken push.OutOfMemory e f here room most h stops =
+      let same : (taken ++ take used piece) ++ take n front ≡ taken ++ take (used + n) piece = append_assoc taken (take used piece) (take n front) ∙ ap (λ t. taken ++ t) (sym (run_front most)) in
+      piece_starved L max taken piece (used + n) (omega (arith, stops.0, front_within, here)) (omega (arith, e, f, room, stops.0)) (rw (same, front_byte stops.0) at stops.2)
 
 module _ (L : List ℕ → Type 0) (max : ℕ) (taken piece : List ℕ) where
   -- A stop at a byte of the piece.
@@ -85,7 +101,7 @@ module _ (L : List ℕ → Type 0) (max : ℕ) (taken piece : List ℕ) where
   ended_piece Took left failed (End at) h = absurd h
   ended_piece Took left failed (Stopped stop) h = h
   ended_piece Took left failed ReadFault h = absurd h
-  ended_piece Took left failed OutOfMemory h = tt
+  ended_piece Took left failed OutOfMemory h = h
 
 -- What a source gives.
 pub Consumes-nil : (a : Option (List ℕ)) → Consumes a a []

@@ -12,7 +12,7 @@ module _ {V : Type 0} (Text : List ℕ → V → Type 0) (print : V → List ℕ
   abbrev pub IsEndRight : List ℕ → Outcome → List (List ℕ) → Type 0
   IsEndRight bytes out.Done parts = (v : V) × Text bytes v × (parts ≡ print v ∷ [])
   IsEndRight bytes (out.Stopped (stop.Cut at)) parts = (TextOf Text bytes → ⊥) × (at ≡ length bytes) × (parts ≡ [])
-  IsEndRight bytes out.OutOfMemory parts = parts ≡ []
+  IsEndRight bytes out.OutOfMemory parts = (v : V) × Text bytes v × (parts ≡ [])
   IsEndRight bytes o parts = ⊥
 
   pub record HasEnded (bytes : List ℕ) (taken now : Option (List ℕ)) (failed : Bool) (o : Outcome) : Type 0 where

@@ -6,6 +6,7 @@ use Rattle.cg_line.specs.declared.push.PushFault.TheVariants as push
 use Rattle.cg_snap.specs.Stop.{IsTextUnstopped, TextStopOf}
 use Rattle.cg_snap.specs.declared.stop.Stop.TheVariants.{Refused}
 use Rattle.cg_snap.specs.declared.stop.Why.TheVariants.{Line}
+use Rattle.cg_run.specs.Run.{IsTextStarved}
 use Rattle.cg_run.specs.declared.reading.Ending.{Ending}
 use Rattle.cg_run.specs.declared.reading.Ending.TheVariants.{End, Stopped, ReadFault, OutOfMemory}
 
@@ -26,15 +27,16 @@ module _ (L Took : List ℕ → Type 0) (max : ℕ) where
   TookPiece taken piece (Some (End at)) = ⊥
   TookPiece taken piece (Some (Stopped stop)) = TextStopOf L max (taken ++ piece) stop
   TookPiece taken piece (Some ReadFault) = ⊥
-  TookPiece taken piece (Some OutOfMemory) = Unit {0}
+  TookPiece taken piece (Some OutOfMemory) = IsTextStarved L max (taken ++ piece)
 
   -- How reading these bytes ended: the source, with these bytes left, has nothing to come and hasn't failed; or a byte
-  -- stopped the run; or the source has failed; or memory was refused.
+  -- stopped the run; or the source has failed; or memory was refused
+  -- before a byte stopped the run.
   abbrev pub EndsBy : List ℕ → Option (List ℕ) → Bool → Ending → Type 0
   EndsBy read left failed (End at) = GoesOn Took max read × IsAtEnd left × (failed ≡ false) × (at ≡ length read)
   EndsBy read left failed (Stopped stop) = TextStopOf L max read stop
   EndsBy read left failed ReadFault = IsTextUnstopped L max read × (failed ≡ true)
-  EndsBy read left failed OutOfMemory = Unit {0}
+  EndsBy read left failed OutOfMemory = IsTextStarved L max read
 
   pub record HasRead (coming left : Option (List ℕ)) (failed : Bool) (e : Ending) : Type 0 where
     pub read : List ℕ

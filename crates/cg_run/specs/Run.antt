@@ -1,5 +1,5 @@
 -- What a run wrote for what it read.
-use Rattle.std.specs.Prelude.{◌≡◌, ℕ, ◌≤◌, Bool, true, false, List, [], ◌∷◌, ◌++◌, length, take, Option, Some, None}
+use Rattle.std.specs.Prelude.{◌≡◌, ℕ, ◌+◌, ◌<◌, ◌≤◌, ◌⊎◌, Bool, true, false, List, [], ◌∷◌, ◌++◌, length, take, Option, Some, None}
 use Rattle.std.specs.Io.KnownBytes.{Appends, Consumes, IsAtEnd}
 use Rattle.cg_text.specs.Texts.{TextOf}
 use Rattle.cg_text.specs.Token.{told}
@@ -20,6 +20,12 @@ use Rattle.cg_run.specs.declared.outcome.Outcome.{Outcome}
 use Rattle.cg_run.specs.declared.outcome.Outcome.TheVariants as out
 use Rattle.cg_command.specs.declared.words.Command.{Command}
 use Rattle.cg_command.specs.declared.words.Command.TheVariants as command
+
+-- Memory was refused at one of these bytes, and none up to it stops the run.
+pub record IsTextStarved (L : List ℕ → Type 0) (max : ℕ) (text : List ℕ) : Type 0 where
+  pub at : ℕ
+  pub within : at < length text
+  pub unstopped : IsTextUnstopped L max (take (at + 1) text)
 
 -- The bytes that were read, and how reading ended: what the source has left, and whether it has failed.
 pub record Reading : Type 0 where
@@ -75,9 +81,13 @@ module _ {V : Type 0} (Text : List ℕ → V → Type 0) (print : V → List ℕ
   AreTextParts r (part ∷ []) = IsTextPart r part
   AreTextParts r (part ∷ other ∷ parts) = ⊥
 
+  -- Memory was refused for one of the bytes, before any of them stopped the run; or for the part of a whole text.
+  abbrev pub WantsMemory : Reading → Type 0
+  WantsMemory r = IsTextStarved (TextOf Text) max r.bytes ⊎ ((part : List ℕ) × IsTextPart r part)
+
   -- Where memory was refused, some first parts, each whole; else the outcome that is right, with its parts.
   abbrev pub IsTextRight : Reading → Outcome → List (List ℕ) → Type 0
-  IsTextRight r out.OutOfMemory parts = AreTextParts r parts
+  IsTextRight r out.OutOfMemory parts = AreTextParts r parts × WantsMemory r
   IsTextRight r o parts = IsTextEnding r o parts
 
 -- Nothing was read, and nothing is written but the last line of this outcome.
@@ -124,6 +134,11 @@ joined (part ∷ parts) = part ++ joined parts
 abbrev pub Wrote : Option (List ℕ) → Option (List ℕ) → Bool → List ℕ → Outcome → Outcome → Type 0
 Wrote taken now failed text wanted (out.WriteFault written) = (n : ℕ) × (n ≤ length text) × Appends taken now (take n text) × (written ≡ told n) × (failed ≡ true)
 Wrote taken now failed text wanted o = (o ≡ wanted) × Appends taken now text
+
+-- A fault of the writer is told only where it has failed.
+abbrev pub IsRealFault : Outcome → Bool → Type 0
+IsRealFault (out.WriteFault written) failed = failed ≡ true
+IsRealFault o failed = Unit {0}
 
 -- What a run did: the bytes that it read, the outcome that is right for them with its parts, and what it wrote of these
 -- and the last line. Right says which outcome is, of a reading.

@@ -2,7 +2,7 @@
 ghost use Rattle.std.specs.Prelude.{◌≡◌, ◌≢◌, ◌≤◌, ◌+◌, ℕ, List, [], false, None, length};
 ghost use Rattle.cg_value.specs.Table.{read_form_of, write_form_of};
 ghost use Rattle.cg_run.specs.Outcome.{last_line, is_write_fault};
-ghost use Rattle.cg_run.specs.Run.{Ran, DidRun, Wrote, IsIdle, IsTextRight, IsFileRight, IsWriteRight};
+ghost use Rattle.cg_run.specs.Run.{Ran, DidRun, Wrote, IsIdle, IsTextRight, IsFileRight, IsWriteRight, IsRealFault};
 ghost use Rattle.cg_run.specs.Ended.{HasEnded};
 
 use crate::kinds::told_kinds;
@@ -42,13 +42,15 @@ fn told_line<W: Sink>(writer: &mut W, outcome: Outcome) -> Outcome
 }
 
 /// What is written of what a whole text spells.
+#[tactic(auto, using(crate::proofs::RunLemmas::wrote_real))]
 fn told_spelled<T: TextReader, W: Sink>(
     alloc: Global,
     spelled: &T::Spelled,
     writer: &mut W,
 ) -> Outcome
-    ensures { (form : T.Form) (bytes : List ℕ) → T.text form bytes spelled.now →
+    ensures ended { (form : T.Form) (bytes : List ℕ) → T.text form bytes spelled.now →
         HasEnded (T.text form) T.printed bytes (W.taken writer.old) (W.taken writer.new) (W.has_failed writer.new) result }
+    ensures real { IsRealFault result (W.has_failed writer.new) }
 {
     match T::print(alloc, spelled) {
         Ok(text) => told(writer, text.as_slice(), Outcome::Done),
@@ -57,9 +59,11 @@ fn told_spelled<T: TextReader, W: Sink>(
 }
 
 /// What is written once the input of a text has ended at this place.
+#[tactic(auto, using(crate::proofs::RunLemmas::wrote_real))]
 fn told_end<T: TextReader, W: Sink>(alloc: Global, text: T, at: u64, writer: &mut W) -> Outcome
-    ensures { (form : T.Form) (bytes : List ℕ) → T.took text form bytes → at ≡ length bytes →
+    ensures ended { (form : T.Form) (bytes : List ℕ) → T.took text form bytes → at ≡ length bytes →
         HasEnded (T.text form) T.printed bytes (W.taken writer.old) (W.taken writer.new) (W.has_failed writer.new) result }
+    ensures real { IsRealFault result (W.has_failed writer.new) }
 {
     match text.finish() {
         Some(spelled) => told_spelled::<T, W>(alloc, &spelled, writer),
@@ -68,6 +72,7 @@ fn told_end<T: TextReader, W: Sink>(alloc: Global, text: T, at: u64, writer: &mu
 }
 
 /// Reads a text and writes its canonical text after the end of input.
+#[tactic(auto, using(crate::proofs::RunLemmas::wrote_real))]
 fn run_text<T: TextReader, R: Source, W: Sink>(
     alloc: Global,
     mut text: T,
@@ -78,6 +83,7 @@ fn run_text<T: TextReader, R: Source, W: Sink>(
     ensures ran { (form : T.Form) → T.took text form [] → R.has_failed reader.old ≡ false → DidRun (IsTextRight (T.text form) T.printed max)
         (R.coming reader.old) (R.coming reader.new) (R.has_failed reader.new)
         (W.taken writer.old) (W.taken writer.new) (W.has_failed writer.new) result }
+    ensures real { IsRealFault result (W.has_failed writer.new) }
     ensures asks { R.asks reader.new ≤ R.asks reader.old + max + 1 }
 {
     let mut buffer = [0; PIECE];
@@ -90,6 +96,7 @@ fn run_text<T: TextReader, R: Source, W: Sink>(
 }
 
 /// Reads the file of this name, where it can be read.
+#[tactic(auto, using(crate::proofs::RunLemmas::wrote_real))]
 fn run_file<R: Source, W: Sink>(
     alloc: Global,
     profile: Profile,
@@ -101,6 +108,7 @@ fn run_file<R: Source, W: Sink>(
     ensures ran { R.has_failed reader.old ≡ false → DidRun (IsFileRight (read_form_of profile name.now) max)
         (R.coming reader.old) (R.coming reader.new) (R.has_failed reader.new)
         (W.taken writer.old) (W.taken writer.new) (W.has_failed writer.new) result }
+    ensures real { IsRealFault result (W.has_failed writer.new) }
     ensures asks { R.asks reader.new ≤ R.asks reader.old + max + 1 }
     ensures unasked { read_form_of profile name.now ≡ None → R.asks reader.new ≡ R.asks reader.old }
     ensures no_memory { read_form_of profile name.now ≡ None → result ≢ Outcome.OutOfMemory }
@@ -112,6 +120,7 @@ fn run_file<R: Source, W: Sink>(
 }
 
 /// Reads one write to the file of this name, where it can be written.
+#[tactic(auto, using(crate::proofs::RunLemmas::wrote_real))]
 fn run_setting<R: Source, W: Sink>(
     alloc: Global,
     profile: Profile,
@@ -123,6 +132,7 @@ fn run_setting<R: Source, W: Sink>(
     ensures ran { R.has_failed reader.old ≡ false → DidRun (IsWriteRight (write_form_of profile name.now) max)
         (R.coming reader.old) (R.coming reader.new) (R.has_failed reader.new)
         (W.taken writer.old) (W.taken writer.new) (W.has_failed writer.new) result }
+    ensures real { IsRealFault result (W.has_failed writer.new) }
     ensures asks { R.asks reader.new ≤ R.asks reader.old + max + 1 }
     ensures unasked { write_form_of profile name.now ≡ None → R.asks reader.new ≡ R.asks reader.old }
     ensures no_memory { write_form_of profile name.now ≡ None → result ≢ Outcome.OutOfMemory }
@@ -136,6 +146,7 @@ fn run_setting<R: Source, W: Sink>(
 /// Runs a command: reads from the source by pieces, and writes to the sink.
 ///
 /// A command that isn't built yet reads nothing, and answers that there is nothing to read or write.
+#[tactic(auto, using(crate::proofs::RunLemmas::wrote_real))]
 pub fn run<R: Source, W: Sink>(
     alloc: Global,
     profile: Profile,
@@ -147,6 +158,7 @@ pub fn run<R: Source, W: Sink>(
     ensures ran { R.has_failed reader.old ≡ false → Ran profile command.now limits
         (R.coming reader.old) (R.coming reader.new) (R.has_failed reader.new)
         (W.taken writer.old) (W.taken writer.new) (W.has_failed writer.new) result }
+    ensures real { IsRealFault result (W.has_failed writer.new) }
     ensures asks { R.asks reader.new ≤ R.asks reader.old + limits.max_stream + 2 }
     ensures unasked { IsIdle profile command.now → R.asks reader.new ≡ R.asks reader.old }
     ensures no_memory { IsIdle profile command.now → result ≢ Outcome.OutOfMemory }

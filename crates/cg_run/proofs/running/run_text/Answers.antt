@@ -1,4 +1,4 @@
-use Rattle.std.proofs.Common.{[], refl}
+use Rattle.std.proofs.Common.{[], inl, refl}
 use Rattle.cg_text.specs.Texts.{TextOf}
 use Rattle.cg_run.specs.declared.outcome.Outcome.TheVariants as out
 use Rattle.cg_run.proofs.Took.{goes_unstopped}
@@ -10,7 +10,7 @@ returns-in-End-clause-ran g c form fresh_text fresh =
     let h = c.in-End.ensures.read form fresh_text fresh in
     let text = g.T.TextReader.text form in
     let reader = c.read_all.new.reader in
-    let told = c.told_end.ensures form h.read h.ends.0.0 h.ends.3 in
+    let told = c.told_end.ensures.ended form h.read h.ends.0.0 h.ends.3 in
     let unstopped = goes_unstopped (TextOf text) (g.T.TextReader.took reader form) (g.met.T.TextReader.viable reader form) c.args.max h.read h.ends.0 in
     record {
       read = h.read;
@@ -36,7 +36,7 @@ returns-in-Stopped-clause-ran g c form fresh_text fresh =
 pub returns-in-OutOfMemory-clause-ran : goal.returns-in-OutOfMemory-clause-ran
 returns-in-OutOfMemory-clause-ran g c form fresh_text fresh =
     let h = c.in-OutOfMemory.ensures.read form fresh_text fresh in
-    record { read = h.read; consumed = h.consumed; wanted = out.OutOfMemory; parts = []; right = tt; wrote = c.told_line-in-OutOfMemory.ensures }
+    record { read = h.read; consumed = h.consumed; wanted = out.OutOfMemory; parts = []; right = (tt, inl h.ends); wrote = c.told_line-in-OutOfMemory.ensures }
 
 pub returns-in-ReadFault-clause-ran : goal.returns-in-ReadFault-clause-ran
 returns-in-ReadFault-clause-ran g c form fresh_text fresh =

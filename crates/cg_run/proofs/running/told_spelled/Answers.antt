@@ -2,8 +2,8 @@ use Rattle.std.proofs.Common.{◌≡◌, ◌++◌, [], ◌∷◌, ◌∙◌, sym
 use Rattle.cg_run.specs.declared.outcome.Outcome.TheVariants as out
 use Rattle.cg_run.proofs.running.told_spelled.Goals as goal
 
-pub returns-in-Ok : goal.returns-in-Ok
-returns-in-Ok g c form bytes h =
+pub returns-in-Ok-clause-ended : goal.returns-in-Ok-clause-ended
+returns-in-Ok-clause-ended g c form bytes h =
     let part = g.T.TextReader.printed c.args.spelled.now in
     let same : c.as_slice.result.now ≡ (part ++ []) ++ [] = c.as_slice.ensures.value ∙ c.in-Ok.ensures ∙ sym (append-nil part) ∙ sym (append-nil (part ++ [])) in
     record {
@@ -13,5 +13,5 @@ returns-in-Ok g c form bytes h =
       wrote = rw same at c.told.ensures;
     }
 
-pub returns-in-Err : goal.returns-in-Err
-returns-in-Err g c form bytes h = record { wanted = out.OutOfMemory; parts = []; right = refl; wrote = c.told_line.ensures }
+pub returns-in-Err-clause-ended : goal.returns-in-Err-clause-ended
+returns-in-Err-clause-ended g c form bytes h = record { wanted = out.OutOfMemory; parts = []; right = (c.args.spelled.now, h, refl); wrote = c.told_line.ensures }

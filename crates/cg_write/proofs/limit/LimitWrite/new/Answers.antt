@@ -7,7 +7,7 @@ use Rattle.cg_write.specs.WriteLaws.{write_spells}
 use Rattle.cg_write.proofs.limit.LimitWrite.new.Goals as goal
 
 pub one_line-requires : goal.one_line-requires
-one_line-requires c = lacks_spelled _ _ 10 c.limit_in.ensures.spells (limit_lacking 10 c.args.lo c.args.hi (omega arith)).is
+one_line-requires c = lacks_spelled _ _ 10 c.limit_in.ensures.spells (limit_lacking 10 _ _ (omega arith)).is
 
 pub returns-clause-spells : goal.returns-clause-spells
 returns-clause-spells c =

@@ -7,7 +7,7 @@ use Rattle.cg_write.specs.WriteLaws.{write_spells}
 use Rattle.cg_write.proofs.number.NumberWrite.new.Goals as goal
 
 pub one_line-requires : goal.one_line-requires
-one_line-requires c = lacks_spelled _ _ 10 c.decimal_in.ensures.spells (decimal_lacking 10 c.args.lo c.args.hi (omega arith)).is
+one_line-requires c = lacks_spelled _ _ 10 c.decimal_in.ensures.spells (decimal_lacking 10 _ _ (omega arith)).is
 
 pub returns-clause-spells : goal.returns-clause-spells
 returns-clause-spells c =

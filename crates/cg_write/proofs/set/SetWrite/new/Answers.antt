@@ -7,7 +7,7 @@ use Rattle.cg_write.specs.WriteLaws.{write_spells}
 use Rattle.cg_write.proofs.set.SetWrite.new.Goals as goal
 
 pub one_line-requires : goal.one_line-requires
-one_line-requires c = lacks_spelled _ _ 10 c.new.ensures.spells (loose_lacking 10 c.args.most (omega arith)).is
+one_line-requires c = lacks_spelled _ _ 10 c.new.ensures.spells (loose_lacking 10 _ (omega arith)).is
 
 pub returns-clause-spells : goal.returns-clause-spells
 returns-clause-spells c =

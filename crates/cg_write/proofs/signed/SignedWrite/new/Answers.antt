@@ -11,7 +11,7 @@ one_line-requires c =
     let low : FitsSigned w64 c.args.lo = c.ranges.lo in
     let high : FitsSigned w64 c.args.hi = c.ranges.hi in
     let made = simp to_z-of_z at c.in-Some.ensures in
-    lacks_spelled _ _ 10 made.1 (signed_lacking 10 c.args.lo c.args.hi (omega arith)).is
+    lacks_spelled _ _ 10 made.1 (signed_lacking 10 _ _ (omega arith)).is
 
 pub returns-clause-spells : goal.returns-clause-spells
 returns-clause-spells c =
