@@ -60,9 +60,7 @@ pub(crate) fn controllers(alloc: Global) -> DistinctWords {
 }
 
 /// The pairs of `io.stat` behind the device, each a word and a whole number, the words all different.
-pub(crate) fn stats(
-    alloc: Global,
-) -> DistinctPairs<DecimalText, NumberStart, StatPairing> {
+pub(crate) fn stats(alloc: Global) -> DistinctPairs<DecimalText, NumberStart, StatPairing> {
     DistinctPairs::new(
         alloc,
         WordStart::new(alloc, false),
