@@ -97,6 +97,7 @@ impl FileText {
         ensures plain { Lacks 10 (take result bytes.now) }
         ensures follows { FollowsRun ⟦<FileText as Token>⟧.means self.old (take result bytes.now) self.new }
         ensures size { ⟦<FileText as Token>⟧.size self.new ≤ ⟦<FileText as Token>⟧.size self.old + result }
+        ensures same_size { result ≡ 0 → ⟦<FileText as Token>⟧.size self.new ≡ ⟦<FileText as Token>⟧.size self.old }
     {
         match self {
             FileText::Number(text) => run_of(text, bytes),

@@ -1,5 +1,5 @@
 //! Runs of bytes.
-ghost use Rattle.std.specs.Prelude.{◌≤◌, ◌+◌, length, take};
+ghost use Rattle.std.specs.Prelude.{◌≡◌, ◌≤◌, ◌+◌, length, take};
 ghost use Rattle.cg_text.specs.Scan.{FollowsRun};
 ghost use Rattle.cg_text.specs.Texts.{Lacks};
 
@@ -12,6 +12,7 @@ pub(crate) fn run_of<T: Token>(token: &mut T, bytes: &[u8]) -> usize
     ensures plain { Lacks 10 (take result bytes.now) }
     ensures follows { FollowsRun T.means token.old (take result bytes.now) token.new }
     ensures size { T.size token.new ≤ T.size token.old + result }
+    ensures same_size { result ≡ 0 → T.size token.new ≡ T.size token.old }
 {
     for (used, byte) in bytes.iter().enumerate() {
         if *byte == b'\n' {

@@ -1,5 +1,5 @@
 -- What a reader took.
-use Rattle.std.specs.Prelude.{ℕ, List, ◌∷◌, ◌++◌, [], Result, Ok, Err}
+use Rattle.std.specs.Prelude.{ℕ, ◌≤◌, length, List, ◌∷◌, ◌++◌, [], Result, Ok, Err}
 use Rattle.cg_text.specs.Texts.{Viable, Next}
 use Rattle.cg_value.specs.Files.{KindFile}
 use Rattle.cg_value.specs.Kind.{IsReadForm}
@@ -18,6 +18,7 @@ pub record HasTaken (r : ValueReader) (kind : ReadForm) (taken : List ℕ) : Typ
   pub form : IsReadForm kind
   pub place : IsPlace r.place taken
   pub held : HoldsLittle (ghosts.size r.text) kind taken
+  pub few : ghosts.size r.text ≤ length taken
 
 -- The reader is of this kind and took these bytes, with which some file of the kind begins.
 unfoldable pub Reads : ValueReader → ReadForm → List ℕ → Type 0

@@ -1,5 +1,5 @@
 -- What holds of runs of bytes.
-use Rattle.std.proofs.Common.{◌≡◌, ◌≢◌, ℕ, ◌+◌, ◌<◌, ◌≤◌, ◌↔◌, inl, inr, List, [], ◌∷◌, ◌++◌, length, take, get_or, refl, sym, ◌∙◌, ap, append_assoc, append-nil, arith}
+use Rattle.std.proofs.Common.{◌≡◌, ◌≢◌, ℕ, ◌+◌, ◌<◌, ◌≤◌, ◌↔◌, inl, inr, List, [], ◌∷◌, ◌++◌, length, take, get_or, refl, sym, ◌∙◌, ap, append_assoc, append-nil, arith, length-append}
 use Rattle.std.proofs.lemmas.List.{take_more}
 use Rattle.cg_text.specs.Texts.{Lacks, Viable, TextOf}
 use Rattle.cg_value.specs.declared.kind.ReadForm.{ReadForm}
@@ -50,6 +50,7 @@ module _ (r : ValueReader) (m : FileText) (kind : ReadForm) (taken run : List �
         form = was.form;
         place = in_line taken run some plain;
         held = holds_run kind run taken (ghosts.size r.text) (ghosts.size m) plain size was.held;
+        few = omega (arith, size, was.few, length-append taken run);
       })
 
   -- None was.
@@ -61,6 +62,7 @@ module _ (r : ValueReader) (m : FileText) (kind : ReadForm) (taken run : List �
         form = was.form;
         place = rw (none, append-nil taken) was.place;
         held = holds_run kind run taken (ghosts.size r.text) (ghosts.size m) (rw none tt) (omega (arith, size)) was.held;
+        few = omega (arith, size, was.few, length-append taken run);
       })
 
 -- ---- How far a run got

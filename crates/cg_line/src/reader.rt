@@ -76,6 +76,7 @@ impl ValueReader {
         ensures plain { Lacks 10 (take result bytes.now) }
         ensures reads { (kind : ReadForm) (taken : List ℕ) → Reads self.old kind taken → Reads self.new kind (taken ++ take result bytes.now) }
         ensures held { held_by self.new ≤ held_by self.old + result }
+        ensures same_held { result ≡ 0 → held_by self.new ≡ held_by self.old }
     {
         let used = self.text.run(bytes);
         if used > 0 {
@@ -91,6 +92,7 @@ impl ValueReader {
         ensures within { result.used ≤ length bytes.now }
         ensures goes_on { IfNone result.fault (0 < length bytes.now → 0 < result.used) }
         ensures held { held_by self.new ≤ held_by self.old + result.used }
+        ensures same_held { result.used ≡ 0 → held_by self.new ≡ held_by self.old }
     {
         let begun = self.scan(bytes);
         for used in begun..bytes.len() {
@@ -151,6 +153,7 @@ impl ValueReader {
     /// The sum of the lengths of its vectors, or `u64::MAX` where that is more. It takes no memory.
     pub fn held(&self) -> u64
         ensures exact { result ≡ told (held_by self.now) }
+        ensures few { (kind : ReadForm) (taken : List ℕ) → Reads self.now kind taken → held_by self.now ≤ length taken }
         ensures most { (kind : ReadForm) (lines : List (List ℕ)) (line : List ℕ) (v : Value) → Reads self.now kind (unlines lines ++ line) → Lacks 10 line → ReadLines kind v lines → held_by self.now ≤ weight_of_lines v lines + length line }
     {
         self.text.held()

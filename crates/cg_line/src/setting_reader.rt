@@ -55,6 +55,7 @@ impl SettingReader {
         ensures within { result.used ≤ length bytes.now }
         ensures goes_on { IfNone result.fault (0 < length bytes.now → 0 < result.used) }
         ensures held { held_of self.new ≤ held_of self.old + result.used }
+        ensures same_held { result.used ≡ 0 → held_of self.new ≡ held_of self.old }
     {
         for used in 0..bytes.len() {
             let byte = bytes[used];

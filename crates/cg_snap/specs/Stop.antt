@@ -7,7 +7,7 @@ use Rattle.cg_snap.specs.declared.stop.Why.{Why}
 use Rattle.cg_snap.specs.declared.stop.Why.TheVariants.{Line}
 
 -- L is the set of the streams' texts. Which rule a bad byte breaks, which bytes make their record too long, and which
--- begin one record too many, depend on the stream; each is said of the bytes and of a place in them.
+-- begin one record too many, depend on the stream up to that byte; each is said of the bytes up to and with it, and of its place.
 module _ (L : List ℕ → Type 0) (IsWhy : List ℕ → ℕ → Why → Type 0) (IsLong IsMany : List ℕ → ℕ → Type 0) (max : ℕ) where
   -- No text goes on with the byte at k.
   abbrev pub IsBad : List ℕ → ℕ → Type 0
@@ -16,16 +16,16 @@ module _ (L : List ℕ → Type 0) (IsWhy : List ℕ → ℕ → Why → Type 0)
   -- The byte at k doesn't stop the stream.
   pub record IsPassed (text : List ℕ) (k : ℕ) : Type 0 where
     pub viable : Viable L (take (k + 1) text)
-    pub short : IsLong text k → ⊥
-    pub few : IsMany text k → ⊥
+    pub short : IsLong (take (k + 1) text) k → ⊥
+    pub few : IsMany (take (k + 1) text) k → ⊥
     pub before : k ≢ max
 
   -- The byte at k stops the stream so: the grammar comes first, then the record, the entry and the whole stream.
   abbrev pub StopsAt : List ℕ → ℕ → Stop → Type 0
-  StopsAt text k (Refused at why) = (at ≡ k) × IsBad text k × IsWhy text k why
-  StopsAt text k (TooLong at) = (at ≡ k) × Viable L (take (k + 1) text) × IsLong text k
-  StopsAt text k (TooMany at) = (at ≡ k) × Viable L (take (k + 1) text) × (IsLong text k → ⊥) × IsMany text k
-  StopsAt text k (TooMuch at) = (at ≡ k) × Viable L (take (k + 1) text) × (IsLong text k → ⊥) × (IsMany text k → ⊥) × (k ≡ max)
+  StopsAt text k (Refused at why) = (at ≡ k) × IsBad text k × IsWhy (take (k + 1) text) k why
+  StopsAt text k (TooLong at) = (at ≡ k) × Viable L (take (k + 1) text) × IsLong (take (k + 1) text) k
+  StopsAt text k (TooMany at) = (at ≡ k) × Viable L (take (k + 1) text) × (IsLong (take (k + 1) text) k → ⊥) × IsMany (take (k + 1) text) k
+  StopsAt text k (TooMuch at) = (at ≡ k) × Viable L (take (k + 1) text) × (IsLong (take (k + 1) text) k → ⊥) × (IsMany (take (k + 1) text) k → ⊥) × (k ≡ max)
   StopsAt text k (Cut at) = ⊥
 
   -- No byte stops the stream.

@@ -1,5 +1,5 @@
 //! Tokens that take many bytes at once.
-ghost use Rattle.std.specs.Prelude.{◌+◌, ◌≤◌, length, take};
+ghost use Rattle.std.specs.Prelude.{◌≡◌, ◌+◌, ◌≤◌, length, take};
 ghost use Rattle.cg_text.specs.Scan.{FollowsRun};
 ghost use Rattle.cg_text.specs.Texts.{Lacks};
 
@@ -13,5 +13,6 @@ pub trait Scan: Token {
         ensures within { result ≤ length bytes.now }
         ensures plain { Lacks 10 (take result bytes.now) }
         ensures follows { FollowsRun Self.means self.old (take result bytes.now) self.new }
-        ensures size { Self.size self.new ≤ Self.size self.old + result };
+        ensures size { Self.size self.new ≤ Self.size self.old + result }
+        ensures same_size { result ≡ 0 → Self.size self.new ≡ Self.size self.old };
 }

@@ -13,4 +13,5 @@ loop-used-preserved g c =
       plain = plain_more bytes i within other c.loop-used.invariant.plain;
       after = after_more g.T.Token.means c.args.token.now c.loop-used.token c.step.new.self bytes i within c.loop-used.invariant.after (rw c.in-Ok-true.field-0-test at c.in-Ok-true.ensures.taken);
       size = omega (arith, c.loop-used.invariant.size, c.in-Ok-true.ensures.size);
+      same = λ e. absurd (omega (arith, e));
     }

@@ -107,3 +107,57 @@ returns-in-Raw-clause-follows c = rw c.in-Raw.is c.scan.ensures.follows
 
 pub returns-in-Raw-clause-size : goal.returns-in-Raw-clause-size
 returns-in-Raw-clause-size c = rw c.in-Raw.is c.scan.ensures.size
+
+pub returns-in-Number-clause-same_size : goal.returns-in-Number-clause-same_size
+returns-in-Number-clause-same_size c = rw c.in-Number.is c.run_of.ensures.same_size
+
+pub returns-in-Signed-clause-same_size : goal.returns-in-Signed-clause-same_size
+returns-in-Signed-clause-same_size c = rw c.in-Signed.is c.run_of-in-Signed.ensures.same_size
+
+pub returns-in-Limit-clause-same_size : goal.returns-in-Limit-clause-same_size
+returns-in-Limit-clause-same_size c = rw c.in-Limit.is c.run_of-in-Limit.ensures.same_size
+
+pub returns-in-Mode-clause-same_size : goal.returns-in-Mode-clause-same_size
+returns-in-Mode-clause-same_size c = rw c.in-Mode.is c.run_of-in-Mode.ensures.same_size
+
+pub returns-in-CpuMax-clause-same_size : goal.returns-in-CpuMax-clause-same_size
+returns-in-CpuMax-clause-same_size c = rw c.in-CpuMax.is c.run_of-in-CpuMax.ensures.same_size
+
+pub returns-in-Clamp-clause-same_size : goal.returns-in-Clamp-clause-same_size
+returns-in-Clamp-clause-same_size c = rw c.in-Clamp.is c.run_of-in-Clamp.ensures.same_size
+
+pub returns-in-Numbers-clause-same_size : goal.returns-in-Numbers-clause-same_size
+returns-in-Numbers-clause-same_size c = rw c.in-Numbers.is c.run_of-in-Numbers.ensures.same_size
+
+pub returns-in-Words-clause-same_size : goal.returns-in-Words-clause-same_size
+returns-in-Words-clause-same_size c = rw c.in-Words.is c.run_of-in-Words.ensures.same_size
+
+pub returns-in-Flat-clause-same_size : goal.returns-in-Flat-clause-same_size
+returns-in-Flat-clause-same_size c = rw c.in-Flat.is c.run_of-in-Flat.ensures.same_size
+
+pub returns-in-DeviceStats-clause-same_size : goal.returns-in-DeviceStats-clause-same_size
+returns-in-DeviceStats-clause-same_size c = rw c.in-DeviceStats.is c.run_of-in-DeviceStats.ensures.same_size
+
+pub returns-in-DeviceLimits-clause-same_size : goal.returns-in-DeviceLimits-clause-same_size
+returns-in-DeviceLimits-clause-same_size c = rw c.in-DeviceLimits.is c.run_of-in-DeviceLimits.ensures.same_size
+
+pub returns-in-DeviceWeights-clause-same_size : goal.returns-in-DeviceWeights-clause-same_size
+returns-in-DeviceWeights-clause-same_size c = rw c.in-DeviceWeights.is c.run_of-in-DeviceWeights.ensures.same_size
+
+pub returns-in-DeviceTargets-clause-same_size : goal.returns-in-DeviceTargets-clause-same_size
+returns-in-DeviceTargets-clause-same_size c = rw c.in-DeviceTargets.is c.run_of-in-DeviceTargets.ensures.same_size
+
+pub returns-in-Set-clause-same_size : goal.returns-in-Set-clause-same_size
+returns-in-Set-clause-same_size c = rw c.in-Set.is c.run_of-in-Set.ensures.same_size
+
+pub returns-in-Partition-clause-same_size : goal.returns-in-Partition-clause-same_size
+returns-in-Partition-clause-same_size c = rw c.in-Partition.is c.run_of-in-Partition.ensures.same_size
+
+pub returns-in-Pressure-clause-same_size : goal.returns-in-Pressure-clause-same_size
+returns-in-Pressure-clause-same_size c = rw c.in-Pressure.is c.run_of-in-Pressure.ensures.same_size
+
+pub returns-in-Nested-clause-same_size : goal.returns-in-Nested-clause-same_size
+returns-in-Nested-clause-same_size c = rw c.in-Nested.is c.run_of-in-Nested.ensures.same_size
+
+pub returns-in-Raw-clause-same_size : goal.returns-in-Raw-clause-same_size
+returns-in-Raw-clause-same_size c = rw c.in-Raw.is c.scan.ensures.same_size

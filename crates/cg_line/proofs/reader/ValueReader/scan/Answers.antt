@@ -29,3 +29,11 @@ returns-else-used-gt0-clause-reads c kind taken h =
 pub returns-else-used-gt0-clause-held : goal.returns-else-used-gt0-clause-held
 unfolding held_by
 returns-else-used-gt0-clause-held c = c.run-used.ensures.size
+
+pub returns-then-used-gt0-clause-same_held : goal.returns-then-used-gt0-clause-same_held
+unfolding held_by
+returns-then-used-gt0-clause-same_held c = c.run-used.ensures.same_size
+
+pub returns-else-used-gt0-clause-same_held : goal.returns-else-used-gt0-clause-same_held
+unfolding held_by
+returns-else-used-gt0-clause-same_held c = c.run-used.ensures.same_size

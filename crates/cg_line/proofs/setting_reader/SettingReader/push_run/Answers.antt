@@ -14,4 +14,5 @@ loop-used-preserved c =
       plain = plain_more bytes i within c.if-byte-eq10.false c.loop-used.invariant.plain;
       takes = λ kind taken h. run_more (Takes c.push.new.self kind) taken bytes i within (c.in-Ok.ensures.pushed kind (taken ++ take i bytes) (c.loop-used.invariant.takes kind taken h));
       held = omega (arith, c.loop-used.invariant.held, c.in-Ok.ensures.held);
+      same = λ e. absurd (omega (arith, e));
     }
