@@ -129,15 +129,19 @@ fn copies_flat(alloc: Global, flat: &Flat) -> Option<bool> {
     }
 }
 
+/// Whether this is the command `file cpu.max` in the first profile, with the limits that are meant where none is given.
+fn is_file_cpu_max(profile: Profile, command: &Command, limits: Limits) -> bool {
+    let is_named = match command {
+        Command::File { name } => name.as_slice() == b"cpu.max".as_slice(),
+        _ => false,
+    };
+    is_named && profile == Profile::One && limits == Limits::DEFAULT
+}
+
 /// Whether the words `file`, `cpu.max` are read. Without memory they may be refused otherwise, but never be another command.
 fn parses_words(alloc: Global, words: &[String]) -> Option<bool> {
     match parse_words(alloc, words) {
-        Ok((profile, Command::File { name }, limits)) => Some(
-            profile == Profile::One
-                && limits == Limits::DEFAULT
-                && name.as_slice() == b"cpu.max".as_slice(),
-        ),
-        Ok(_) => Some(false),
+        Ok(parsed) => Some(is_file_cpu_max(parsed.0, &parsed.1, parsed.2)),
         Err(_) => None,
     }
 }
