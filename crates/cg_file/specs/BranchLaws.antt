@@ -1,7 +1,7 @@
 -- What holds of one of two tokens, by the first byte.
 use Rattle.std.proofs.Common.{◌≡◌, ℕ, ◌+◌, ◌≤◌, ◌↔◌, ◌||◌, Bool, true, false, List, [], ◌∷◌, refl, sym, arith, IsTrue}
 use Rattle.cg_text.specs.Token.{Begins, Completes, Ends, Follows, Spells}
-use Rattle.cg_join.specs.Choice.{ShareNone, either_weight}
+use Rattle.cg_join.specs.Choice.{ShareNone, either_size}
 use Rattle.cg_join.specs.ChoiceLaws.{choice_begins}
 use Rattle.cg_join.specs.CutLaws.{either_as}
 use Rattle.cg_join.specs.Repeat.{LacksEmpty}
@@ -10,14 +10,14 @@ use Rattle.cg_join.specs.declared.choice.Either.{Either}
 use Rattle.cg_join.specs.declared.choice.Either.TheVariants.{Left, Right}
 use Rattle.cg_file.specs.Branch.{BranchRest, branch_ends_at, is_open, may_first, may_second}
 use Rattle.cg_file.specs.OneOrBoth.{Differ}
-use Rattle.cg_file.specs.declared.branch.Place.{Place}
-use Rattle.cg_file.specs.declared.branch.Place.TheVariants.{Start, First, Second}
+use Rattle.cg_file.specs.declared.branch.BranchTaken.{BranchTaken}
+use Rattle.cg_file.specs.declared.branch.BranchTaken.TheVariants.{Start, First, Second}
 
 true_false : {A : Type 0} → true ≡ false → A
 true_false e = absurd (cc)
 
 -- One of them may be there.
-pub one_may : (place : Place) → IsTrue (may_first place || may_second place)
+pub one_may : (place : BranchTaken) → IsTrue (may_first place || may_second place)
 one_may Start = refl
 one_may First = refl
 one_may Second = refl
@@ -25,12 +25,12 @@ one_may Second = refl
 module _ {S T V W : Type 0} (first : S → List ℕ → V → Type 0) (second : T → List ℕ → W → Type 0) where
   -- ---- The laws of a state
 
-  ended_at : (place : Place) (s : S) (t : T) (a b : Bool) → (IsTrue a → Ends first s) → (IsTrue b → Ends second t) → IsTrue (branch_ends_at place a b) → (v : Either V W) × BranchRest first second place s t [] v
+  ended_at : (place : BranchTaken) (s : S) (t : T) (a b : Bool) → (IsTrue a → Ends first s) → (IsTrue b → Ends second t) → IsTrue (branch_ends_at place a b) → (v : Either V W) × BranchRest first second place s t [] v
   ended_at Start s t a b f g h = true_false (sym h)
   ended_at First s t a b f g h = let k = f h in (Left k.0, (refl, k.1))
   ended_at Second s t a b f g h = let k = g h in (Right k.0, (refl, k.1))
 
-  ends_of : (place : Place) (s : S) (t : T) (a b : Bool) → (IsTrue (is_open place) → Differ (first s) (second t)) → (IsTrue (is_open place) → LacksEmpty (second t)) →
+  ends_of : (place : BranchTaken) (s : S) (t : T) (a b : Bool) → (IsTrue (is_open place) → Differ (first s) (second t)) → (IsTrue (is_open place) → LacksEmpty (second t)) →
       (Ends first s → IsTrue a) → (Ends second t → IsTrue b) → (v : Either V W) → BranchRest first second place s t [] v → IsTrue (branch_ends_at place a b)
   ends_of Start s t a b differ filled f g (Left v) h = absurd ((differ refl).0 v h.1)
   ends_of Start s t a b differ filled f g (Right w) h = absurd (filled refl w h.1)
@@ -40,7 +40,7 @@ module _ {S T V W : Type 0} (first : S → List ℕ → V → Type 0) (second : 
   ends_of Second s t a b differ filled f g (Right w) h = g (w, h.1)
 
   -- Nothing need follow where nothing need after the one that took bytes.
-  pub branch_ends : (place : Place) (s : S) (t : T) (a b : Bool) → (IsTrue (is_open place) → Differ (first s) (second t)) → (IsTrue (is_open place) → LacksEmpty (second t)) →
+  pub branch_ends : (place : BranchTaken) (s : S) (t : T) (a b : Bool) → (IsTrue (is_open place) → Differ (first s) (second t)) → (IsTrue (is_open place) → LacksEmpty (second t)) →
       IsTrue a ↔ Ends first s → IsTrue b ↔ Ends second t → IsTrue (branch_ends_at place a b) ↔ ((v : Either V W) × BranchRest first second place s t [] v)
   branch_ends place s t a b differ filled f g = (ended_at place s t a b f.0 g.0, λ h. ends_of place s t a b differ filled f.1 g.1 h.0 h.1)
 
@@ -49,7 +49,7 @@ module _ {S T V W : Type 0} (first : S → List ℕ → V → Type 0) (second : 
   differ_share s t differ (b ∷ rest) v w h k = differ.1 b rest rest v w h k
 
   -- No rest is one of both.
-  pub none_share : (place : Place) (s : S) (t : T) → (IsTrue (is_open place) → Differ (first s) (second t)) → IsTrue (may_first place) → IsTrue (may_second place) → ShareNone first second s t
+  pub none_share : (place : BranchTaken) (s : S) (t : T) → (IsTrue (is_open place) → Differ (first s) (second t)) → IsTrue (may_first place) → IsTrue (may_second place) → ShareNone first second s t
   none_share Start s t differ h k = differ_share s t (differ refl)
   none_share First s t differ h k = true_false (sym k)
   none_share Second s t differ h k = true_false (sym h)
@@ -82,8 +82,8 @@ module _ {S T V W : Type 0} (first : S → List ℕ → V → Type 0) (second : 
   -- ---- How much is held
 
   -- A first that has no vector holds nothing, nor does a second that wasn't chosen.
-  pub branch_settled : (place : Place) (s : S) (t : T) (m n : ℕ) (g : W → ℕ) → m ≡ 0 → (IsTrue (may_first place) → n ≡ 0) → ((w : W) → second t [] w → n ≤ g w) →
-      (v : Either V W) → BranchRest first second place s t [] v → m + n ≤ either_weight (λ _. 0) g v
+  pub branch_settled : (place : BranchTaken) (s : S) (t : T) (m n : ℕ) (g : W → ℕ) → m ≡ 0 → (IsTrue (may_first place) → n ≡ 0) → ((w : W) → second t [] w → n ≤ g w) →
+      (v : Either V W) → BranchRest first second place s t [] v → m + n ≤ either_size (λ _. 0) g v
   branch_settled place s t m n g e fresh settled (Left v) h = omega (arith, e, fresh h.0)
   branch_settled place s t m n g e fresh settled (Right w) h = omega (arith, e, settled w h.1)
 

@@ -7,14 +7,14 @@ use Rattle.cg_text.specs.contracts.keyword.KeywordTextToken.TheImpl as keyword
 use Rattle.cg_text.specs.contracts.list.StrictListTextToken.TheImpl as strict
 use Rattle.cg_text.specs.contracts.reason.ReasonTextToken.TheImpl as reason
 use Rattle.cg_text.specs.contracts.word.WordTextToken.TheImpl as word
-use Rattle.cg_join.specs.Choice.{either_weight}
+use Rattle.cg_join.specs.Choice.{either_size}
 use Rattle.cg_join.specs.Distinct.{IsDistinctAfter}
 use Rattle.cg_join.specs.Join.{IsPair, IsSequence}
 use Rattle.cg_join.specs.LabelLaws.{label_nil}
 use Rattle.cg_join.specs.Lawful.{KeywordRest}
-use Rattle.cg_join.specs.Maybe.{maybe_weight}
-use Rattle.cg_join.specs.Pairs.{pair_weight}
-use Rattle.cg_join.specs.Repeat.{items_weight}
+use Rattle.cg_join.specs.Maybe.{maybe_size}
+use Rattle.cg_join.specs.Pairs.{pair_size}
+use Rattle.cg_join.specs.Repeat.{items_size}
 use Rattle.cg_join.specs.SettledLaws.{joined_bound, keyed_settled, lines_settled, list_settled, maybe_settled, or_ready_settled, ranges_settled, reason_settled, same_settled, sequence_settled, turned_settled, word_settled, zero_least}
 use Rattle.cg_join.specs.WordStartLaws.{SpellsWord}
 use Rattle.cg_value.specs.Flat.{flat_size}
@@ -30,10 +30,10 @@ use Rattle.cg_file.specs.Kinds.{held_of_whole}
 use Rattle.cg_file.specs.ManyFileLaws.{numbers_value, raw_value}
 use Rattle.cg_file.specs.NestedFileLaws.{nested_value}
 use Rattle.cg_file.specs.OneLineTurned.{set_value}
-use Rattle.cg_file.specs.PartitionFileLaws.{partition_weighs}
+use Rattle.cg_file.specs.PartitionFileLaws.{partition_held}
 use Rattle.cg_file.specs.PartitionTurned.{InvalidValue, ReasonValue, RootValue, partition_value}
-use Rattle.cg_file.specs.StatFileLaws.{stat_weight, stats_value, stats_weigh}
-use Rattle.cg_file.specs.WeighLaws.{bare_lines_weigh, bare_lines_weigh_after, flat_weighs, line_weighs, nested_weighs, raw_lines_weigh, words_weigh}
+use Rattle.cg_file.specs.StatFileLaws.{stat_size, stats_value, stats_held}
+use Rattle.cg_file.specs.LineHeldLaws.{bare_lines_held, bare_lines_held_after, flat_held, line_held, nested_held, raw_lines_held, words_held}
 use Rattle.cg_file.specs.WeightFileLaws.{weights_value}
 use Rattle.cg_file.specs.WordsTurned.{words_value}
 use Rattle.cg_file.specs.contracts.device_stats.StatLineTextToken.TheImpl as stat_line
@@ -106,13 +106,13 @@ clamp_settled s v h = zero_least (held_of_whole v)
 numbers_settled : (s : NumbersFile) (v : Value) → numbers.ghosts.means s [] v → numbers.ghosts.size s ≤ held_of_whole v
 numbers_settled s v h =
     let l = s.text.token in
-    turned_settled numbers_value _ (items_weight (λ _. 0)) held_of_whole h.0 v h.2 (lines_settled _ _ l.end l.items.items l.begun (λ _. 0) 0 l.fresh h.0 h.1) (bare_lines_weigh _ h.0)
+    turned_settled numbers_value _ (items_size (λ _. 0)) held_of_whole h.0 v h.2 (lines_settled _ _ l.end l.items.items l.begun (λ _. 0) 0 l.fresh h.0 h.1) (bare_lines_held _ h.0)
 
 spaced_settled : (s : SpacedWords) (ws : List (List ℕ)) → spaced.ghosts.means s [] ws → spaced.ghosts.size s ≤ joined_bound length length ws
 spaced_settled s ws h =
     let d = s.words.token in
     let words : List ℕ → List (List ℕ) → Type 0 = IsDistinctAfter d.items.items (word.ghosts.means d.current) (SpellsWord d.start.controller) d.separator in
-    or_ready_settled s.words.begun words s.words.value (items_weight length d.items.items + length d.current.bytes.items) (joined_bound length length) s.words.fresh
+    or_ready_settled s.words.begun words s.words.value (items_size length d.items.items + length d.current.bytes.items) (joined_bound length length) s.words.fresh
     (λ all g. list_settled (word.ghosts.means d.current) (SpellsWord d.start.controller) d.separator d.items.items length length (length d.current.bytes.items) (λ w f. word_settled d.current.controller d.current.bytes.items w f) all g.0) ws h
 
 words_settled : (s : WordsFile) (v : Value) → words.ghosts.means s [] v → words.ghosts.size s ≤ held_of_whole v
@@ -123,7 +123,7 @@ words_settled s v h =
     turned_settled words_value _ (λ x. joined_bound length length x.0 + 0) held_of_whole h.0 v h.2
     (or_ready_settled o.begun line o.value (spaced.ghosts.size q.first + 0) (λ x. joined_bound length length x.0 + 0) o.fresh
     (λ x k. sequence_settled spaced.ghosts.means byte.ghosts.means q.in_second q.first q.second (spaced.ghosts.size q.first) 0 (joined_bound length length) (λ _. 0) (spaced_settled q.first) (λ u j. zero_least 0) x.0 x.1 k) h.0 h.1)
-    (words_weigh h.0.0)
+    (words_held h.0.0)
 
 flat_settled : (s : FlatFile) (v : Value) → flat.ghosts.means s [] v → flat.ghosts.size s ≤ held_of_whole v
 flat_settled s v h =
@@ -131,30 +131,30 @@ flat_settled s v h =
     let pairs = k.pairs.building.pairs in
     turned_settled flat_value _ flat_size held_of_whole h.0 v h.2
     (keyed_settled (λ (p : FlatPair). p.key) (λ ps. ps) pairs _ _ k.end k.stage k.ended.items length flat_size (flat_size pairs) (length k.key.bytes.items) 0 k.kept k.new_key k.new_value (same_settled (flat_size pairs) (flat_size pairs) refl) h.0 h.1)
-    (flat_weighs h.0)
+    (flat_held h.0)
 
 device_stats_settled : (s : DeviceStatsFile) (v : Value) → device_stats.ghosts.means s [] v → device_stats.ghosts.size s ≤ held_of_whole v
 device_stats_settled s v h =
     let l = s.text.token in
-    turned_settled stats_value _ (items_weight stat_weight) held_of_whole h.0 v h.2 (lines_settled _ _ l.end l.items.items l.begun stat_weight (stat_line.ghosts.size l.current) l.fresh h.0 h.1) (stats_weigh h.0)
+    turned_settled stats_value _ (items_size stat_size) held_of_whole h.0 v h.2 (lines_settled _ _ l.end l.items.items l.begun stat_size (stat_line.ghosts.size l.current) l.fresh h.0 h.1) (stats_held h.0)
 
 device_limits_settled : (s : DeviceLimitsFile) (v : Value) → device_limits.ghosts.means s [] v → device_limits.ghosts.size s ≤ held_of_whole v
 device_limits_settled s v h =
     let l = s.text.token in
-    turned_settled limits_value _ (items_weight (λ _. 0)) held_of_whole h.0 v h.2 (lines_settled _ _ l.end l.items.items l.begun (λ _. 0) 0 l.fresh h.0 h.1) (bare_lines_weigh _ h.0)
+    turned_settled limits_value _ (items_size (λ _. 0)) held_of_whole h.0 v h.2 (lines_settled _ _ l.end l.items.items l.begun (λ _. 0) 0 l.fresh h.0 h.1) (bare_lines_held _ h.0)
 
 device_weights_settled : (s : DeviceWeightsFile) (v : Value) → device_weights.ghosts.means s [] v → device_weights.ghosts.size s ≤ held_of_whole v
 device_weights_settled s v h =
     let q = s.text.token in
     let l = q.second in
-    turned_settled weights_value _ (λ x. 0 + items_weight (λ _. 0) x.1) held_of_whole h.0 v h.2
-    (sequence_settled _ _ q.in_second q.first l 0 (items_weight (λ _. 0) l.items.items + 0) (λ _. 0) (items_weight (λ _. 0)) (λ x k. zero_least 0) (λ ws k. lines_settled _ _ l.end l.items.items l.begun (λ _. 0) 0 l.fresh ws k) h.0.0 h.0.1 h.1)
-    (bare_lines_weigh_after print_weight_line (print_default_line h.0.0.0.1.1) h.0.1 0 refl)
+    turned_settled weights_value _ (λ x. 0 + items_size (λ _. 0) x.1) held_of_whole h.0 v h.2
+    (sequence_settled _ _ q.in_second q.first l 0 (items_size (λ _. 0) l.items.items + 0) (λ _. 0) (items_size (λ _. 0)) (λ x k. zero_least 0) (λ ws k. lines_settled _ _ l.end l.items.items l.begun (λ _. 0) 0 l.fresh ws k) h.0.0 h.0.1 h.1)
+    (bare_lines_held_after print_weight_line (print_default_line h.0.0.0.1.1) h.0.1 0 refl)
 
 device_targets_settled : (s : DeviceTargetsFile) (v : Value) → device_targets.ghosts.means s [] v → device_targets.ghosts.size s ≤ held_of_whole v
 device_targets_settled s v h =
     let l = s.text.token in
-    turned_settled targets_value _ (items_weight (λ _. 0)) held_of_whole h.0 v h.2 (lines_settled _ _ l.end l.items.items l.begun (λ _. 0) 0 l.fresh h.0 h.1) (bare_lines_weigh _ h.0)
+    turned_settled targets_value _ (items_size (λ _. 0)) held_of_whole h.0 v h.2 (lines_settled _ _ l.end l.items.items l.begun (λ _. 0) 0 l.fresh h.0 h.1) (bare_lines_held _ h.0)
 
 set_settled : (s : SetFile) (v : Value) → set.ghosts.means s [] v → set.ghosts.size s ≤ held_of_whole v
 set_settled s v h =
@@ -163,28 +163,28 @@ set_settled s v h =
     turned_settled set_value _ (λ x. length x.0 + 0) held_of_whole h.0 v h.2
     (sequence_settled strict.ghosts.means byte.ghosts.means q.in_second list q.second (length list.ranges.items) 0 length (λ _. 0)
     (λ all k. ranges_settled list.ranges.items list.most list.low (number_rest list.number) all k) (λ u k. zero_least 0) h.0.0 h.0.1 h.1)
-    (line_weighs (length h.0.0) 0 refl)
+    (line_held (length h.0.0) 0 refl)
 
-why_settled : (s : WhyText) (v : Option ReasonValue) → why.ghosts.means s [] v → why.ghosts.size s ≤ maybe_weight (λ (x : ReasonValue). length x.1 + 1) v
+why_settled : (s : WhyText) (v : Option ReasonValue) → why.ghosts.means s [] v → why.ghosts.size s ≤ maybe_size (λ (x : ReasonValue). length x.1 + 1) v
 why_settled s = maybe_settled s.parts.begun (λ rest (v : ReasonValue). IsPair KeywordRest reason.ghosts.means s.parts.token.label s.parts.token.token rest v.0 v.1) (length s.parts.token.token.bytes.items) (λ x. length x.1 + 1) s.parts.fresh
     (λ v h. reason_settled s.parts.token.token.bytes.items v.1 (label_nil reason.ghosts.means s.parts.token.label s.parts.token.token v h))
 
-invalid_settled : (s : InvalidText) (v : Option InvalidValue) → invalid.ghosts.means s [] v → invalid.ghosts.size s ≤ maybe_weight (λ (x : InvalidValue). maybe_weight (λ (y : ReasonValue). length y.1 + 1) x.1) v
-invalid_settled s = maybe_settled s.parts.begun (λ rest (v : InvalidValue). IsPair KeywordRest why.ghosts.means s.parts.token.label s.parts.token.token rest v.0 v.1) (why.ghosts.size s.parts.token.token) (λ x. maybe_weight (λ y. length y.1 + 1) x.1) s.parts.fresh
+invalid_settled : (s : InvalidText) (v : Option InvalidValue) → invalid.ghosts.means s [] v → invalid.ghosts.size s ≤ maybe_size (λ (x : InvalidValue). maybe_size (λ (y : ReasonValue). length y.1 + 1) x.1) v
+invalid_settled s = maybe_settled s.parts.begun (λ rest (v : InvalidValue). IsPair KeywordRest why.ghosts.means s.parts.token.label s.parts.token.token rest v.0 v.1) (why.ghosts.size s.parts.token.token) (λ x. maybe_size (λ y. length y.1 + 1) x.1) s.parts.fresh
     (λ v h. why_settled s.parts.token.token v.1 (label_nil why.ghosts.means s.parts.token.label s.parts.token.token v h))
 
-root_settled : (s : RootText) (v : RootValue × Option InvalidValue) → root.ghosts.means s [] v → root.ghosts.size s ≤ 0 + maybe_weight (λ (x : InvalidValue). maybe_weight (λ (y : ReasonValue). length y.1 + 1) x.1) v.1
-root_settled s v h = sequence_settled _ invalid.ghosts.means s.parts.in_second s.parts.first s.parts.second 0 (invalid.ghosts.size s.parts.second) (λ _. 0) (maybe_weight (λ x. maybe_weight (λ y. length y.1 + 1) x.1)) (λ x k. zero_least 0) (invalid_settled s.parts.second) v.0 v.1 h
+root_settled : (s : RootText) (v : RootValue × Option InvalidValue) → root.ghosts.means s [] v → root.ghosts.size s ≤ 0 + maybe_size (λ (x : InvalidValue). maybe_size (λ (y : ReasonValue). length y.1 + 1) x.1) v.1
+root_settled s v h = sequence_settled _ invalid.ghosts.means s.parts.in_second s.parts.first s.parts.second 0 (invalid.ghosts.size s.parts.second) (λ _. 0) (maybe_size (λ x. maybe_size (λ y. length y.1 + 1) x.1)) (λ x k. zero_least 0) (invalid_settled s.parts.second) v.0 v.1 h
 
 partition_settled : (s : PartitionFile) (v : Value) → partition.ghosts.means s [] v → partition.ghosts.size s ≤ held_of_whole v
 partition_settled s v h =
     let q = s.text.token in
     let b = q.first in
-    let bound : RootValue × Option InvalidValue → ℕ = λ w. 0 + maybe_weight (λ (x : InvalidValue). maybe_weight (λ (y : ReasonValue). length y.1 + 1) x.1) w.1 in
-    turned_settled partition_value _ (λ x. either_weight (λ _. 0) bound x.0 + 0) held_of_whole h.0 v h.2
-    (sequence_settled _ byte.ghosts.means q.in_second b q.second (0 + root.ghosts.size b.second) 0 (either_weight (λ _. 0) bound) (λ _. 0)
+    let bound : RootValue × Option InvalidValue → ℕ = λ w. 0 + maybe_size (λ (x : InvalidValue). maybe_size (λ (y : ReasonValue). length y.1 + 1) x.1) w.1 in
+    turned_settled partition_value _ (λ x. either_size (λ _. 0) bound x.0 + 0) held_of_whole h.0 v h.2
+    (sequence_settled _ byte.ghosts.means q.in_second b q.second (0 + root.ghosts.size b.second) 0 (either_size (λ _. 0) bound) (λ _. 0)
     (λ x k. branch_settled keyword.ghosts.means root.ghosts.means b.place b.first b.second 0 (root.ghosts.size b.second) bound refl b.fresh (root_settled b.second) x k) (λ u k. zero_least 0) h.0.0 h.0.1 h.1)
-    (partition_weighs h.0)
+    (partition_held h.0)
 
 pressure_settled : (s : PressureFile) (v : Value) → pressure.ghosts.means s [] v → pressure.ghosts.size s ≤ held_of_whole v
 pressure_settled s v h = zero_least (held_of_whole v)
@@ -193,15 +193,15 @@ nested_settled : (s : NestedFile) (v : Value) → nested.ghosts.means s [] v →
 nested_settled s v h =
     let k = s.text.token in
     let lines = k.pairs.pairs.items in
-    let weight : List NestedLine → ℕ = items_weight (pair_weight (λ (q : NestedLine). q.key) (λ q. q.pairs) length (items_weight (pair_weight (λ (p : NestedPair). p.key) (λ p. p.number) length (λ _. 0)))) in
-    turned_settled nested_value _ weight held_of_whole h.0 v h.2
-    (keyed_settled (λ (q : NestedLine). q.key) (λ ps. ps) lines _ _ k.end k.stage k.ended.items length weight (weight lines) (length k.key.bytes.items) _ k.kept k.new_key k.new_value (same_settled (weight lines) (weight lines) refl) h.0 h.1)
-    (nested_weighs h.0)
+    let size : List NestedLine → ℕ = items_size (pair_size (λ (q : NestedLine). q.key) (λ q. q.pairs) length (items_size (pair_size (λ (p : NestedPair). p.key) (λ p. p.number) length (λ _. 0)))) in
+    turned_settled nested_value _ size held_of_whole h.0 v h.2
+    (keyed_settled (λ (q : NestedLine). q.key) (λ ps. ps) lines _ _ k.end k.stage k.ended.items length size (size lines) (length k.key.bytes.items) _ k.kept k.new_key k.new_value (same_settled (size lines) (size lines) refl) h.0 h.1)
+    (nested_held h.0)
 
 raw_file_settled : (s : RawFile) (v : Value) → raw.ghosts.means s [] v → raw.ghosts.size s ≤ held_of_whole v
 raw_file_settled s v h =
     let l = s.text.token in
-    turned_settled raw_value _ (items_weight length) held_of_whole h.0 v h.2 (lines_settled _ _ l.end l.items.items l.begun length (length l.current.bytes.items) l.fresh h.0 h.1) (raw_lines_weigh h.0)
+    turned_settled raw_value _ (items_size length) held_of_whole h.0 v h.2 (lines_settled _ _ l.end l.items.items l.begun length (length l.current.bytes.items) l.fresh h.0 h.1) (raw_lines_held h.0)
 
 -- Of a file of any kind.
 pub file_settled : (s : FileText) (v : Value) → file_rests s [] v → file_size s ≤ held_of_whole v

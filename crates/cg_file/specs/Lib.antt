@@ -9,12 +9,15 @@ pub mod FourLaws
 pub mod KeyedFileLaws
 pub mod HeldLaws
 pub mod Kinds
+pub mod Laws
 pub mod ManyFileLaws
 pub mod NestedFileLaws
 pub mod OneLineFileLaws
 pub mod OneLineTurned
 pub mod OneOrBoth
 pub mod OneOrBothLaws
+pub mod OneTextLaws
+pub mod OneValueLaws
 pub mod Pad
 pub mod PadLaws
 pub mod PartitionFileLaws
@@ -24,7 +27,7 @@ pub mod RunLaws
 pub mod StartableLaws
 pub mod StatFileLaws
 pub mod Turned
-pub mod WeighLaws
+pub mod LineHeldLaws
 pub mod WeightFileLaws
 pub mod WordsFileLaws
 pub mod WordsTurned

@@ -21,9 +21,9 @@ abbrev pub set_value : List (ℕ × ℕ) × Unit {0} → Value
 set_value v = Set v.0
 
 -- The number of ranges in a set.
-abbrev pub set_weight : Value → ℕ
-set_weight (Set set) = length set
-set_weight _ = 0
+abbrev pub set_size : Value → ℕ
+set_size (Set set) = length set
+set_size _ = 0
 
 -- Which of four words.
 abbrev pub OneOfFour : Type 0

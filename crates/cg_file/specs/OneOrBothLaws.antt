@@ -12,8 +12,8 @@ use Rattle.cg_join.specs.SequenceLaws.{both_same, sequence_one, pair_follows_fir
 use Rattle.cg_join.specs.CutLaws.{concat_as}
 use Rattle.cg_join.specs.Spelling.{spells_as}
 use Rattle.cg_file.specs.OneOrBoth.{IsOneOrBoth, Differ, LaterRest, OneOrBothRest, in_second, waits, is_start, ends_at}
-use Rattle.cg_file.specs.declared.one_or_both.Place.{Place}
-use Rattle.cg_file.specs.declared.one_or_both.Place.TheVariants.{Start, First, Second, Both}
+use Rattle.cg_file.specs.declared.one_or_both.PartsTaken.{PartsTaken}
+use Rattle.cg_file.specs.declared.one_or_both.PartsTaken.TheVariants.{Start, First, Second, Both}
 
 no_byte : (b : ℕ) (rest : List ℕ) → b ∷ rest ≡ [] → ⊥
 no_byte b rest e = cc
@@ -37,14 +37,14 @@ module _ {S T V W : Type 0} (first : S → List ℕ → V → Type 0) (second : 
   alone : (s : S) (t : T) (rest : List ℕ) (v : V) → first s rest v → IsPair first Later s (false, t) rest v None
   alone s t rest v h = record { front = rest; back = []; whole = sym (append-nil rest); begins = h; ends = (refl, refl) }
 
-  pub one_completes : (place : Place) (s : S) (t : T) → (IsTrue (in_second place) → Ends first s) → Completes first s → Completes second t →
+  pub one_completes : (place : PartsTaken) (s : S) (t : T) → (IsTrue (in_second place) → Ends first s) → Completes first s → Completes second t →
       (rest : List ℕ) × (v : Option V × Option W) × OneOrBothRest first second place s t rest v.0 v.1
   one_completes Start s t ended c d = (c.0, (Some c.1, None), (refl, alone s t c.0 c.1 c.2))
   one_completes First s t ended c d = (c.0, (Some c.1, None), (refl, alone s t c.0 c.1 c.2))
   one_completes Second s t ended c d = (d.0, (None, Some d.1), (refl, d.2))
   one_completes Both s t ended c d = (d.0, (Some (ended refl).0, Some d.1), (refl, ((ended refl).1, d.2)))
 
-  ends_of : (place : Place) (s : S) (t : T) (a b : Bool) → (IsTrue (is_start place) → Differ (first s) (second t)) → (IsTrue (waits place) → LacksEmpty (second t)) →
+  ends_of : (place : PartsTaken) (s : S) (t : T) (a b : Bool) → (IsTrue (is_start place) → Differ (first s) (second t)) → (IsTrue (waits place) → LacksEmpty (second t)) →
       (Ends first s → IsTrue a) → (Ends second t → IsTrue b) → (v : Option V) (w : Option W) → OneOrBothRest first second place s t [] v w → IsTrue (ends_at place a b)
   ends_of Start s t a b differ filled f g (Some v) w h = absurd ((differ refl).0 v (empty_first s t [] v w refl h.1))
   ends_of Start s t a b differ filled f g None (Some w) h = absurd (filled refl w h.1)
@@ -58,14 +58,14 @@ module _ {S T V W : Type 0} (first : S → List ℕ → V → Type 0) (second : 
   ends_of Both s t a b differ filled f g (Some v) None h = true_false h.1.1.0
   ends_of Both s t a b differ filled f g None w h = true_false (sym h.0)
 
-  ended_at : (place : Place) (s : S) (t : T) (a b : Bool) → (IsTrue (in_second place) → IsTrue a) → (IsTrue a → Ends first s) → (IsTrue b → Ends second t) → IsTrue (ends_at place a b) →
+  ended_at : (place : PartsTaken) (s : S) (t : T) (a b : Bool) → (IsTrue (in_second place) → IsTrue a) → (IsTrue a → Ends first s) → (IsTrue b → Ends second t) → IsTrue (ends_at place a b) →
       (v : Option V × Option W) × OneOrBothRest first second place s t [] v.0 v.1
   ended_at Start s t a b ended f g h = true_false (sym h)
   ended_at First s t a b ended f g h = let k = f h in ((Some k.0, None), (refl, alone s t [] k.0 k.1))
   ended_at Second s t a b ended f g h = let k = g h in ((None, Some k.0), (refl, k.1))
   ended_at Both s t a b ended f g h = let j = f (ended refl) in let k = g h in ((Some j.0, Some k.0), (refl, (j.1, k.1)))
 
-  pub one_ends : (place : Place) (s : S) (t : T) (a b : Bool) → (IsTrue (is_start place) → Differ (first s) (second t)) → (IsTrue (waits place) → LacksEmpty (second t)) → (IsTrue (in_second place) → IsTrue a) →
+  pub one_ends : (place : PartsTaken) (s : S) (t : T) (a b : Bool) → (IsTrue (is_start place) → Differ (first s) (second t)) → (IsTrue (waits place) → LacksEmpty (second t)) → (IsTrue (in_second place) → IsTrue a) →
       IsTrue a ↔ Ends first s → IsTrue b ↔ Ends second t → IsTrue (ends_at place a b) ↔ ((v : Option V × Option W) × OneOrBothRest first second place s t [] v.0 v.1)
   one_ends place s t a b differ filled ended f g = (ended_at place s t a b ended f.0 g.0, λ h. ends_of place s t a b differ filled f.1 g.1 (h.0.0) (h.0.1) h.1)
 
@@ -99,7 +99,7 @@ module _ {S T V W : Type 0} (first : S → List ℕ → V → Type 0) (second : 
   pair_one s t filled apart one two rest v u w x h k =
       sequence_one first Later false s (false, t) (λ _. later_apart s t apart) one (maybe_one (second t) false (λ _. filled) two) rest v u w x h k
 
-  value_of : (place : Place) (s : S) (t : T) → (IsTrue (is_start place) → Differ (first s) (second t)) → (IsTrue (waits place) → LacksEmpty (second t)) → (IsTrue (waits place) → AreApart first second s t) →
+  value_of : (place : PartsTaken) (s : S) (t : T) → (IsTrue (is_start place) → Differ (first s) (second t)) → (IsTrue (waits place) → LacksEmpty (second t)) → (IsTrue (waits place) → AreApart first second s t) →
       HasOneValue first s → HasOneValue second t → (rest : List ℕ) (v u : Option V) (w x : Option W) → OneOrBothRest first second place s t rest v w → OneOrBothRest first second place s t rest u x →
       ◌≡◌ {A = Option V × Option W} (v, w) (u, x)
   value_of Start s t differ filled apart one two rest (Some v) (Some u) w x h k = some_same v u w x (pair_one s t (filled refl) (apart refl) one two rest v u w x h.1 k.1)
@@ -118,21 +118,21 @@ module _ {S T V W : Type 0} (first : S → List ℕ → V → Type 0) (second : 
   value_of Both s t differ filled apart one two rest (Some v) None w x h k = true_false (sym k.0)
   value_of Both s t differ filled apart one two rest None u w x h k = true_false (sym h.0)
 
-  pub one_value_of : (place : Place) (s : S) (t : T) → (IsTrue (is_start place) → Differ (first s) (second t)) → (IsTrue (waits place) → LacksEmpty (second t)) → (IsTrue (waits place) → AreApart first second s t) →
+  pub one_value_of : (place : PartsTaken) (s : S) (t : T) → (IsTrue (is_start place) → Differ (first s) (second t)) → (IsTrue (waits place) → LacksEmpty (second t)) → (IsTrue (waits place) → AreApart first second s t) →
       HasOneValue first s → HasOneValue second t → (rest : List ℕ) (v w : Option V × Option W) → OneOrBothRest first second place s t rest v.0 v.1 → OneOrBothRest first second place s t rest w.0 w.1 → v ≡ w
   one_value_of place s t differ filled apart one two rest v w h k = value_of place s t differ filled apart one two rest (v.0) (w.0) (v.1) (w.1) h k
 
-  bytes_of : (place : Place) (s : S) (t : T) → HoldsBytes first s → HoldsBytes second t → (rest : List ℕ) (v : Option V) (w : Option W) → OneOrBothRest first second place s t rest v w → AreBytes rest
+  bytes_of : (place : PartsTaken) (s : S) (t : T) → HoldsBytes first s → HoldsBytes second t → (rest : List ℕ) (v : Option V) (w : Option W) → OneOrBothRest first second place s t rest v w → AreBytes rest
   bytes_of place s t f g rest (Some v) w h = sequence_bytes first Later (in_second place) s (in_second place, t) f (maybe_bytes (second t) (in_second place) g) rest v w h.1
   bytes_of place s t f g rest None w h = maybe_bytes (second t) true g rest w h.1
 
-  pub one_bytes : (place : Place) (s : S) (t : T) → HoldsBytes first s → HoldsBytes second t → (rest : List ℕ) (v : Option V × Option W) → OneOrBothRest first second place s t rest v.0 v.1 → AreBytes rest
+  pub one_bytes : (place : PartsTaken) (s : S) (t : T) → HoldsBytes first s → HoldsBytes second t → (rest : List ℕ) (v : Option V × Option W) → OneOrBothRest first second place s t rest v.0 v.1 → AreBytes rest
   one_bytes place s t f g rest v h = bytes_of place s t f g rest (v.0) (v.1) h
 
   -- ---- Steps
 
   -- The first takes a byte.
-  pub first_taken : (place : Place) (s s' : S) (t : T) (b : ℕ) → IsTrue (waits place) → (IsTrue (is_start place) → Differ (first s) (second t)) → AreApart first second s t → Completes first s' → Follows first s b s' →
+  pub first_taken : (place : PartsTaken) (s s' : S) (t : T) (b : ℕ) → IsTrue (waits place) → (IsTrue (is_start place) → Differ (first s) (second t)) → AreApart first second s t → Completes first s' → Follows first s b s' →
       (rest : List ℕ) (v : Option V) (w : Option W) → OneOrBothRest first second First s' t rest v w ↔ OneOrBothRest first second place s t (b ∷ rest) v w
   first_taken Start s s' t b live differ apart c f rest (Some v) w =
       let k = pair_follows_first first Later s s' (false, t) b (later_apart s t apart) c f rest v w in

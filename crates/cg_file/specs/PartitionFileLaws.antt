@@ -5,21 +5,21 @@ use Rattle.cg_text.specs.Keyword.{text_of}
 use Rattle.cg_text.specs.Raw.{IsReason}
 use Rattle.cg_text.specs.declared.keyword.Keyword.TheVariants as word
 use Rattle.cg_join.specs.BeginsLaws.{concat_begins, either_begins, fixed_begins, fixed_begins_other}
-use Rattle.cg_join.specs.Choice.{either_weight}
+use Rattle.cg_join.specs.Choice.{either_size}
 use Rattle.cg_join.specs.CutLaws.{alone_is, followed_is, label_is, parts_is}
 use Rattle.cg_join.specs.FilledLaws.{either_filled, first_filled, fixed_filled}
 use Rattle.cg_join.specs.LackingLaws.{concat_lacking, either_lacking, keyword_lacking, maybe_lacking, reason_lacking}
-use Rattle.cg_join.specs.Maybe.{IsMaybe, maybe_weight}
+use Rattle.cg_join.specs.Maybe.{IsMaybe, maybe_size}
 use Rattle.cg_join.specs.Spelling.{IsTurned}
 use Rattle.cg_join.specs.TextBytes.{Filled, IsFixed, Lacking}
 use Rattle.cg_join.specs.declared.choice.Either.TheVariants.{Left, Right}
-use Rattle.cg_value.specs.Weight.{reason_weight}
+use Rattle.cg_value.specs.Held.{held_of_reason}
 use Rattle.cg_value.specs.ReadLine.{CanBeInvalid, IsPartition, role_text}
 use Rattle.cg_value.specs.declared.value.Role.{Role}
 use Rattle.cg_value.specs.declared.value.Role.TheVariants.{Member, Root, Isolated}
 use Rattle.cg_file.specs.Kinds.{held_of_whole}
 use Rattle.cg_file.specs.OneOrBoth.{Differ}
-use Rattle.cg_file.specs.PartitionTurned.{RootValue, InvalidValue, PartitionValue, ReasonValue, IsRootWord, IsReasonText, IsInvalidText, IsRootText, IsPartitionText, root_role, root_parts, partition_parts, partition_value, partition_weight, reason_of}
+use Rattle.cg_file.specs.PartitionTurned.{RootValue, InvalidValue, PartitionValue, ReasonValue, IsRootWord, IsReasonText, IsInvalidText, IsRootText, IsPartitionText, root_role, root_parts, partition_parts, partition_value, partition_size, reason_of}
 
 -- ---- Texts
 
@@ -117,38 +117,38 @@ partition_lacking =
 
 -- ---- How much is held
 
--- Of a token's value, where a word of a role has a weight of its own and a reason weighs so much.
+-- Of a token's value, where a word of a role has a size of its own and a reason one.
 abbrev Held : (RootValue → ℕ) → (List ℕ → ℕ) → PartitionValue → ℕ
-Held f g v = either_weight (λ _. 0) (λ w. f w.0 + maybe_weight (λ x. maybe_weight (λ y. g y.1) x.1) w.1) v
+Held f g v = either_size (λ _. 0) (λ w. f w.0 + maybe_size (λ x. maybe_size (λ y. g y.1) x.1) w.1) v
 
-reason_more : (n : ℕ) (v : Option ReasonValue) → reason_weight (reason_of v) ≤ n + maybe_weight (λ y. length y.1) v + 0
+reason_more : (n : ℕ) (v : Option ReasonValue) → held_of_reason (reason_of v) ≤ n + maybe_size (λ y. length y.1) v + 0
 reason_more n None = omega arith
 reason_more n (Some y) = omega arith
 
-root_more : (n : ℕ) (role : Role) (v : Option InvalidValue) → reason_weight ((root_parts role v).2) ≤ n + maybe_weight (λ x. maybe_weight (λ y. length y.1) x.1) v + 0
+root_more : (n : ℕ) (role : Role) (v : Option InvalidValue) → held_of_reason ((root_parts role v).2) ≤ n + maybe_size (λ x. maybe_size (λ y. length y.1) x.1) v + 0
 root_more n role None = omega arith
 root_more n role (Some x) = reason_more n x.1
 
-value_more : (f : RootValue → ℕ) (v : PartitionValue) → reason_weight ((partition_parts v).2) ≤ Held f length v + 0
+value_more : (f : RootValue → ℕ) (v : PartitionValue) → held_of_reason ((partition_parts v).2) ≤ Held f length v + 0
 value_more f (Left u) = omega arith
 value_more f (Right w) = root_more (f w.0) (root_role w.0) w.1
 
 -- No vector is made.
-pub partition_no_more : (v : PartitionValue × Unit {0}) → partition_weight (partition_value v) ≤ Held (either_weight (λ _. 0) (λ _. 0)) length v.0 + 0
-partition_no_more v = value_more (either_weight (λ _. 0) (λ _. 0)) v.0
+pub partition_no_more : (v : PartitionValue × Unit {0}) → partition_size (partition_value v) ≤ Held (either_size (λ _. 0) (λ _. 0)) length v.0 + 0
+partition_no_more v = value_more (either_size (λ _. 0) (λ _. 0)) v.0
 
-reason_held : (v : Option ReasonValue) → 0 + maybe_weight (λ y. length y.1 + 1) v + 0 ≤ 1 + reason_weight (reason_of v)
+reason_held : (v : Option ReasonValue) → 0 + maybe_size (λ y. length y.1 + 1) v + 0 ≤ 1 + held_of_reason (reason_of v)
 reason_held None = omega arith
 reason_held (Some y) = omega arith
 
-root_held : (role : Role) (v : Option InvalidValue) → 0 + maybe_weight (λ x. maybe_weight (λ y. length y.1 + 1) x.1) v + 0 ≤ 1 + reason_weight ((root_parts role v).2)
+root_held : (role : Role) (v : Option InvalidValue) → 0 + maybe_size (λ x. maybe_size (λ y. length y.1 + 1) x.1) v + 0 ≤ 1 + held_of_reason ((root_parts role v).2)
 root_held role None = omega arith
 root_held role (Some x) = reason_held x.1
 
-value_held : (v : PartitionValue) → Held (λ _. 0) (λ reason. length reason + 1) v + 0 ≤ 1 + reason_weight ((partition_parts v).2)
+value_held : (v : PartitionValue) → Held (λ _. 0) (λ reason. length reason + 1) v + 0 ≤ 1 + held_of_reason ((partition_parts v).2)
 value_held (Left u) = omega arith
 value_held (Right w) = root_held (root_role w.0) w.1
 
--- The reason's parenthesis is held where its line may end, and weighs no more than the line.
-pub partition_weighs : (v : PartitionValue × Unit {0}) → Held (λ _. 0) (λ reason. length reason + 1) v.0 + 0 ≤ held_of_whole (partition_value v)
-partition_weighs v = value_held v.0
+-- The reason's parenthesis is held where its line may end, and is no more than the line.
+pub partition_held : (v : PartitionValue × Unit {0}) → Held (λ _. 0) (λ reason. length reason + 1) v.0 + 0 ≤ held_of_whole (partition_value v)
+partition_held v = value_held v.0

@@ -8,7 +8,7 @@ use Rattle.cg_join.specs.Spelling.{IsConcat, IsEither}
 use Rattle.cg_join.specs.TextBytes.{IsFixed}
 use Rattle.cg_join.specs.declared.choice.Either.{Either}
 use Rattle.cg_join.specs.declared.choice.Either.TheVariants.{Left, Right}
-use Rattle.cg_value.specs.Weight.{reason_weight}
+use Rattle.cg_value.specs.Held.{held_of_reason}
 use Rattle.cg_value.specs.declared.value.Role.{Role}
 use Rattle.cg_value.specs.declared.value.Role.TheVariants.{Member, Root, Isolated}
 use Rattle.cg_value.specs.declared.value.Value.{Value}
@@ -68,6 +68,6 @@ abbrev pub partition_value : PartitionValue × Unit {0} → Value
 partition_value v = Partition ((partition_parts v.0).0) ((partition_parts v.0).1) ((partition_parts v.0).2)
 
 -- The length of the reason.
-abbrev pub partition_weight : Value → ℕ
-partition_weight (Partition role valid reason) = reason_weight reason
-partition_weight _ = 0
+abbrev pub partition_size : Value → ℕ
+partition_size (Partition role valid reason) = held_of_reason reason
+partition_size _ = 0

@@ -50,7 +50,7 @@ averages_to text a h =
     let k = (averages_are text (values_of a)).0 h in
     record { avg10 = k.first; avg60 = k.second; avg300 = k.third; total = k.fourth; text_is = k.text_is; avg10_is = k.first_is; avg60_is = k.second_is; avg300_is = k.third_is; total_is = k.fourth_is }
 
-averages_from : (text : List ℕ) (a : Averages) → AreAverages a text → AveragesText text (values_of a)
+pub averages_from : (text : List ℕ) (a : Averages) → AreAverages a text → AveragesText text (values_of a)
 averages_from text a h = (averages_are text (values_of a)).1
     record { first = h.avg10; second = h.avg60; third = h.avg300; fourth = h.total; text_is = h.text_is; first_is = h.avg10_is; second_is = h.avg60_is; third_is = h.avg300_is; fourth_is = h.total_is }
 

@@ -10,9 +10,9 @@ use Rattle.cg_join.specs.JoinedPairs.{AreJoinedPairs}
 use Rattle.cg_join.specs.JoinedPairsLaws.{joined_bytes, joined_one}
 use Rattle.cg_join.specs.LackingLaws.{amount_lacking, device_lacking, word_lacking}
 use Rattle.cg_join.specs.Line.{LacksByte}
-use Rattle.cg_join.specs.Pairs.{ArePairs, IsPairText, pair_weight}
+use Rattle.cg_join.specs.Pairs.{ArePairs, IsPairText, pair_size}
 use Rattle.cg_join.specs.PairsLaws.{pair_nil, word_begun}
-use Rattle.cg_join.specs.Repeat.{items_weight}
+use Rattle.cg_join.specs.Repeat.{items_size}
 use Rattle.cg_join.specs.Spelling.{Apart, IsConcat, IsTurned, spells_as}
 use Rattle.cg_join.specs.StartLaws.{lacks_stops}
 use Rattle.cg_join.specs.TextBytes.{BeginsBy, Filled}
@@ -20,7 +20,7 @@ use Rattle.cg_join.specs.WordStartLaws.{SpellsWord, one_word, word_only, word_te
 use Rattle.cg_value.specs.Print.{print_stat_line}
 use Rattle.cg_value.specs.RawLinesLaws.{raw_lines}
 use Rattle.cg_value.specs.ReadLine.{IsStatLine, IsStatPair, pad_text}
-use Rattle.cg_value.specs.Weight.{key_weight}
+use Rattle.cg_value.specs.Held.{held_of_key}
 use Rattle.cg_value.specs.declared.kind.ReadForm.TheVariants.{DeviceStats as StatsForm}
 use Rattle.cg_value.specs.declared.value.StatLine.{StatLine}
 use Rattle.cg_value.specs.declared.value.StatPair.{StatPair}
@@ -34,7 +34,7 @@ use Rattle.cg_file.specs.NestedFileLaws as nested
 use Rattle.cg_file.specs.Pad.{IsLed, IsPadded, IsUnspaced}
 use Rattle.cg_file.specs.PadLaws.{before_refused, pad_bytes, pad_one}
 use Rattle.cg_file.specs.StartableLaws.{Startable, amount_startable, concat_startable, device_startable, startable_as, turned_startable}
-use Rattle.cg_file.specs.WeighLaws.{items_within, lines_weigh}
+use Rattle.cg_file.specs.LineHeldLaws.{items_within, lines_held}
 use Rattle.cg_file.specs.declared.pad.Padding.TheVariants.{Before}
 
 -- How lines are turned into a file's value, and what a device, its pad and its pairs are turned into.
@@ -45,8 +45,8 @@ abbrev pub stat_line : Device × (Bool × List StatPair) → StatLine
 stat_line v = record { device = v.0; pad = v.1.0; pairs = v.1.1 }
 
 -- The vectors in a line: its pairs, and their keys.
-abbrev pub stat_weight : StatLine → ℕ
-stat_weight line = items_weight (pair_weight (λ p. p.key) (λ p. p.amount) length (λ _. 0)) line.pairs
+abbrev pub stat_size : StatLine → ℕ
+stat_size line = items_size (pair_size (λ p. p.key) (λ p. p.amount) length (λ _. 0)) line.pairs
 
 pub no_less : (n : ℕ) → n ≤ 0 + n
 no_less n = omega arith
@@ -175,9 +175,9 @@ stat_lacks front more line h =
 
 -- ---- What is held
 
-pair_within : (p : StatPair) → 1 + pair_weight (λ q. q.key) (λ q. q.amount) length (λ _. 0) p ≤ key_weight p.key
+pair_within : (p : StatPair) → 1 + pair_size (λ q. q.key) (λ q. q.amount) length (λ _. 0) p ≤ held_of_key p.key
 pair_within p = omega arith
 
-pub stats_weigh : (lines : List StatLine) → items_weight stat_weight lines ≤ held_of_whole (stats_value lines)
-stats_weigh = lines_weigh stat_weight (λ s. sum_by (λ p. key_weight p.key) s.pairs) print_stat_line
-    (λ s. items_within (pair_weight (λ q. q.key) (λ q. q.amount) length (λ _. 0)) (λ p. key_weight p.key) pair_within s.pairs)
+pub stats_held : (lines : List StatLine) → items_size stat_size lines ≤ held_of_whole (stats_value lines)
+stats_held = lines_held stat_size (λ s. sum_by (λ p. held_of_key p.key) s.pairs) print_stat_line
+    (λ s. items_within (pair_size (λ q. q.key) (λ q. q.amount) length (λ _. 0)) (λ p. held_of_key p.key) pair_within s.pairs)

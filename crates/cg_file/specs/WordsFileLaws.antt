@@ -22,7 +22,7 @@ joined_line text (w ∷ x ∷ ws) h =
     let more = joined_line h.1 (x ∷ ws) h.4 in
     (All-cons IsControllerWord w (x ∷ ws) (rw h.3.0 h.3.1) more.0, h.2 ∙ rw (← h.3.0, ← more.1) refl)
 
-line_joined : (w : List ℕ) (ws : List (List ℕ)) → All IsControllerWord (w ∷ ws) → AreJoined (SpellsWord true) 32 (words_line (w ∷ ws)) (w ∷ ws)
+pub line_joined : (w : List ℕ) (ws : List (List ℕ)) → All IsControllerWord (w ∷ ws) → AreJoined (SpellsWord true) 32 (words_line (w ∷ ws)) (w ∷ ws)
 line_joined w [] h = (refl, All-head IsControllerWord w [] h)
 line_joined w (x ∷ ws) h = (w, words_line (x ∷ ws), refl, (refl, All-head IsControllerWord w (x ∷ ws) h), line_joined x ws (All-tail IsControllerWord w (x ∷ ws) h))
 

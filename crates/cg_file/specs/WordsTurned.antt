@@ -2,7 +2,7 @@
 use Rattle.std.specs.Prelude.{ℕ, true, List, [], ◌∷◌, length}
 use Rattle.cg_join.specs.Distinct.{AreDistinctJoined}
 use Rattle.cg_join.specs.Ready.{IsOrReady}
-use Rattle.cg_join.specs.Repeat.{out_weight}
+use Rattle.cg_join.specs.Repeat.{out_size}
 use Rattle.cg_join.specs.Spelling.{IsConcat}
 use Rattle.cg_join.specs.TextBytes.{IsFixed}
 use Rattle.cg_join.specs.WordStartLaws.{SpellsWord}
@@ -21,6 +21,6 @@ abbrev pub words_value : List (List ℕ) × Unit {0} → Value
 words_value v = Words v.0
 
 -- The lengths of the words, and the spaces between.
-abbrev pub words_weight : Value → ℕ
-words_weight (Words words) = out_weight length words
-words_weight _ = 0
+abbrev pub words_size : Value → ℕ
+words_size (Words words) = out_size length words
+words_size _ = 0

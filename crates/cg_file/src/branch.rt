@@ -11,7 +11,7 @@ use cg_text::{OutOfMemory, Token};
 
 /// Which of the two tokens took bytes.
 #[derive(Clone, Copy)]
-pub enum Place {
+pub enum BranchTaken {
     /// None.
     Start,
     /// The first.
@@ -26,7 +26,7 @@ pub enum Place {
 pub struct Branch<A: Token, B: Token> {
     first: A,
     second: B,
-    place: Place,
+    place: BranchTaken,
     ghost filled: { IsTrue (is_open place) → LacksEmpty (B.means second) },
     ghost differ: { IsTrue (is_open place) → Differ (A.means first) (B.means second) },
     ghost fresh: { IsTrue (may_first place) → B.size second ≡ 0 },
@@ -44,7 +44,7 @@ impl<A: Token, B: Token> Branch<A, B> {
         Branch {
             first,
             second,
-            place: Place::Start,
+            place: BranchTaken::Start,
         }
     }
 }
@@ -53,7 +53,7 @@ impl<A: Token, B: Token> Token for Branch<A, B> {
     type Out = Either<A::Out, B::Out>;
 
     ghost use Rattle.cg_join.specs.ByteLaws.{choice_bytes};
-    ghost use Rattle.cg_join.specs.Choice.{either_weight};
+    ghost use Rattle.cg_join.specs.Choice.{either_size};
     ghost use Rattle.cg_join.specs.ChoiceLaws.{choice_completes, choice_one};
     ghost use Rattle.cg_join.specs.SequenceLaws.{sum_none};
     ghost use Rattle.cg_file.specs.Branch.{may_second};
@@ -63,7 +63,7 @@ impl<A: Token, B: Token> Token for Branch<A, B> {
 
     ghost size = { λ s. A.size s.first + B.size s.second };
 
-    ghost weight = { either_weight A.weight B.weight };
+    ghost value_size = { either_size A.value_size B.value_size };
 
     ghost ends = { λ s. branch_ends_at s.place (A.ends s.first) (B.ends s.second) };
 
@@ -71,14 +71,14 @@ impl<A: Token, B: Token> Token for Branch<A, B> {
 
     fn step(&mut self, byte: u8) -> Result<bool, OutOfMemory> {
         match self.place {
-            Place::Start => match self.first.step(byte) {
+            BranchTaken::Start => match self.first.step(byte) {
                 Ok(true) => {
-                    self.place = Place::First;
+                    self.place = BranchTaken::First;
                     Ok(true)
                 }
                 Ok(false) => match self.second.step(byte) {
                     Ok(true) => {
-                        self.place = Place::Second;
+                        self.place = BranchTaken::Second;
                         Ok(true)
                     }
                     Ok(false) => Ok(false),
@@ -86,8 +86,8 @@ impl<A: Token, B: Token> Token for Branch<A, B> {
                 },
                 Err(e) => Err(e),
             },
-            Place::First => self.first.step(byte),
-            Place::Second => self.second.step(byte),
+            BranchTaken::First => self.first.step(byte),
+            BranchTaken::Second => self.second.step(byte),
         }
     }
 
@@ -95,17 +95,17 @@ impl<A: Token, B: Token> Token for Branch<A, B> {
         let first = self.first.allows(byte);
         let second = self.second.allows(byte);
         match self.place {
-            Place::Start => first | second,
-            Place::First => first,
-            Place::Second => second,
+            BranchTaken::Start => first | second,
+            BranchTaken::First => first,
+            BranchTaken::Second => second,
         }
     }
 
     fn can_end(&self) -> bool {
         match self.place {
-            Place::Start => false,
-            Place::First => self.first.can_end(),
-            Place::Second => self.second.can_end(),
+            BranchTaken::Start => false,
+            BranchTaken::First => self.first.can_end(),
+            BranchTaken::Second => self.second.can_end(),
         }
     }
 
@@ -115,16 +115,16 @@ impl<A: Token, B: Token> Token for Branch<A, B> {
 
     fn take(self) -> Either<A::Out, B::Out> {
         match self.place {
-            Place::Start => unreachable!(),
-            Place::First => Either::Left(self.first.take()),
-            Place::Second => Either::Right(self.second.take()),
+            BranchTaken::Start => unreachable!(),
+            BranchTaken::First => Either::Left(self.first.take()),
+            BranchTaken::Second => Either::Right(self.second.take()),
         }
     }
 
-    fn weight_of(value: &Either<A::Out, B::Out>) -> u64 {
+    fn held_in(value: &Either<A::Out, B::Out>) -> u64 {
         match value {
-            Either::Left(v) => A::weight_of(v),
-            Either::Right(w) => B::weight_of(w),
+            Either::Left(v) => A::held_in(v),
+            Either::Right(w) => B::held_in(w),
         }
     }
 

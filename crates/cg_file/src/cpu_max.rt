@@ -20,14 +20,14 @@ impl Turn<Sequence<QuotaAndPeriod, ByteText>> for ToCpuMax {
 
     ghost turned = { cpu_max_value };
 
-    ghost weight = { λ _. 0 };
+    ghost value_size = { λ _. 0 };
 
     fn turn(value: ((Limit, ((), u64)), ())) -> Value {
         let (quota, (_, period)) = value.0;
         Value::CpuMax { quota, period }
     }
 
-    fn weight_of(_value: &Value) -> u64 {
+    fn held_in(_value: &Value) -> u64 {
         0
     }
 
@@ -61,7 +61,7 @@ impl Token for CpuMaxFile {
 
     ghost size = { λ s. ⟦<Text as Token>⟧.size s.text };
 
-    ghost weight = { λ _. 0 };
+    ghost value_size = { λ _. 0 };
 
     ghost ends = { λ s. ⟦<Text as Token>⟧.ends s.text };
 
@@ -97,7 +97,7 @@ impl Token for CpuMaxFile {
         self.text.take()
     }
 
-    fn weight_of(_value: &Value) -> u64 {
+    fn held_in(_value: &Value) -> u64 {
         0
     }
 }

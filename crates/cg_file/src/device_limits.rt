@@ -33,7 +33,7 @@ impl Turn<Sequence<DeviceText, FourLimits>> for ToLimitLine {
 
     ghost turned = { limit_line };
 
-    ghost weight = { λ _. 0 };
+    ghost value_size = { λ _. 0 };
 
     fn turn(value: (Device, FourLimitValues)) -> LimitLine {
         let (device, ((_, rbps), ((_, wbps), ((_, riops), (_, wiops))))) = value;
@@ -46,7 +46,7 @@ impl Turn<Sequence<DeviceText, FourLimits>> for ToLimitLine {
         }
     }
 
-    fn weight_of(_value: &LimitLine) -> u64 {
+    fn held_in(_value: &LimitLine) -> u64 {
         0
     }
 
@@ -87,7 +87,7 @@ impl Token for LimitLineText {
 
     ghost size = { λ s. ⟦<LineParts as Token>⟧.size s.parts };
 
-    ghost weight = { λ _. 0 };
+    ghost value_size = { λ _. 0 };
 
     ghost ends = { λ s. ⟦<LineParts as Token>⟧.ends s.parts };
 
@@ -123,7 +123,7 @@ impl Token for LimitLineText {
         self.parts.take()
     }
 
-    fn weight_of(_value: &LimitLine) -> u64 {
+    fn held_in(_value: &LimitLine) -> u64 {
         0
     }
 }
@@ -160,13 +160,13 @@ impl Turn<Lines<LimitLineText, LimitStart>> for ToDeviceLimits {
 
     ghost turned = { limits_value };
 
-    ghost weight = { λ _. 0 };
+    ghost value_size = { λ _. 0 };
 
     fn turn(value: Items<LimitLine>) -> Value {
         Value::DeviceLimits(value)
     }
 
-    fn weight_of(_value: &Value) -> u64 {
+    fn held_in(_value: &Value) -> u64 {
         0
     }
 
@@ -200,7 +200,7 @@ impl Token for DeviceLimitsFile {
 
     ghost size = { λ s. ⟦<Text as Token>⟧.size s.text };
 
-    ghost weight = { λ _. 0 };
+    ghost value_size = { λ _. 0 };
 
     ghost ends = { λ s. ⟦<Text as Token>⟧.ends s.text };
 
@@ -236,7 +236,7 @@ impl Token for DeviceLimitsFile {
         self.text.take()
     }
 
-    fn weight_of(_value: &Value) -> u64 {
+    fn held_in(_value: &Value) -> u64 {
         0
     }
 }

@@ -103,7 +103,7 @@ impl Token for StatPairs {
 
     ghost size = { λ s. ⟦<Pairs as Token>⟧.size s.pairs };
 
-    ghost weight = { ⟦<Pairs as Token>⟧.weight };
+    ghost value_size = { ⟦<Pairs as Token>⟧.value_size };
 
     ghost ends = { λ s. ⟦<Pairs as Token>⟧.ends s.pairs };
 
@@ -139,8 +139,8 @@ impl Token for StatPairs {
         self.pairs.take()
     }
 
-    fn weight_of(value: &Items<StatPair>) -> u64 {
-        Pairs::weight_of(value)
+    fn held_in(value: &Items<StatPair>) -> u64 {
+        Pairs::held_in(value)
     }
 }
 
@@ -151,22 +151,22 @@ pub struct ToStatLine;
 impl Turn<Sequence<DeviceText, PadText<StatPairs>>> for ToStatLine {
     type To = StatLine;
 
-    ghost use Rattle.cg_file.specs.StatFileLaws.{stat_line, stat_weight, no_less};
+    ghost use Rattle.cg_file.specs.StatFileLaws.{stat_line, stat_size, no_less};
 
     ghost turned = { stat_line };
 
-    ghost weight = { stat_weight };
+    ghost value_size = { stat_size };
 
     fn turn(value: (Device, (bool, Items<StatPair>))) -> StatLine {
         let (device, (pad, pairs)) = value;
         StatLine { device, pad, pairs }
     }
 
-    fn weight_of(value: &StatLine) -> u64 {
-        StatPairs::weight_of(&value.pairs)
+    fn held_in(value: &StatLine) -> u64 {
+        StatPairs::held_in(&value.pairs)
     }
 
-    ghost no_more = { λ v. no_less (stat_weight (stat_line v)) };
+    ghost no_more = { λ v. no_less (stat_size (stat_line v)) };
 }
 
 type LineParts = Mapped<Sequence<DeviceText, PadText<StatPairs>>, ToStatLine>;
@@ -194,13 +194,13 @@ impl StatLineText {
 impl Token for StatLineText {
     type Out = StatLine;
 
-    ghost use Rattle.cg_file.specs.StatFileLaws.{stat_weight};
+    ghost use Rattle.cg_file.specs.StatFileLaws.{stat_size};
 
     ghost means = { λ s. ⟦<LineParts as Token>⟧.means s.parts };
 
     ghost size = { λ s. ⟦<LineParts as Token>⟧.size s.parts };
 
-    ghost weight = { stat_weight };
+    ghost value_size = { stat_size };
 
     ghost ends = { λ s. ⟦<LineParts as Token>⟧.ends s.parts };
 
@@ -236,8 +236,8 @@ impl Token for StatLineText {
         self.parts.take()
     }
 
-    fn weight_of(value: &StatLine) -> u64 {
-        StatPairs::weight_of(&value.pairs)
+    fn held_in(value: &StatLine) -> u64 {
+        StatPairs::held_in(&value.pairs)
     }
 }
 
@@ -282,13 +282,13 @@ impl Turn<Lines<StatLineText, StatStart>> for ToDeviceStats {
 
     ghost turned = { stats_value };
 
-    ghost weight = { λ _. 0 };
+    ghost value_size = { λ _. 0 };
 
     fn turn(value: Items<StatLine>) -> Value {
         Value::DeviceStats(value)
     }
 
-    fn weight_of(_value: &Value) -> u64 {
+    fn held_in(_value: &Value) -> u64 {
         0
     }
 
@@ -322,7 +322,7 @@ impl Token for DeviceStatsFile {
 
     ghost size = { λ s. ⟦<Text as Token>⟧.size s.text };
 
-    ghost weight = { λ _. 0 };
+    ghost value_size = { λ _. 0 };
 
     ghost ends = { λ s. ⟦<Text as Token>⟧.ends s.text };
 
@@ -358,7 +358,7 @@ impl Token for DeviceStatsFile {
         self.text.take()
     }
 
-    fn weight_of(_value: &Value) -> u64 {
+    fn held_in(_value: &Value) -> u64 {
         0
     }
 }

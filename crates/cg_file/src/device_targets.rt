@@ -22,7 +22,7 @@ impl Turn<Sequence<DeviceText, LabelText<DecimalText>>> for ToTargetLine {
 
     ghost turned = { target_line };
 
-    ghost weight = { λ _. 0 };
+    ghost value_size = { λ _. 0 };
 
     fn turn(value: (Device, ((), u64))) -> TargetLine {
         TargetLine {
@@ -31,7 +31,7 @@ impl Turn<Sequence<DeviceText, LabelText<DecimalText>>> for ToTargetLine {
         }
     }
 
-    fn weight_of(_value: &TargetLine) -> u64 {
+    fn held_in(_value: &TargetLine) -> u64 {
         0
     }
 
@@ -66,7 +66,7 @@ impl Token for TargetLineText {
 
     ghost size = { λ s. ⟦<LineParts as Token>⟧.size s.parts };
 
-    ghost weight = { λ _. 0 };
+    ghost value_size = { λ _. 0 };
 
     ghost ends = { λ s. ⟦<LineParts as Token>⟧.ends s.parts };
 
@@ -102,7 +102,7 @@ impl Token for TargetLineText {
         self.parts.take()
     }
 
-    fn weight_of(_value: &TargetLine) -> u64 {
+    fn held_in(_value: &TargetLine) -> u64 {
         0
     }
 }
@@ -139,13 +139,13 @@ impl Turn<Lines<TargetLineText, TargetStart>> for ToDeviceTargets {
 
     ghost turned = { targets_value };
 
-    ghost weight = { λ _. 0 };
+    ghost value_size = { λ _. 0 };
 
     fn turn(value: Items<TargetLine>) -> Value {
         Value::DeviceTargets(value)
     }
 
-    fn weight_of(_value: &Value) -> u64 {
+    fn held_in(_value: &Value) -> u64 {
         0
     }
 
@@ -179,7 +179,7 @@ impl Token for DeviceTargetsFile {
 
     ghost size = { λ s. ⟦<Text as Token>⟧.size s.text };
 
-    ghost weight = { λ _. 0 };
+    ghost value_size = { λ _. 0 };
 
     ghost ends = { λ s. ⟦<Text as Token>⟧.ends s.text };
 
@@ -215,7 +215,7 @@ impl Token for DeviceTargetsFile {
         self.text.take()
     }
 
-    fn weight_of(_value: &Value) -> u64 {
+    fn held_in(_value: &Value) -> u64 {
         0
     }
 }

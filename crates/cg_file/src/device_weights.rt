@@ -25,7 +25,7 @@ impl Turn<Sequence<DeviceText, Spaced<DecimalText>>> for ToWeightLine {
 
     ghost turned = { weight_line };
 
-    ghost weight = { λ _. 0 };
+    ghost value_size = { λ _. 0 };
 
     fn turn(value: (Device, ((), u64))) -> WeightLine {
         WeightLine {
@@ -34,7 +34,7 @@ impl Turn<Sequence<DeviceText, Spaced<DecimalText>>> for ToWeightLine {
         }
     }
 
-    fn weight_of(_value: &WeightLine) -> u64 {
+    fn held_in(_value: &WeightLine) -> u64 {
         0
     }
 
@@ -69,7 +69,7 @@ impl Token for WeightLineText {
 
     ghost size = { λ s. ⟦<LineParts as Token>⟧.size s.parts };
 
-    ghost weight = { λ _. 0 };
+    ghost value_size = { λ _. 0 };
 
     ghost ends = { λ s. ⟦<LineParts as Token>⟧.ends s.parts };
 
@@ -105,7 +105,7 @@ impl Token for WeightLineText {
         self.parts.take()
     }
 
-    fn weight_of(_value: &WeightLine) -> u64 {
+    fn held_in(_value: &WeightLine) -> u64 {
         0
     }
 }
@@ -145,7 +145,7 @@ impl Turn<Sequence<DefaultLine, Lines<WeightLineText, WeightStart>>> for ToDevic
 
     ghost turned = { weights_value };
 
-    ghost weight = { λ _. 0 };
+    ghost value_size = { λ _. 0 };
 
     fn turn(value: ((((), ((), u64)), ()), Items<WeightLine>)) -> Value {
         Value::DeviceWeights {
@@ -154,7 +154,7 @@ impl Turn<Sequence<DefaultLine, Lines<WeightLineText, WeightStart>>> for ToDevic
         }
     }
 
-    fn weight_of(_value: &Value) -> u64 {
+    fn held_in(_value: &Value) -> u64 {
         0
     }
 
@@ -192,7 +192,7 @@ impl Token for DeviceWeightsFile {
 
     ghost size = { λ s. ⟦<Text as Token>⟧.size s.text };
 
-    ghost weight = { λ _. 0 };
+    ghost value_size = { λ _. 0 };
 
     ghost ends = { λ s. ⟦<Text as Token>⟧.ends s.text };
 
@@ -228,7 +228,7 @@ impl Token for DeviceWeightsFile {
         self.text.take()
     }
 
-    fn weight_of(_value: &Value) -> u64 {
+    fn held_in(_value: &Value) -> u64 {
         0
     }
 }

@@ -133,7 +133,7 @@ impl Token for FileText {
 
     ghost size = { file_size };
 
-    ghost weight = { λ _. 0 };
+    ghost value_size = { λ _. 0 };
 
     ghost ends = { file_ends };
 
@@ -264,7 +264,7 @@ impl Token for FileText {
         }
     }
 
-    fn weight_of(_value: &Value) -> u64 {
+    fn held_in(_value: &Value) -> u64 {
         0
     }
 }

@@ -50,7 +50,7 @@ impl Collection<DecimalText> for FlatPairs {
 
     ghost size = { λ s. flat_size s.building.pairs };
 
-    ghost weight = { flat_size };
+    ghost value_size = { flat_size };
 
     ghost places = { 2 };
 
@@ -78,7 +78,7 @@ impl Collection<DecimalText> for FlatPairs {
         self.building.finish()
     }
 
-    fn weight_of(out: &Flat) -> u64 {
+    fn held_in(out: &Flat) -> u64 {
         out.held()
     }
 
@@ -106,13 +106,13 @@ impl Turn<FlatLines> for ToFlat {
 
     ghost turned = { flat_value };
 
-    ghost weight = { λ _. 0 };
+    ghost value_size = { λ _. 0 };
 
     fn turn(value: Flat) -> Value {
         Value::Flat(value)
     }
 
-    fn weight_of(_value: &Value) -> u64 {
+    fn held_in(_value: &Value) -> u64 {
         0
     }
 
@@ -149,7 +149,7 @@ impl Token for FlatFile {
 
     ghost size = { λ s. ⟦<Text as Token>⟧.size s.text };
 
-    ghost weight = { λ _. 0 };
+    ghost value_size = { λ _. 0 };
 
     ghost ends = { λ s. ⟦<Text as Token>⟧.ends s.text };
 
@@ -185,7 +185,7 @@ impl Token for FlatFile {
         self.text.take()
     }
 
-    fn weight_of(_value: &Value) -> u64 {
+    fn held_in(_value: &Value) -> u64 {
         0
     }
 }

@@ -10,6 +10,7 @@ pub mod device_targets;
 pub mod device_weights;
 pub mod file_text;
 pub mod flat;
+pub mod laws;
 pub mod limit;
 pub mod mode;
 pub mod nested;

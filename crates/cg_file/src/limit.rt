@@ -20,13 +20,13 @@ impl Turn<Sequence<LimitText, ByteText>> for ToLimit {
 
     ghost turned = { limit_value };
 
-    ghost weight = { λ _. 0 };
+    ghost value_size = { λ _. 0 };
 
     fn turn(value: (Limit, ())) -> Value {
         Value::Limit(value.0)
     }
 
-    fn weight_of(_value: &Value) -> u64 {
+    fn held_in(_value: &Value) -> u64 {
         0
     }
 
@@ -63,7 +63,7 @@ impl Token for LimitFile {
 
     ghost size = { λ s. ⟦<Text as Token>⟧.size s.text };
 
-    ghost weight = { λ _. 0 };
+    ghost value_size = { λ _. 0 };
 
     ghost ends = { λ s. ⟦<Text as Token>⟧.ends s.text };
 
@@ -99,7 +99,7 @@ impl Token for LimitFile {
         self.text.take()
     }
 
-    fn weight_of(_value: &Value) -> u64 {
+    fn held_in(_value: &Value) -> u64 {
         0
     }
 }

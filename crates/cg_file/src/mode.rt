@@ -41,7 +41,7 @@ impl Turn<Sequence<ModeText, ByteText>> for ToMode {
 
     ghost turned = { mode_value };
 
-    ghost weight = { λ _. 0 };
+    ghost value_size = { λ _. 0 };
 
     fn turn(value: (Either<Either<(), ()>, Either<(), ()>>, ())) -> Value {
         Value::Mode(match value.0 {
@@ -52,7 +52,7 @@ impl Turn<Sequence<ModeText, ByteText>> for ToMode {
         })
     }
 
-    fn weight_of(_value: &Value) -> u64 {
+    fn held_in(_value: &Value) -> u64 {
         0
     }
 
@@ -86,7 +86,7 @@ impl Token for ModeFile {
 
     ghost size = { λ s. ⟦<Text as Token>⟧.size s.text };
 
-    ghost weight = { λ _. 0 };
+    ghost value_size = { λ _. 0 };
 
     ghost ends = { λ s. ⟦<Text as Token>⟧.ends s.text };
 
@@ -122,7 +122,7 @@ impl Token for ModeFile {
         self.text.take()
     }
 
-    fn weight_of(_value: &Value) -> u64 {
+    fn held_in(_value: &Value) -> u64 {
         0
     }
 }

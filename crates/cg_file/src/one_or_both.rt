@@ -9,7 +9,7 @@ use cg_text::{OutOfMemory, Token};
 
 /// Which of the two tokens took bytes.
 #[derive(Clone, Copy)]
-pub enum Place {
+pub enum PartsTaken {
     /// None.
     Start,
     /// The first.
@@ -26,7 +26,7 @@ pub enum Place {
 pub struct OneOrBoth<A: Token, B: Token> {
     first: A,
     second: B,
-    place: Place,
+    place: PartsTaken,
     ghost apart: { IsTrue (waits place) → AreApart A.means B.means first second },
     ghost filled: { IsTrue (waits place) → LacksEmpty (B.means second) },
     ghost differ: { IsTrue (is_start place) → Differ (A.means first) (B.means second) },
@@ -45,7 +45,7 @@ impl<A: Token, B: Token> OneOrBoth<A, B> {
         OneOrBoth {
             first,
             second,
-            place: Place::Start,
+            place: PartsTaken::Start,
         }
     }
 }
@@ -53,7 +53,7 @@ impl<A: Token, B: Token> OneOrBoth<A, B> {
 impl<A: Token, B: Token> Token for OneOrBoth<A, B> {
     type Out = (Option<A::Out>, Option<B::Out>);
 
-    ghost use Rattle.cg_join.specs.Maybe.{maybe_weight};
+    ghost use Rattle.cg_join.specs.Maybe.{maybe_size};
     ghost use Rattle.cg_join.specs.SequenceLaws.{sum_none};
     ghost use Rattle.cg_file.specs.OneOrBothLaws.{one_completes, one_ends, one_value_of, one_bytes};
 
@@ -61,7 +61,7 @@ impl<A: Token, B: Token> Token for OneOrBoth<A, B> {
 
     ghost size = { λ s. A.size s.first + B.size s.second };
 
-    ghost weight = { λ v. maybe_weight A.weight v.0 + maybe_weight B.weight v.1 };
+    ghost value_size = { λ v. maybe_size A.value_size v.0 + maybe_size B.value_size v.1 };
 
     ghost ends = { λ s. ends_at s.place (A.ends s.first) (B.ends s.second) };
 
@@ -69,14 +69,14 @@ impl<A: Token, B: Token> Token for OneOrBoth<A, B> {
 
     fn step(&mut self, byte: u8) -> Result<bool, OutOfMemory> {
         match self.place {
-            Place::Start => match self.first.step(byte) {
+            PartsTaken::Start => match self.first.step(byte) {
                 Ok(true) => {
-                    self.place = Place::First;
+                    self.place = PartsTaken::First;
                     Ok(true)
                 }
                 Ok(false) => match self.second.step(byte) {
                     Ok(true) => {
-                        self.place = Place::Second;
+                        self.place = PartsTaken::Second;
                         Ok(true)
                     }
                     Ok(false) => Ok(false),
@@ -84,7 +84,7 @@ impl<A: Token, B: Token> Token for OneOrBoth<A, B> {
                 },
                 Err(e) => Err(e),
             },
-            Place::First => match self.first.step(byte) {
+            PartsTaken::First => match self.first.step(byte) {
                 Ok(true) => Ok(true),
                 Ok(false) => {
                     if !self.first.can_end() {
@@ -92,7 +92,7 @@ impl<A: Token, B: Token> Token for OneOrBoth<A, B> {
                     }
                     match self.second.step(byte) {
                         Ok(true) => {
-                            self.place = Place::Both;
+                            self.place = PartsTaken::Both;
                             Ok(true)
                         }
                         Ok(false) => Ok(false),
@@ -101,8 +101,8 @@ impl<A: Token, B: Token> Token for OneOrBoth<A, B> {
                 }
                 Err(e) => Err(e),
             },
-            Place::Second => self.second.step(byte),
-            Place::Both => self.second.step(byte),
+            PartsTaken::Second => self.second.step(byte),
+            PartsTaken::Both => self.second.step(byte),
         }
     }
 
@@ -111,19 +111,19 @@ impl<A: Token, B: Token> Token for OneOrBoth<A, B> {
         let ended = self.first.can_end();
         let second = self.second.allows(byte);
         match self.place {
-            Place::Start => first | second,
-            Place::First => first | (ended & second),
-            Place::Second => second,
-            Place::Both => second,
+            PartsTaken::Start => first | second,
+            PartsTaken::First => first | (ended & second),
+            PartsTaken::Second => second,
+            PartsTaken::Both => second,
         }
     }
 
     fn can_end(&self) -> bool {
         match self.place {
-            Place::Start => false,
-            Place::First => self.first.can_end(),
-            Place::Second => self.second.can_end(),
-            Place::Both => self.second.can_end(),
+            PartsTaken::Start => false,
+            PartsTaken::First => self.first.can_end(),
+            PartsTaken::Second => self.second.can_end(),
+            PartsTaken::Both => self.second.can_end(),
         }
     }
 
@@ -133,20 +133,20 @@ impl<A: Token, B: Token> Token for OneOrBoth<A, B> {
 
     fn take(self) -> (Option<A::Out>, Option<B::Out>) {
         match self.place {
-            Place::Start => unreachable!(),
-            Place::First => (Some(self.first.take()), None),
-            Place::Second => (None, Some(self.second.take())),
-            Place::Both => (Some(self.first.take()), Some(self.second.take())),
+            PartsTaken::Start => unreachable!(),
+            PartsTaken::First => (Some(self.first.take()), None),
+            PartsTaken::Second => (None, Some(self.second.take())),
+            PartsTaken::Both => (Some(self.first.take()), Some(self.second.take())),
         }
     }
 
-    fn weight_of(value: &(Option<A::Out>, Option<B::Out>)) -> u64 {
+    fn held_in(value: &(Option<A::Out>, Option<B::Out>)) -> u64 {
         let first = match &value.0 {
-            Some(v) => A::weight_of(v),
+            Some(v) => A::held_in(v),
             None => 0,
         };
         let second = match &value.1 {
-            Some(w) => B::weight_of(w),
+            Some(w) => B::held_in(w),
             None => 0,
         };
         first.saturating_add(second)

@@ -24,7 +24,7 @@ pub struct PadText<T: Token> {
     token: T,
     ready: T::Out,
     padding: Padding,
-    ghost bare: { T.weight ready ≡ 0 },
+    ghost bare: { T.value_size ready ≡ 0 },
     ghost unspaced: { IsFalse (is_known padding) → IsUnspaced (T.means token) },
 }
 
@@ -32,7 +32,7 @@ impl<T: Token> PadText<T> {
     /// The pad, and then a space and the token's text, or nothing, with this value.
     pub fn new(token: T, ready: T::Out) -> PadText<T>
         requires unspaced { IsUnspaced (T.means token) }
-        requires bare { T.weight ready ≡ 0 }
+        requires bare { T.value_size ready ≡ 0 }
         ensures spells { Spells ⟦<PadText<T> as Token>⟧.means result (IsPadded (T.means token) ready) }
         ensures size { ⟦<PadText<T> as Token>⟧.size result ≡ T.size token }
     {
@@ -53,7 +53,7 @@ impl<T: Token> Token for PadText<T> {
 
     ghost size = { λ s. T.size s.token };
 
-    ghost weight = { λ v. T.weight v.1 };
+    ghost value_size = { λ v. T.value_size v.1 };
 
     ghost ends = { λ s. pad_ends s.padding (T.ends s.token) };
 
@@ -114,8 +114,8 @@ impl<T: Token> Token for PadText<T> {
         }
     }
 
-    fn weight_of(value: &(bool, T::Out)) -> u64 {
-        T::weight_of(&value.1)
+    fn held_in(value: &(bool, T::Out)) -> u64 {
+        T::held_in(&value.1)
     }
 
     ghost completes = { λ s. pad_completes (T.means s.token) s.ready s.padding (T.completes s.token) };

@@ -39,7 +39,7 @@ impl Token for WhyText {
 
     ghost size = { λ s. ⟦<WhyParts as Token>⟧.size s.parts };
 
-    ghost weight = { ⟦<WhyParts as Token>⟧.weight };
+    ghost value_size = { ⟦<WhyParts as Token>⟧.value_size };
 
     ghost ends = { λ s. ⟦<WhyParts as Token>⟧.ends s.parts };
 
@@ -75,8 +75,8 @@ impl Token for WhyText {
         self.parts.take()
     }
 
-    fn weight_of(value: &Option<((), Items<u8>)>) -> u64 {
-        WhyParts::weight_of(value)
+    fn held_in(value: &Option<((), Items<u8>)>) -> u64 {
+        WhyParts::held_in(value)
     }
 }
 
@@ -107,7 +107,7 @@ impl Token for InvalidText {
 
     ghost size = { λ s. ⟦<InvalidParts as Token>⟧.size s.parts };
 
-    ghost weight = { ⟦<InvalidParts as Token>⟧.weight };
+    ghost value_size = { ⟦<InvalidParts as Token>⟧.value_size };
 
     ghost ends = { λ s. ⟦<InvalidParts as Token>⟧.ends s.parts };
 
@@ -143,8 +143,8 @@ impl Token for InvalidText {
         self.parts.take()
     }
 
-    fn weight_of(value: &Option<((), Option<((), Items<u8>)>)>) -> u64 {
-        InvalidParts::weight_of(value)
+    fn held_in(value: &Option<((), Option<((), Items<u8>)>)>) -> u64 {
+        InvalidParts::held_in(value)
     }
 }
 
@@ -181,7 +181,7 @@ impl Token for RootText {
 
     ghost size = { λ s. ⟦<RootParts as Token>⟧.size s.parts };
 
-    ghost weight = { ⟦<RootParts as Token>⟧.weight };
+    ghost value_size = { ⟦<RootParts as Token>⟧.value_size };
 
     ghost ends = { λ s. ⟦<RootParts as Token>⟧.ends s.parts };
 
@@ -217,8 +217,8 @@ impl Token for RootText {
         self.parts.take()
     }
 
-    fn weight_of(value: &RootValue) -> u64 {
-        RootParts::weight_of(value)
+    fn held_in(value: &RootValue) -> u64 {
+        RootParts::held_in(value)
     }
 }
 
@@ -245,7 +245,7 @@ impl Turn<Sequence<PartitionText, ByteText>> for ToPartition {
 
     ghost turned = { partition_value };
 
-    ghost weight = { λ _. 0 };
+    ghost value_size = { λ _. 0 };
 
     fn turn(value: (Either<(), RootValue>, ())) -> Value {
         match value.0 {
@@ -273,7 +273,7 @@ impl Turn<Sequence<PartitionText, ByteText>> for ToPartition {
         }
     }
 
-    fn weight_of(_value: &Value) -> u64 {
+    fn held_in(_value: &Value) -> u64 {
         0
     }
 
@@ -307,7 +307,7 @@ impl Token for PartitionFile {
 
     ghost size = { λ s. ⟦<Text as Token>⟧.size s.text };
 
-    ghost weight = { λ _. 0 };
+    ghost value_size = { λ _. 0 };
 
     ghost ends = { λ s. ⟦<Text as Token>⟧.ends s.text };
 
@@ -343,7 +343,7 @@ impl Token for PartitionFile {
         self.text.take()
     }
 
-    fn weight_of(_value: &Value) -> u64 {
+    fn held_in(_value: &Value) -> u64 {
         0
     }
 }

@@ -30,7 +30,7 @@ impl Turn<Sequence<LabelText<AveragesText>, ByteText>> for ToAverages {
 
     ghost turned = { line_averages };
 
-    ghost weight = { λ _. 0 };
+    ghost value_size = { λ _. 0 };
 
     fn turn(value: (((), AveragesValues), ())) -> Averages {
         let ((_, ((_, avg10), ((_, avg60), ((_, avg300), (_, total))))), _) = value;
@@ -42,7 +42,7 @@ impl Turn<Sequence<LabelText<AveragesText>, ByteText>> for ToAverages {
         }
     }
 
-    fn weight_of(_value: &Averages) -> u64 {
+    fn held_in(_value: &Averages) -> u64 {
         0
     }
 
@@ -76,7 +76,7 @@ impl Token for PressureLine {
 
     ghost size = { λ s. ⟦<LineParts as Token>⟧.size s.parts };
 
-    ghost weight = { λ _. 0 };
+    ghost value_size = { λ _. 0 };
 
     ghost ends = { λ s. ⟦<LineParts as Token>⟧.ends s.parts };
 
@@ -112,7 +112,7 @@ impl Token for PressureLine {
         self.parts.take()
     }
 
-    fn weight_of(_value: &Averages) -> u64 {
+    fn held_in(_value: &Averages) -> u64 {
         0
     }
 }
@@ -129,7 +129,7 @@ impl Turn<OneOrBoth<PressureLine, PressureLine>> for ToPressure {
 
     ghost turned = { pressure_value };
 
-    ghost weight = { λ _. 0 };
+    ghost value_size = { λ _. 0 };
 
     fn turn(value: (Option<Averages>, Option<Averages>)) -> Value {
         Value::Pressure {
@@ -138,7 +138,7 @@ impl Turn<OneOrBoth<PressureLine, PressureLine>> for ToPressure {
         }
     }
 
-    fn weight_of(_value: &Value) -> u64 {
+    fn held_in(_value: &Value) -> u64 {
         0
     }
 
@@ -174,7 +174,7 @@ impl Token for PressureFile {
 
     ghost size = { λ s. ⟦<Text as Token>⟧.size s.text };
 
-    ghost weight = { λ _. 0 };
+    ghost value_size = { λ _. 0 };
 
     ghost ends = { λ s. ⟦<Text as Token>⟧.ends s.text };
 
@@ -210,7 +210,7 @@ impl Token for PressureFile {
         self.text.take()
     }
 
-    fn weight_of(_value: &Value) -> u64 {
+    fn held_in(_value: &Value) -> u64 {
         0
     }
 }

@@ -38,7 +38,7 @@ impl Token for SpacedWords {
 
     ghost size = { λ s. ⟦<Spaced as Token>⟧.size s.words };
 
-    ghost weight = { ⟦<Spaced as Token>⟧.weight };
+    ghost value_size = { ⟦<Spaced as Token>⟧.value_size };
 
     ghost ends = { λ s. ⟦<Spaced as Token>⟧.ends s.words };
 
@@ -74,8 +74,8 @@ impl Token for SpacedWords {
         self.words.take()
     }
 
-    fn weight_of(value: &Items<Key>) -> u64 {
-        Spaced::weight_of(value)
+    fn held_in(value: &Items<Key>) -> u64 {
+        Spaced::held_in(value)
     }
 }
 
@@ -103,13 +103,13 @@ impl Turn<WordsLine> for ToWords {
 
     ghost turned = { words_value };
 
-    ghost weight = { λ _. 0 };
+    ghost value_size = { λ _. 0 };
 
     fn turn(value: (Items<Key>, ())) -> Value {
         Value::Words(value.0)
     }
 
-    fn weight_of(_value: &Value) -> u64 {
+    fn held_in(_value: &Value) -> u64 {
         0
     }
 
@@ -143,7 +143,7 @@ impl Token for WordsFile {
 
     ghost size = { λ s. ⟦<Text as Token>⟧.size s.text };
 
-    ghost weight = { λ _. 0 };
+    ghost value_size = { λ _. 0 };
 
     ghost ends = { λ s. ⟦<Text as Token>⟧.ends s.text };
 
@@ -179,7 +179,7 @@ impl Token for WordsFile {
         self.text.take()
     }
 
-    fn weight_of(_value: &Value) -> u64 {
+    fn held_in(_value: &Value) -> u64 {
         0
     }
 }

@@ -1,25 +1,18 @@
 -- What holds of amounts.
-use Rattle.std.proofs.Common.{◌≡◌, ℕ, ◌↔◌, Bool, ◌||◌, ◌&&◌, nat_eq, length, List, [], ◌∷◌, ◌++◌, refl, codes, arith, IsTrue}
+use Rattle.std.proofs.Common.{◌≡◌, ℕ, ◌↔◌, List, [], ◌∷◌, ◌++◌, refl, codes, arith}
 use Rattle.cg_text.specs.Amount.{IsAmount}
 use Rattle.cg_text.specs.Decimal.{IsDecimal, AreDigits}
 use Rattle.cg_text.specs.DecimalLaws.{number_digits}
 use Rattle.cg_text.specs.Hundredths.{IsHundredths}
-use Rattle.cg_text.specs.declared.decimal.DecimalText.{DecimalText}
 use Rattle.cg_text.specs.declared.decimal.Progress.TheVariants.{Start}
-use Rattle.cg_text.specs.Keyword.{text_of}
-use Rattle.cg_text.specs.declared.keyword.KeywordText.{KeywordText}
 use Rattle.cg_text.specs.declared.hundredths.Form.TheVariants.{Read}
-use Rattle.cg_text.specs.declared.hundredths.HundredthsText.{HundredthsText}
 use Rattle.cg_text.specs.declared.values.Amount.{Amount}
 use Rattle.cg_text.specs.declared.values.Amount.TheVariants.{Whole, Decimal, Max}
 use Rattle.cg_text.specs.declared.values.Hundredths.{Hundredths}
 use Rattle.cg_join.specs.declared.choice.Either.{Either}
 use Rattle.cg_join.specs.declared.choice.Either.TheVariants.{Left, Right}
 use Rattle.cg_join.specs.AmountState.{amount_of}
-use Rattle.cg_join.specs.Choice.{IsChoice, ShareNone}
-use Rattle.cg_join.specs.Lawful.{IsLawful, KeywordRest, NumberRest, FractionRest, number_ends, fraction_ends, keyword_lawful, number_lawful, fraction_lawful, choice_lawful, mapped_lawful}
 use Rattle.cg_join.specs.MaxLaws.{max_not_decimal, max_not_hundredths}
-use Rattle.cg_join.specs.Mapped.{IsMapped}
 use Rattle.cg_join.specs.Spelling.{IsEither, IsTurned, Disjoint}
 
 dot_no_digit : (front back : List ℕ) → AreDigits (front ++ 46 ∷ back) → ⊥
@@ -59,12 +52,3 @@ amount_to text (Decimal n) h = (Right (Right n), h, refl)
 -- The three alternatives of an amount, turned into its values.
 pub amount_is : (text : List ℕ) (v : Amount) → IsTurned (IsEither IsMax (IsEither IsWhole IsFraction)) amount_of text v ↔ IsAmount v text
 amount_is text v = (λ h. (let k = amount_from text h.0 h.1 in rw h.2 at k), λ h. amount_to text v h)
-
--- The laws of a state.
-pub amount_lawful : (word : KeywordText) (whole : DecimalText) (fraction : HundredthsText) (l r l' r' : Bool) → IsTrue (l || r) → IsTrue (l' || r') →
-    (IsTrue l → IsTrue r → ShareNone KeywordRest (λ (u : Unit {0}) rest v. IsChoice NumberRest FractionRest l' r' whole fraction rest v) word tt) →
-    (IsTrue l' → IsTrue r' → ShareNone NumberRest FractionRest whole fraction) →
-    IsLawful (IsMapped (λ (u : Unit {0}) rest v. IsChoice KeywordRest (λ (w : Unit {0}) rest v. IsChoice NumberRest FractionRest l' r' whole fraction rest v) l r word tt rest v) amount_of) tt
-    ((l && nat_eq word.at (length (text_of word.keyword))) || (r && ((l' && number_ends whole) || (r' && fraction_ends fraction))))
-amount_lawful word whole fraction l r l' r' some some' apart apart' =
-    mapped_lawful amount_of (choice_lawful l r some apart (keyword_lawful word) (choice_lawful l' r' some' apart' (number_lawful whole) (fraction_lawful fraction)))

@@ -1,20 +1,14 @@
 -- What holds of clamps.
-use Rattle.std.proofs.Common.{◌≡◌, ℕ, ◌↔◌, Bool, ◌||◌, ◌&&◌, nat_eq, length, List, refl, codes, IsTrue}
+use Rattle.std.proofs.Common.{◌≡◌, ℕ, ◌↔◌, List, refl, codes}
 use Rattle.cg_text.specs.Hundredths.{IsHundredths}
 use Rattle.cg_text.specs.Clamp.{IsClamp}
-use Rattle.cg_text.specs.Keyword.{text_of}
-use Rattle.cg_text.specs.declared.keyword.KeywordText.{KeywordText}
 use Rattle.cg_text.specs.declared.hundredths.Form.{Form}
-use Rattle.cg_text.specs.declared.hundredths.HundredthsText.{HundredthsText}
 use Rattle.cg_text.specs.declared.values.Clamp.{Clamp}
 use Rattle.cg_text.specs.declared.values.Clamp.TheVariants.{Max, At}
 use Rattle.cg_text.specs.declared.values.Hundredths.{Hundredths}
 use Rattle.cg_join.specs.declared.choice.Either.{Either}
 use Rattle.cg_join.specs.declared.choice.Either.TheVariants.{Left, Right}
-use Rattle.cg_join.specs.Choice.{IsChoice, ShareNone}
 use Rattle.cg_join.specs.ClampState.{clamp_of}
-use Rattle.cg_join.specs.Lawful.{IsLawful, KeywordRest, FractionRest, fraction_ends, keyword_lawful, fraction_lawful, choice_lawful, mapped_lawful}
-use Rattle.cg_join.specs.Mapped.{IsMapped}
 use Rattle.cg_join.specs.Spelling.{IsEither, IsTurned}
 
 clamp_from : (form : Form) (text : List ℕ) (x : Either (Unit {0}) Hundredths) → IsEither (λ t _. t ≡ codes "max") (λ t h. IsHundredths form 10000 h t) text x → IsClamp form (clamp_of x) text
@@ -28,8 +22,3 @@ clamp_to form text (At n) h = (Right n, h, refl)
 -- The two alternatives of a clamp, turned into its values.
 pub clamp_is : (form : Form) (text : List ℕ) (v : Clamp) → IsTurned (IsEither (λ t (_ : Unit {0}). t ≡ codes "max") (λ t h. IsHundredths form 10000 h t)) clamp_of text v ↔ IsClamp form v text
 clamp_is form text v = (λ h. (let k = clamp_from form text h.0 h.1 in rw h.2 at k), λ h. clamp_to form text v h)
-
--- The laws of a state.
-pub clamp_lawful : (word : KeywordText) (number : HundredthsText) (l r : Bool) → IsTrue (l || r) → (IsTrue l → IsTrue r → ShareNone KeywordRest FractionRest word number) →
-    IsLawful (IsMapped (λ (u : Unit {0}) rest v. IsChoice KeywordRest FractionRest l r word number rest v) clamp_of) tt ((l && nat_eq word.at (length (text_of word.keyword))) || (r && fraction_ends number))
-clamp_lawful word number l r some apart = mapped_lawful clamp_of (choice_lawful l r some apart (keyword_lawful word) (fraction_lawful number))

@@ -1,16 +1,12 @@
 -- What holds of devices.
-use Rattle.std.proofs.Common.{◌≡◌, ℕ, ◌↔◌, Bool, ◌||◌, ◌&&◌, List, [], ◌∷◌, ◌++◌, refl, ap, arith, IsTrue, IsFalse}
+use Rattle.std.proofs.Common.{◌≡◌, ℕ, ◌↔◌, Bool, List, [], ◌∷◌, ◌++◌, refl, ap, arith, IsTrue}
 use Rattle.cg_text.specs.Decimal.{IsDecimal, AreDigits}
 use Rattle.cg_text.specs.DecimalLaws.{number_digits}
 use Rattle.cg_text.specs.Device.{IsDevice}
-use Rattle.cg_text.specs.Token.{Completes, Ends, HasOneValue, HoldsBytes}
-use Rattle.cg_text.specs.declared.byte.ByteText.{ByteText}
-use Rattle.cg_text.specs.declared.decimal.DecimalText.{DecimalText}
+use Rattle.cg_text.specs.Token.{HasOneText}
 use Rattle.cg_text.specs.declared.decimal.Progress.TheVariants.{Start}
 use Rattle.cg_text.specs.declared.values.Device.{Device}
 use Rattle.cg_join.specs.DeviceState.{numbers_of, HasNarrow}
-use Rattle.cg_join.specs.Join.{IsSequence, AreApart}
-use Rattle.cg_join.specs.Lawful.{IsLawful, ByteRest, NumberRest, number_ends, byte_lawful, number_lawful, sequence_lawful}
 use Rattle.cg_join.specs.Spelling.{IsConcat, Apart}
 
 abbrev pub IsMajor : List ℕ → ℕ → Type 0
@@ -73,26 +69,13 @@ device_of v = record { major = v.0; minor = v.1.1 }
 same_device : (v w : Device) → numbers_of v ≡ numbers_of w → v ≡ w
 same_device v w e = ap device_of e
 
--- A state of numbers is one of a device.
-module _ {R : List ℕ → ℕ × (Unit {0} × ℕ) → Type 0} {e : Bool} where
-  pub numbers_lawful : IsLawful (λ (u : Unit {0}). R) tt e → IsLawful (λ (u : Unit {0}) (rest : List ℕ) (device : Device). R rest (numbers_of device)) tt e
-  numbers_lawful a = record {
-    completes = (let c = a.completes in (c.0, device_of c.1, c.2));
-    ends_is = (λ h. (let v = a.ends_is.0 h in (device_of v.0, v.1)), λ h. a.ends_is.1 (numbers_of h.0, h.1));
-    one_value = λ rest v w h k. same_device v w (a.one_value rest (numbers_of v) (numbers_of w) h k);
-    holds_bytes = λ rest v h. a.holds_bytes rest (numbers_of v) h;
-  }
+-- What holds of the rests of numbers holds of those of a device.
+module _ (R : List ℕ → ℕ × (Unit {0} × ℕ) → Type 0) where
+  pub device_completes : ((rest : List ℕ) × (v : ℕ × (Unit {0} × ℕ)) × R rest v) → (rest : List ℕ) × (device : Device) × R rest (numbers_of device)
+  device_completes c = (c.0, device_of c.1, c.2)
 
--- The laws of a state of what follows the major number.
-pub tail_lawful : (colon : ByteText) (minor : DecimalText) (b : Bool) → (IsFalse b → AreApart ByteRest NumberRest colon minor) → (IsTrue b → IsTrue colon.taken) →
-    IsLawful (λ (u : Unit {0}) (rest : List ℕ) (v : Unit {0} × ℕ). IsSequence ByteRest NumberRest b colon minor rest v.0 v.1) tt ((b || colon.taken) && number_ends minor)
-tail_lawful colon minor b apart ended = sequence_lawful b apart ended (byte_lawful colon) (number_lawful minor)
+  pub device_ends : {e : Bool} → IsTrue e ↔ ((v : ℕ × (Unit {0} × ℕ)) × R [] v) → IsTrue e ↔ ((device : Device) × R [] (numbers_of device))
+  device_ends is = (λ h. (let v = is.0 h in (device_of v.0, v.1)), λ h. is.1 (numbers_of h.0, h.1))
 
--- The laws of a state.
-pub device_lawful : {T : Type 0} (second : T → List ℕ → Unit {0} × ℕ → Type 0) (t : T) (major : DecimalText) (b : Bool) →
-    (IsFalse b → AreApart NumberRest second major t) → (IsTrue b → IsTrue (number_ends major)) →
-    {e : Bool} → Completes second t → IsTrue e ↔ Ends second t → HasOneValue second t → HoldsBytes second t →
-    IsLawful (λ (u : Unit {0}) (rest : List ℕ) (device : Device). IsSequence NumberRest second b major t rest device.major (tt, device.minor)) tt ((b || number_ends major) && e)
-device_lawful second t major b apart ended {e = e} completes ends one bytes =
-    let tail : IsLawful second t e = record { completes = completes; ends_is = ends; one_value = one; holds_bytes = bytes } in
-    numbers_lawful (sequence_lawful b apart ended (number_lawful major) tail)
+  pub device_one : HasOneText R → (rest : List ℕ) (v w : Device) → R rest (numbers_of v) → R rest (numbers_of w) → v ≡ w
+  device_one one rest v w h k = same_device v w (one rest (numbers_of v) (numbers_of w) h k)

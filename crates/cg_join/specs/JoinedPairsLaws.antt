@@ -10,7 +10,7 @@ use Rattle.cg_join.specs.KeyedLaws.{pair_lacks, some_one}
 use Rattle.cg_join.specs.Line.{LacksByte}
 use Rattle.cg_join.specs.Pairs.{ArePairs, ArePairsAfter, IsPairText}
 use Rattle.cg_join.specs.PairsLaws.{new_pair, pair_bytes, pair_one, pair_stops}
-use Rattle.cg_join.specs.Repeat.{IsList, Stops, items_weight}
+use Rattle.cg_join.specs.Repeat.{IsList, Stops, items_size}
 use Rattle.cg_join.specs.RepeatLaws.{list_new, list_one}
 use Rattle.cg_join.specs.SequenceLaws.{cuts}
 use Rattle.cg_join.specs.declared.pairs.Stage.TheVariants.{InWord}
@@ -59,7 +59,7 @@ module _ {V W X : Type 0} (word : X → V) (value : X → W) (K : List ℕ → V
       let q = new_pair word value paired has_word has_value mark K D new some [] in
       (q.0, q.1 ∷ [], (q.2, (tt, tt)))
 
-pub no_pairs : {X : Type 0} (f : X → ℕ) (ps : List X) → Some [] ≡ Some ps → items_weight f ps ≡ 0
+pub no_pairs : {X : Type 0} (f : X → ℕ) (ps : List X) → Some [] ≡ Some ps → items_size f ps ≡ 0
 no_pairs f [] e = refl
 no_pairs f (p ∷ ps) e = absurd (cc)
 

@@ -11,7 +11,7 @@ abbrev pub MaybeRest : {V : Type 0} → Bool → (List ℕ → V → Type 0) →
 MaybeRest begun P rest None = IsFalse begun × (rest ≡ [])
 MaybeRest begun P rest (Some v) = P rest v
 
--- The weight of the value, if any.
-abbrev pub maybe_weight : {V : Type 0} → (V → ℕ) → Option V → ℕ
-maybe_weight f None = 0
-maybe_weight f (Some v) = f v
+-- The size of the value, if any.
+abbrev pub maybe_size : {V : Type 0} → (V → ℕ) → Option V → ℕ
+maybe_size f None = 0
+maybe_size f (Some v) = f v

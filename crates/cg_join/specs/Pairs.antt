@@ -44,5 +44,5 @@ abbrev pub ArePairsAfter : {V X : Type 0} → (X → V) → Stage → List X →
 ArePairsAfter word stage items P R separator rest all = AreLedAfter stage items P R separator rest all × AreDistinct (map word all)
 
 -- The vectors in a pair.
-abbrev pub pair_weight : {V W X : Type 0} → (X → V) → (X → W) → (V → ℕ) → (W → ℕ) → X → ℕ
-pair_weight word value f g p = f (word p) + g (value p)
+abbrev pub pair_size : {V W X : Type 0} → (X → V) → (X → W) → (V → ℕ) → (W → ℕ) → X → ℕ
+pair_size word value f g p = f (word p) + g (value p)

@@ -9,11 +9,11 @@ before_last [] = []
 before_last (p ∷ []) = []
 before_last (p ∷ q ∷ ps) = p ∷ before_last (q ∷ ps)
 
--- What the last weighs.
-abbrev pub last_weight : {X : Type 0} → (X → ℕ) → List X → ℕ
-last_weight f [] = 0
-last_weight f (p ∷ []) = f p
-last_weight f (p ∷ q ∷ ps) = last_weight f (q ∷ ps)
+-- The size of the last.
+abbrev pub last_size : {X : Type 0} → (X → ℕ) → List X → ℕ
+last_size f [] = 0
+last_size f (p ∷ []) = f p
+last_size f (p ∷ q ∷ ps) = last_size f (q ∷ ps)
 
 -- The last has the word.
 abbrev pub IsLastWord : {V X : Type 0} → (X → V) → List X → V → Type 0

@@ -2,12 +2,12 @@
 use Rattle.std.proofs.Common.{◌≡◌, ℕ, ◌+◌, ◌<◌, ◌↔◌, Bool, List, [], ◌∷◌, ◌++◌, map, length, refl, sym, ◌∙◌, ap, IsTrue, arith}
 use Rattle.cg_text.specs.Token.{HasOneText, AreBytes}
 use Rattle.cg_join.specs.Line.{LacksByte}
-use Rattle.cg_join.specs.Repeat.{Stops, items_weight}
-use Rattle.cg_join.specs.RepeatLaws.{weight_pushed}
+use Rattle.cg_join.specs.Repeat.{Stops, items_size}
+use Rattle.cg_join.specs.RepeatLaws.{size_pushed}
 use Rattle.cg_join.specs.Distinct.{LacksValue, AreDistinct}
-use Rattle.cg_join.specs.Pairs.{IsPairText, PairRest, ArePairsAfter, pair_weight}
+use Rattle.cg_join.specs.Pairs.{IsPairText, PairRest, ArePairsAfter, pair_size}
 use Rattle.cg_join.specs.PairsLaws.{ends_at, mark_step, pair_bytes, pair_one, pair_stops, paired_ended, pairs_completes, pairs_ends, value_one, value_stops}
-use Rattle.cg_join.specs.PairsState.{IsCompleted, IsLastWord, WordAtHand, before_last, last_weight, whole_pairs}
+use Rattle.cg_join.specs.PairsState.{IsCompleted, IsLastWord, WordAtHand, before_last, last_size, whole_pairs}
 use Rattle.cg_join.specs.declared.pairs.Stage.{Stage}
 use Rattle.cg_join.specs.declared.pairs.Stage.TheVariants.{Before, InWord, InValue}
 
@@ -17,10 +17,10 @@ before_pushed [] p = refl
 before_pushed (q ∷ []) p = refl
 before_pushed (q ∷ r ∷ ps) p = ap (λ x. q ∷ x) (before_pushed (r ∷ ps) p)
 
-pub weight_last : {X : Type 0} (f : X → ℕ) (ps : List X) (p : X) → last_weight f (ps ++ p ∷ []) ≡ f p
-weight_last f [] p = refl
-weight_last f (q ∷ []) p = refl
-weight_last f (q ∷ r ∷ ps) p = weight_last f (r ∷ ps) p
+pub size_last : {X : Type 0} (f : X → ℕ) (ps : List X) (p : X) → last_size f (ps ++ p ∷ []) ≡ f p
+size_last f [] p = refl
+size_last f (q ∷ []) p = refl
+size_last f (q ∷ r ∷ ps) p = size_last f (r ∷ ps) p
 
 pub some_last : {X : Type 0} (ps : List X) (p : X) → 0 < length (ps ++ p ∷ [])
 some_last [] p = omega arith
@@ -88,15 +88,15 @@ module _ {V W X : Type 0} (word : X → V) (value : X → W) where
   }
 
   module _ (k : V → ℕ) (d : W → ℕ) where
-    last_weighs : (ps : List X) (v : V) → IsLastWord word ps v → items_weight (pair_weight word value k d) ps ≡ items_weight (pair_weight word value k d) (before_last ps) + 1 + (k v + last_weight (λ p. d (value p)) ps)
-    last_weighs [] v h = absurd h
-    last_weighs (p ∷ []) v h = let e : k (word p) ≡ k v = ap k h in omega (arith, e)
-    last_weighs (p ∷ q ∷ ps) v h = let i = last_weighs (q ∷ ps) v h in omega (arith, i)
+    last_size_is : (ps : List X) (v : V) → IsLastWord word ps v → items_size (pair_size word value k d) ps ≡ items_size (pair_size word value k d) (before_last ps) + 1 + (k v + last_size (λ p. d (value p)) ps)
+    last_size_is [] v h = absurd h
+    last_size_is (p ∷ []) v h = let e : k (word p) ≡ k v = ap k h in omega (arith, e)
+    last_size_is (p ∷ q ∷ ps) v h = let i = last_size_is (q ∷ ps) v h in omega (arith, i)
 
-    pub completed_weight : (old new : List X) (w : W) → IsCompleted word value old w new → last_weight (λ p. d (value p)) old ≡ 0 → items_weight (pair_weight word value k d) new ≡ items_weight (pair_weight word value k d) old + d w
-    completed_weight old new w c none =
-        let e = last_weighs old (word c.pair) c.has_word in
-        let f = weight_pushed (pair_weight word value k d) new (before_last old) c.pair c.items in
+    pub completed_size : (old new : List X) (w : W) → IsCompleted word value old w new → last_size (λ p. d (value p)) old ≡ 0 → items_size (pair_size word value k d) new ≡ items_size (pair_size word value k d) old + d w
+    completed_size old new w c none =
+        let e = last_size_is old (word c.pair) c.has_word in
+        let f = size_pushed (pair_size word value k d) new (before_last old) c.pair c.items in
         let g : d (value c.pair) ≡ d w = ap d c.has_value in
         omega (arith, e, f, g, none)
 

@@ -2,7 +2,7 @@
 use Rattle.std.proofs.Common.{◌≡◌, ℕ, ◌+◌, ◌↔◌, ◌⊎◌, inl, inr, Bool, true, false, ◌&&◌, ◌||◌, List, [], ◌∷◌, ◌++◌, refl, sym, ◌∙◌, ap, arith, append_assoc, IsTrue, min}
 use Rattle.cg_text.specs.Token.{HasOneText, told}
 use Rattle.cg_join.specs.SequenceLaws.{cuts}
-use Rattle.cg_join.specs.Repeat.{Stops, IsList, IsListAfter, AreJoined, items_weight, out_weight}
+use Rattle.cg_join.specs.Repeat.{Stops, IsList, IsListAfter, AreJoined, items_size, out_size}
 
 pub not_nil : (b : ℕ) (front back : List ℕ) → [] ≡ front ++ b ∷ back → ⊥
 not_nil b [] back e = cc
@@ -181,13 +181,13 @@ module _ {V : Type 0} (separator : ℕ) where
 pub true_not_false : true ≡ false → ⊥
 true_not_false e = cc
 
-pub items_weight_push : {V : Type 0} (f : V → ℕ) (vs : List V) (v : V) → items_weight f (vs ++ v ∷ []) ≡ items_weight f vs + 1 + f v
-items_weight_push f [] v = omega arith
-items_weight_push f (w ∷ vs) v = omega (arith, items_weight_push f vs v)
+pub items_size_push : {V : Type 0} (f : V → ℕ) (vs : List V) (v : V) → items_size f (vs ++ v ∷ []) ≡ items_size f vs + 1 + f v
+items_size_push f [] v = omega arith
+items_size_push f (w ∷ vs) v = omega (arith, items_size_push f vs v)
 
-pub out_weight_push : {V : Type 0} (f : V → ℕ) (vs : List V) (v : V) → out_weight f (vs ++ v ∷ []) ≡ items_weight f vs + f v
-out_weight_push f [] v = omega arith
-out_weight_push f (w ∷ vs) v = omega (arith, items_weight_push f vs v)
+pub out_size_push : {V : Type 0} (f : V → ℕ) (vs : List V) (v : V) → out_size f (vs ++ v ∷ []) ≡ items_size f vs + f v
+out_size_push f [] v = omega arith
+out_size_push f (w ∷ vs) v = omega (arith, items_size_push f vs v)
 
 -- One more element is told.
 pub told_more : (a b n kept one w more : ℕ) → kept ≡ told a → one ≡ min (kept + 1) 18446744073709551615 → w ≡ told b → more ≡ min (one + w) 18446744073709551615 → n ≡ a + 1 + b → more ≡ told n
@@ -196,11 +196,11 @@ told_more a b n kept one w more h k l m e = omega arith
 pub told_sum : (a b n x y more : ℕ) → x ≡ told a → y ≡ told b → more ≡ min (x + y) 18446744073709551615 → n ≡ a + b → more ≡ told n
 told_sum a b n x y more h k l e = omega arith
 
-pub weight_pushed : {V : Type 0} (f : V → ℕ) (new vs : List V) (v : V) → new ≡ vs ++ v ∷ [] → items_weight f new ≡ items_weight f vs + 1 + f v
-weight_pushed f new vs v e = rw e (items_weight_push f vs v)
+pub size_pushed : {V : Type 0} (f : V → ℕ) (new vs : List V) (v : V) → new ≡ vs ++ v ∷ [] → items_size f new ≡ items_size f vs + 1 + f v
+size_pushed f new vs v e = rw e (items_size_push f vs v)
 
-pub out_weight_pushed : {V : Type 0} (f : V → ℕ) (new vs : List V) (v : V) → new ≡ vs ++ v ∷ [] → out_weight f new ≡ items_weight f vs + f v
-out_weight_pushed f new vs v e = rw e (out_weight_push f vs v)
+pub out_size_pushed : {V : Type 0} (f : V → ℕ) (new vs : List V) (v : V) → new ≡ vs ++ v ∷ [] → out_size f new ≡ items_size f vs + f v
+out_size_pushed f new vs v e = rw e (out_size_push f vs v)
 
 -- Lists of texts by a relation that holds alike.
 pub list_as : {V : Type 0} {P Q : List ℕ → V → Type 0} (separator : ℕ) → ((text : List ℕ) (v : V) → P text v → Q text v) → (text : List ℕ) (vs : List V) → AreJoined P separator text vs → AreJoined Q separator text vs

@@ -9,9 +9,9 @@ use Rattle.cg_join.specs.Join.{IsSequence}
 use Rattle.cg_join.specs.KeyedState.{AreKeyedAfter, is_begun, is_marked, kept_keys}
 use Rattle.cg_join.specs.Lines.{AreLinesFrom, AreLinesAfter}
 use Rattle.cg_join.specs.Mapped.{IsMapped}
-use Rattle.cg_join.specs.Maybe.{MaybeRest, maybe_weight}
+use Rattle.cg_join.specs.Maybe.{MaybeRest, maybe_size}
 use Rattle.cg_join.specs.Ready.{OrReadyRest}
-use Rattle.cg_join.specs.Repeat.{IsList, IsListAfter, items_weight}
+use Rattle.cg_join.specs.Repeat.{IsList, IsListAfter, items_size}
 use Rattle.cg_join.specs.SequenceLaws.{nil_pair}
 use Rattle.cg_join.specs.Spelling.{IsTurned}
 use Rattle.cg_join.specs.declared.pairs.Stage.{Stage}
@@ -60,11 +60,11 @@ lines_over_all P R end begun (v ∷ vs) h = absurd (not_after end h.0 h.1 h.2)
 
 -- Of lines, of which a new one holds nothing.
 pub lines_settled : {V : Type 0} (P R : List ℕ → V → Type 0) (end : ℕ) (items : List V) (begun : Bool) (f : V → ℕ) (n : ℕ) → (IsFalse begun → n ≡ 0) →
-    (all : List V) → AreLinesAfter items begun P R end [] all → items_weight f items + n ≤ items_weight f all
+    (all : List V) → AreLinesAfter items begun P R end [] all → items_size f items + n ≤ items_size f all
 lines_settled P R end items begun f n fresh all h =
     let over = lines_over_all P R end begun h.0 h.2 in
     let same : all ≡ items = h.1 ∙ ap (λ t. items ++ t) over.1 ∙ append-nil items in
-    rw same (nothing_more (items_weight f items) n (fresh over.0))
+    rw same (nothing_more (items_size f items) n (fresh over.0))
 
 -- Of raw bytes.
 pub raw_settled : (taken line : List ℕ) → IsRawRest taken [] line → length taken ≤ length line
@@ -103,7 +103,7 @@ joined_bound f g [] = 0
 joined_bound f g (v ∷ []) = g v
 joined_bound f g (v ∷ w ∷ vs) = 1 + f v + joined_bound f g (w ∷ vs)
 
-joined_last : {V : Type 0} (f g : V → ℕ) (vs : List V) (v : V) → joined_bound f g (vs ++ v ∷ []) ≡ items_weight f vs + g v
+joined_last : {V : Type 0} (f g : V → ℕ) (vs : List V) (v : V) → joined_bound f g (vs ++ v ∷ []) ≡ items_size f vs + g v
 joined_last f g [] v = omega arith
 joined_last f g (w ∷ []) v = omega arith
 joined_last f g (w ∷ x ∷ vs) v = omega (arith, joined_last f g (x ∷ vs) v)
@@ -115,13 +115,13 @@ last_alone P R separator (v ∷ w ∷ vs) h = absurd (not_after separator h.0 h.
 
 -- Of a list, of which the last value is at hand.
 pub list_settled : {V : Type 0} (P R : List ℕ → V → Type 0) (separator : ℕ) (items : List V) (f g : V → ℕ) (n : ℕ) → ((v : V) → P [] v → n ≤ g v) →
-    (all : List V) → IsListAfter items P R separator [] all → items_weight f items + n ≤ joined_bound f g all
+    (all : List V) → IsListAfter items P R separator [] all → items_size f items + n ≤ joined_bound f g all
 list_settled P R separator items f g n h all k =
     let last = last_alone P R separator k.0 k.2 in
-    rw (k.1, last.1, joined_last f g items last.0) (both_least (items_weight f items) n (items_weight f items) (g last.0) (same_settled (items_weight f items) (items_weight f items) refl) (h last.0 last.2))
+    rw (k.1, last.1, joined_last f g items last.0) (both_least (items_size f items) n (items_size f items) (g last.0) (same_settled (items_size f items) (items_size f items) refl) (h last.0 last.2))
 
 -- Of a token's text or none, of which a new one holds nothing.
-pub maybe_settled : {V : Type 0} (begun : Bool) (P : List ℕ → V → Type 0) (n : ℕ) (f : V → ℕ) → (IsFalse begun → n ≡ 0) → ((v : V) → P [] v → n ≤ f v) → (v : Option V) → MaybeRest begun P [] v → n ≤ maybe_weight f v
+pub maybe_settled : {V : Type 0} (begun : Bool) (P : List ℕ → V → Type 0) (n : ℕ) (f : V → ℕ) → (IsFalse begun → n ≡ 0) → ((v : V) → P [] v → n ≤ f v) → (v : Option V) → MaybeRest begun P [] v → n ≤ maybe_size f v
 maybe_settled begun P n f fresh h None k = none_settled n 0 (fresh k.0)
 maybe_settled begun P n f fresh h (Some v) k = h v k
 
@@ -139,7 +139,7 @@ marked_value stage e f = let k = rw e at f in cc
 true_false : IsFalse true → ⊥
 true_false e = cc
 
-nothing_kept : {V : Type 0} (f : V → ℕ) (kept : List V) → length kept ≡ 0 → items_weight f kept ≡ 0
+nothing_kept : {V : Type 0} (f : V → ℕ) (kept : List V) → length kept ≡ 0 → items_size f kept ≡ 0
 nothing_kept f [] e = refl
 nothing_kept f (v ∷ kept) e = absurd (omega (arith, e))
 
@@ -148,12 +148,12 @@ alone_held m n k v p e f g h = omega (arith, e, f, g, h)
 
 pub keyed_settled : {V X Y : Type 0} (key : X → V) (given : List X → Y) (items : List X) (P R : List ℕ → X → Type 0) (end : ℕ) (stage : Stage) (kept : List V) (f : V → ℕ) (g : Y → ℕ) (m k v : ℕ) →
     length kept ≡ kept_keys (is_marked stage) → (IsFalse (is_begun stage) → k ≡ 0) → (IsFalse (is_marked stage) → v ≡ 0) → m ≤ g (given items) →
-    (y : Y) → IsTurned (AreKeyedAfter key items (is_begun stage) P R end) given [] y → m + items_weight f kept + (k + v) ≤ g y
+    (y : Y) → IsTurned (AreKeyedAfter key items (is_begun stage) P R end) given [] y → m + items_size f kept + (k + v) ≤ g y
 keyed_settled key given items P R end Before kept f g m k v none new_key new_value h y t =
     let over = lines_over_all P R end false t.1.0.0 t.1.0.2 in
     let same : t.0 ≡ items = t.1.0.1 ∙ ap (λ x. items ++ x) over.1 ∙ append-nil items in
     let out : given items ≡ y = ap given (sym same) ∙ t.2 in
-    rw (← out) (alone_held m (items_weight f kept) k v (g (given items)) (nothing_kept f kept none) (new_key refl) (new_value refl) h)
+    rw (← out) (alone_held m (items_size f kept) k v (g (given items)) (nothing_kept f kept none) (new_key refl) (new_value refl) h)
 keyed_settled key given items P R end InWord kept f g m k v none new_key new_value h y t = absurd (true_false (lines_over_all P R end true t.1.0.0 t.1.0.2).0)
 keyed_settled key given items P R end InValue kept f g m k v none new_key new_value h y t = absurd (true_false (lines_over_all P R end true t.1.0.0 t.1.0.2).0)
 

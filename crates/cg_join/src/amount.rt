@@ -20,7 +20,7 @@ impl Turn<Choice<KeywordText, Choice<DecimalText, HundredthsText>>> for ToAmount
 
     ghost turned = { amount_of };
 
-    ghost weight = { λ _. 0 };
+    ghost value_size = { λ _. 0 };
 
     fn turn(value: Either<(), Either<u64, Hundredths>>) -> Amount {
         match value {
@@ -30,7 +30,7 @@ impl Turn<Choice<KeywordText, Choice<DecimalText, HundredthsText>>> for ToAmount
         }
     }
 
-    fn weight_of(_value: &Amount) -> u64 {
+    fn held_in(_value: &Amount) -> u64 {
         0
     }
 
@@ -67,17 +67,25 @@ impl AmountText {
 impl Token for AmountText {
     type Out = Amount;
 
-    ghost use Rattle.cg_join.specs.AmountLaws.{amount_lawful};
-
     ghost means = { λ s rest v. ⟦<Parts as Token>⟧.means s.parts rest v };
 
     ghost size = { λ _. 0 };
 
-    ghost weight = { λ _. 0 };
+    ghost value_size = { λ _. 0 };
 
     ghost ends = { λ s. ⟦<Parts as Token>⟧.ends s.parts };
 
     ghost grows = { false };
+
+    ghost completes = { λ s. ⟦<Parts as Token>⟧.completes s.parts };
+
+    ghost no_size = { λ _ _. refl };
+
+    ghost ends_is = { λ s. ⟦<Parts as Token>⟧.ends_is s.parts };
+
+    ghost one_value = { λ s. ⟦<Parts as Token>⟧.one_value s.parts };
+
+    ghost holds_bytes = { λ s. ⟦<Parts as Token>⟧.holds_bytes s.parts };
 
     #[inline(always)]
     fn step(&mut self, byte: u8) -> Result<bool, OutOfMemory> {
@@ -100,17 +108,7 @@ impl Token for AmountText {
         self.parts.take()
     }
 
-    fn weight_of(_value: &Amount) -> u64 {
+    fn held_in(_value: &Amount) -> u64 {
         0
     }
-
-    ghost completes = { λ s. (amount_lawful s.parts.token.left s.parts.token.right.left s.parts.token.right.right s.parts.token.left_lives s.parts.token.right_lives s.parts.token.right.left_lives s.parts.token.right.right_lives s.parts.token.some s.parts.token.right.some s.parts.token.apart s.parts.token.right.apart).completes };
-
-    ghost no_size = { λ _ _. refl };
-
-    ghost ends_is = { λ s. (amount_lawful s.parts.token.left s.parts.token.right.left s.parts.token.right.right s.parts.token.left_lives s.parts.token.right_lives s.parts.token.right.left_lives s.parts.token.right.right_lives s.parts.token.some s.parts.token.right.some s.parts.token.apart s.parts.token.right.apart).ends_is };
-
-    ghost one_value = { λ s. (amount_lawful s.parts.token.left s.parts.token.right.left s.parts.token.right.right s.parts.token.left_lives s.parts.token.right_lives s.parts.token.right.left_lives s.parts.token.right.right_lives s.parts.token.some s.parts.token.right.some s.parts.token.apart s.parts.token.right.apart).one_value };
-
-    ghost holds_bytes = { λ s. (amount_lawful s.parts.token.left s.parts.token.right.left s.parts.token.right.right s.parts.token.left_lives s.parts.token.right_lives s.parts.token.right.left_lives s.parts.token.right.right_lives s.parts.token.some s.parts.token.right.some s.parts.token.apart s.parts.token.right.apart).holds_bytes };
 }

@@ -36,7 +36,7 @@ pub trait Collection<V: Token>: Drop {
     ghost size: { Self → ℕ };
 
     /// The sum of the lengths of the vectors in what is handed out.
-    ghost weight: { Self.Out → ℕ };
+    ghost value_size: { Self.Out → ℕ };
 
     /// How many elements a pair has in the vectors, beside those in its key and its value.
     ghost places: { ℕ };
@@ -68,7 +68,7 @@ pub trait Collection<V: Token>: Drop {
         requires room { has_room self.old }
         requires new { LacksValue key (map key_of (pairs_of self.old)) }
         ensures pairs { pairs_of self.new ≡ pairs_of self.old ++ paired key value ∷ [] }
-        ensures size { size self.new ≤ size self.old + (places + (⟦<WordText as Token>⟧.weight key + V.weight value)) };
+        ensures size { size self.new ≤ size self.old + (places + (⟦<WordText as Token>⟧.value_size key + V.value_size value)) };
 
     /// The sum of the lengths of its vectors.
     fn held(&self) -> u64
@@ -77,9 +77,9 @@ pub trait Collection<V: Token>: Drop {
     /// Hands the pairs out. It takes no memory.
     fn finish(self) -> Self::Out
         ensures value { result ≡ given (pairs_of self) }
-        ensures weight { weight result ≤ size self };
+        ensures value_size { value_size result ≤ size self };
 
     /// The sum of the lengths of the vectors in what is handed out.
-    fn weight_of(out: &Self::Out) -> u64
-        ensures { result ≡ told (weight out.now) };
+    fn held_in(out: &Self::Out) -> u64
+        ensures { result ≡ told (value_size out.now) };
 }

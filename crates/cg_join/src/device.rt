@@ -41,17 +41,27 @@ impl DeviceText {
 impl Token for DeviceText {
     type Out = Device;
 
-    ghost use Rattle.cg_join.specs.DeviceLaws.{device_lawful, tail_lawful};
+    ghost use Rattle.cg_join.specs.DeviceLaws.{device_completes, device_ends, device_one};
 
     ghost means = { λ s rest device. ⟦<Parts as Token>⟧.means s.parts rest (numbers_of device) };
 
     ghost size = { λ _. 0 };
 
-    ghost weight = { λ _. 0 };
+    ghost value_size = { λ _. 0 };
 
     ghost ends = { λ s. ⟦<Parts as Token>⟧.ends s.parts };
 
     ghost grows = { false };
+
+    ghost completes = { λ s. device_completes (⟦<Parts as Token>⟧.means s.parts) (⟦<Parts as Token>⟧.completes s.parts) };
+
+    ghost no_size = { λ _ _. refl };
+
+    ghost ends_is = { λ s. device_ends (⟦<Parts as Token>⟧.means s.parts) (⟦<Parts as Token>⟧.ends_is s.parts) };
+
+    ghost one_value = { λ s. device_one (⟦<Parts as Token>⟧.means s.parts) (⟦<Parts as Token>⟧.one_value s.parts) };
+
+    ghost holds_bytes = { λ s rest v. ⟦<Parts as Token>⟧.holds_bytes s.parts rest (numbers_of v) };
 
     #[inline(always)]
     fn step(&mut self, byte: u8) -> Result<bool, OutOfMemory> {
@@ -82,17 +92,7 @@ impl Token for DeviceText {
         }
     }
 
-    fn weight_of(_value: &Device) -> u64 {
+    fn held_in(_value: &Device) -> u64 {
         0
     }
-
-    ghost completes = { λ s. (let tail = tail_lawful s.parts.second.first s.parts.second.second s.parts.second.in_second s.parts.second.apart s.parts.second.ended in device_lawful ⟦<Tail as Token>⟧.means s.parts.second s.parts.first s.parts.in_second s.parts.apart s.parts.ended tail.completes tail.ends_is tail.one_value tail.holds_bytes).completes };
-
-    ghost no_size = { λ _ _. refl };
-
-    ghost ends_is = { λ s. (let tail = tail_lawful s.parts.second.first s.parts.second.second s.parts.second.in_second s.parts.second.apart s.parts.second.ended in device_lawful ⟦<Tail as Token>⟧.means s.parts.second s.parts.first s.parts.in_second s.parts.apart s.parts.ended tail.completes tail.ends_is tail.one_value tail.holds_bytes).ends_is };
-
-    ghost one_value = { λ s. (let tail = tail_lawful s.parts.second.first s.parts.second.second s.parts.second.in_second s.parts.second.apart s.parts.second.ended in device_lawful ⟦<Tail as Token>⟧.means s.parts.second s.parts.first s.parts.in_second s.parts.apart s.parts.ended tail.completes tail.ends_is tail.one_value tail.holds_bytes).one_value };
-
-    ghost holds_bytes = { λ s. (let tail = tail_lawful s.parts.second.first s.parts.second.second s.parts.second.in_second s.parts.second.apart s.parts.second.ended in device_lawful ⟦<Tail as Token>⟧.means s.parts.second s.parts.first s.parts.in_second s.parts.apart s.parts.ended tail.completes tail.ends_is tail.one_value tail.holds_bytes).holds_bytes };
 }

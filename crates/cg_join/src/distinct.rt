@@ -1,14 +1,14 @@
 //! One or more words, all different, with a byte between.
 ghost use Rattle.std.specs.Prelude.{◌≡◌, ℕ, ◌+◌, ◌≤◌, ◌<◌, ◌↔◌, true, false, not, ◌&&◌, List, [], ◌++◌, ◌∷◌, IsTrue, IsFalse, vec_len, vec_capacity};
 ghost use Rattle.cg_text.specs.Token.{Spells, told};
-ghost use Rattle.cg_join.specs.Repeat.{LacksEmpty, Stops, items_weight, out_weight};
+ghost use Rattle.cg_join.specs.Repeat.{LacksEmpty, Stops, items_size, out_size};
 ghost use Rattle.cg_join.specs.Distinct.{AreDistinct, AreDistinctJoined, any_value, IsDistinctAfter};
 ghost use Rattle.cg_join.specs.DistinctLaws.{AreDistinct_prop};
 ghost use Rattle.cg_join.specs.WordStartLaws.{SpellsWord};
 ghost use Rattle.cg_text.specs.WordState.{is_taken};
 
 use crate::start::Start;
-use crate::store::{make_room, put, weight_of_joined};
+use crate::store::{held_in_joined, make_room, put};
 use crate::words::{WordStart, has};
 use cg_text::{Items, Key, OutOfMemory, Token, WordText};
 use std::alloc::Global;
@@ -22,8 +22,8 @@ pub struct DistinctWords {
     separator: u8,
     items: Vec<Key>,
     current: WordText,
-    kept: u64,
-    ghost counted: { kept ≡ told (items_weight ⟦<WordText as Token>⟧.weight items.items) },
+    items_held: u64,
+    ghost counted: { items_held ≡ told (items_size ⟦<WordText as Token>⟧.value_size items.items) },
     ghost stops: { Stops (⟦<WordText as Token>⟧.means current) separator },
     ghost starts: { Stops (SpellsWord start.controller) separator },
     ghost filled: { LacksEmpty (SpellsWord start.controller) },
@@ -46,7 +46,7 @@ impl DistinctWords {
             separator,
             items: Vec::new(alloc),
             current,
-            kept: 0,
+            items_held: 0,
         }
     }
 }
@@ -61,9 +61,9 @@ impl Token for DistinctWords {
 
     ghost means = { λ s rest all. IsDistinctAfter s.items.items (⟦<WordText as Token>⟧.means s.current) (SpellsWord s.start.controller) s.separator rest all };
 
-    ghost size = { λ s. items_weight ⟦<WordText as Token>⟧.weight s.items.items + ⟦<WordText as Token>⟧.size s.current };
+    ghost size = { λ s. items_size ⟦<WordText as Token>⟧.value_size s.items.items + ⟦<WordText as Token>⟧.size s.current };
 
-    ghost weight = { out_weight ⟦<WordText as Token>⟧.weight };
+    ghost value_size = { out_size ⟦<WordText as Token>⟧.value_size };
 
     ghost ends = { λ s. ⟦<WordText as Token>⟧.ends s.current && not (any_value (is_taken s.current.bytes.items) s.items.items) };
 
@@ -96,9 +96,9 @@ impl Token for DistinctWords {
         let next = self.start.start();
         let done = mem::replace(&mut self.current, next);
         let value = done.take();
-        let weight = WordText::weight_of(&value);
+        let new_size = WordText::held_in(&value);
         put(&mut self.items, value);
-        self.kept = self.kept.saturating_add(1).saturating_add(weight);
+        self.items_held = self.items_held.saturating_add(1).saturating_add(new_size);
         Ok(true)
     }
 
@@ -116,7 +116,7 @@ impl Token for DistinctWords {
     }
 
     fn held(&self) -> u64 {
-        self.kept.saturating_add(self.current.held())
+        self.items_held.saturating_add(self.current.held())
     }
 
     fn take(self) -> Items<Key> {
@@ -125,8 +125,8 @@ impl Token for DistinctWords {
         Items::of(items)
     }
 
-    fn weight_of(value: &Items<Key>) -> u64 {
-        weight_of_joined::<WordText>(value.as_slice())
+    fn held_in(value: &Items<Key>) -> u64 {
+        held_in_joined::<WordText>(value.as_slice())
     }
 
     ghost completes = { λ s. distinct_completes (⟦<WordText as Token>⟧.means s.current) (SpellsWord s.start.controller) s.separator s.items.items s.distinct (word_new s.current.controller s.current.bytes.items [] (⟦<WordText as Token>⟧.completes s.current) s.items.items) };

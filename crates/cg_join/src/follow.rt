@@ -15,7 +15,7 @@ pub trait Follow<V: Token>: Start<V> {
         ensures { result ≡ alone self.now };
 
     /// The value of a key that stands alone has no vector with an element.
-    ghost no_weight: { (s : Self) (value : V.Out) → alone s ≡ Some value → V.weight value ≡ 0 };
+    ghost alone_bare: { (s : Self) (value : V.Out) → alone s ≡ Some value → V.value_size value ≡ 0 };
 }
 
 impl Follow<DecimalText> for NumberStart {
@@ -27,5 +27,5 @@ impl Follow<DecimalText> for NumberStart {
         None
     }
 
-    ghost no_weight = { λ _ value e. absurd (none_some value e) };
+    ghost alone_bare = { λ _ value e. absurd (none_some value e) };
 }

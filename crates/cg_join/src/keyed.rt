@@ -8,7 +8,7 @@ ghost use Rattle.cg_join.specs.DistinctLaws.{AreDistinct_prop};
 ghost use Rattle.cg_join.specs.Keyed.{AreKeyedLines, IsKeyed};
 ghost use Rattle.cg_join.specs.KeyedState.{AreKeyedAfter, KeyedRest, is_begun, is_marked, kept_keys};
 ghost use Rattle.cg_join.specs.Line.{LacksByte};
-ghost use Rattle.cg_join.specs.Repeat.{items_weight};
+ghost use Rattle.cg_join.specs.Repeat.{items_size};
 ghost use Rattle.cg_join.specs.Spelling.{IsTurned};
 ghost use Rattle.cg_join.specs.WordStartLaws.{SpellsWord};
 ghost use Rattle.cg_join.specs.declared.pairs.Stage.TheVariants.{Before, InWord, InValue};
@@ -18,7 +18,7 @@ use crate::follow::Follow;
 use crate::pairing::renew;
 use crate::pairs::Stage;
 use crate::start::Start;
-use crate::store::{make_room, put, weight_of_all};
+use crate::store::{held_in_all, make_room, put};
 use crate::words::WordStart;
 use cg_text::{Key, OutOfMemory, Token, WordText};
 use std::alloc::Global;
@@ -231,9 +231,9 @@ impl<V: Token, B: Follow<V>, C: Collection<V>> Token for KeyedLines<V, B, C> {
 
     ghost means = { λ s. IsTurned (AreKeyedAfter C.key_of (C.pairs_of s.pairs) (is_begun s.stage) (KeyedRest C.key_of C.value_of (⟦<WordText as Token>⟧.means s.key) (V.means s.value) (B.alone s.values) s.mark (is_marked s.stage) s.ended.items) (IsKeyed C.key_of C.value_of (SpellsWord s.keys.controller) (B.texts s.values) (B.alone s.values) s.mark) s.end) C.given };
 
-    ghost size = { λ s. C.size s.pairs + items_weight ⟦<WordText as Token>⟧.weight s.ended.items + (⟦<WordText as Token>⟧.size s.key + V.size s.value) };
+    ghost size = { λ s. C.size s.pairs + items_size ⟦<WordText as Token>⟧.value_size s.ended.items + (⟦<WordText as Token>⟧.size s.key + V.size s.value) };
 
-    ghost weight = { C.weight };
+    ghost value_size = { C.value_size };
 
     ghost ends = { λ s. not (is_begun s.stage) };
 
@@ -272,7 +272,7 @@ impl<V: Token, B: Follow<V>, C: Collection<V>> Token for KeyedLines<V, B, C> {
         let kept = self
             .pairs
             .held()
-            .saturating_add(weight_of_all::<WordText>(self.ended.as_slice()));
+            .saturating_add(held_in_all::<WordText>(self.ended.as_slice()));
         let at_hand = self.key.held().saturating_add(self.value.held());
         kept.saturating_add(at_hand)
     }
@@ -281,8 +281,8 @@ impl<V: Token, B: Follow<V>, C: Collection<V>> Token for KeyedLines<V, B, C> {
         self.pairs.finish()
     }
 
-    fn weight_of(value: &C::Out) -> u64 {
-        C::weight_of(value)
+    fn held_in(value: &C::Out) -> u64 {
+        C::held_in(value)
     }
 
     ghost completes = { λ s. state_completes C.key_of C.value_of C.paired C.has_key C.has_value C.given (C.pairs_of s.pairs) (IsKeyed C.key_of C.value_of (SpellsWord s.keys.controller) (B.texts s.values) (B.alone s.values) s.mark) (⟦<WordText as Token>⟧.means s.key) (V.means s.value) (B.alone s.values) s.mark s.end (is_begun s.stage) s.ended.items s.distinct (is_marked s.stage) s.kept

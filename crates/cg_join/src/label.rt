@@ -28,7 +28,7 @@ impl<T: Token> Token for LabelText<T> {
 
     ghost size = { λ s. T.size s.token };
 
-    ghost weight = { λ v. T.weight v.1 };
+    ghost value_size = { λ v. T.value_size v.1 };
 
     ghost ends = { λ s. keyword_ends s.label && T.ends s.token };
 
@@ -63,8 +63,8 @@ impl<T: Token> Token for LabelText<T> {
         ((), self.token.take())
     }
 
-    fn weight_of(value: &((), T::Out)) -> u64 {
-        T::weight_of(&value.1)
+    fn held_in(value: &((), T::Out)) -> u64 {
+        T::held_in(&value.1)
     }
 
     ghost completes = { λ s. label_completes T.means s.label s.token (T.completes s.token) };

@@ -18,7 +18,7 @@ impl Turn<Choice<KeywordText, DecimalText>> for ToLimit {
 
     ghost turned = { limit_of };
 
-    ghost weight = { λ _. 0 };
+    ghost value_size = { λ _. 0 };
 
     fn turn(value: Either<(), u64>) -> Limit {
         match value {
@@ -27,7 +27,7 @@ impl Turn<Choice<KeywordText, DecimalText>> for ToLimit {
         }
     }
 
-    fn weight_of(_value: &Limit) -> u64 {
+    fn held_in(_value: &Limit) -> u64 {
         0
     }
 
@@ -62,17 +62,25 @@ impl LimitText {
 impl Token for LimitText {
     type Out = Limit;
 
-    ghost use Rattle.cg_join.specs.LimitLaws.{limit_lawful};
-
     ghost means = { λ s rest v. ⟦<Parts as Token>⟧.means s.parts rest v };
 
     ghost size = { λ _. 0 };
 
-    ghost weight = { λ _. 0 };
+    ghost value_size = { λ _. 0 };
 
     ghost ends = { λ s. ⟦<Parts as Token>⟧.ends s.parts };
 
     ghost grows = { false };
+
+    ghost completes = { λ s. ⟦<Parts as Token>⟧.completes s.parts };
+
+    ghost no_size = { λ _ _. refl };
+
+    ghost ends_is = { λ s. ⟦<Parts as Token>⟧.ends_is s.parts };
+
+    ghost one_value = { λ s. ⟦<Parts as Token>⟧.one_value s.parts };
+
+    ghost holds_bytes = { λ s. ⟦<Parts as Token>⟧.holds_bytes s.parts };
 
     #[inline(always)]
     fn step(&mut self, byte: u8) -> Result<bool, OutOfMemory> {
@@ -95,17 +103,7 @@ impl Token for LimitText {
         self.parts.take()
     }
 
-    fn weight_of(_value: &Limit) -> u64 {
+    fn held_in(_value: &Limit) -> u64 {
         0
     }
-
-    ghost completes = { λ s. (limit_lawful s.parts.token.left s.parts.token.right s.parts.token.left_lives s.parts.token.right_lives s.parts.token.some s.parts.token.apart).completes };
-
-    ghost no_size = { λ _ _. refl };
-
-    ghost ends_is = { λ s. (limit_lawful s.parts.token.left s.parts.token.right s.parts.token.left_lives s.parts.token.right_lives s.parts.token.some s.parts.token.apart).ends_is };
-
-    ghost one_value = { λ s. (limit_lawful s.parts.token.left s.parts.token.right s.parts.token.left_lives s.parts.token.right_lives s.parts.token.some s.parts.token.apart).one_value };
-
-    ghost holds_bytes = { λ s. (limit_lawful s.parts.token.left s.parts.token.right s.parts.token.left_lives s.parts.token.right_lives s.parts.token.some s.parts.token.apart).holds_bytes };
 }

@@ -1,12 +1,12 @@
 //! Lines: any number of a token, each with an ending byte.
 ghost use Rattle.std.specs.Prelude.{◌≡◌, ℕ, ◌+◌, ◌≤◌, ◌<◌, ◌↔◌, Bool, true, false, not, List, [], ◌++◌, ◌∷◌, IsTrue, IsFalse};
 ghost use Rattle.cg_text.specs.Token.{Spells, told};
-ghost use Rattle.cg_join.specs.Repeat.{items_weight};
+ghost use Rattle.cg_join.specs.Repeat.{items_size};
 ghost use Rattle.cg_join.specs.Line.{LacksByte};
 ghost use Rattle.cg_join.specs.Lines.{AreLines, AreLinesAfter};
 
 use crate::start::Start;
-use crate::store::{make_room, put, weight_of_all};
+use crate::store::{held_in_all, make_room, put};
 use cg_text::{Items, OutOfMemory, Scan, Token};
 use std::alloc::Global;
 use std::mem;
@@ -19,8 +19,8 @@ pub struct Lines<T: Token, S: Start<T>> {
     items: Vec<T::Out>,
     current: T,
     begun: bool,
-    kept: u64,
-    ghost counted: { kept ≡ told (items_weight T.weight items.items) },
+    items_held: u64,
+    ghost counted: { items_held ≡ told (items_size T.value_size items.items) },
     ghost lacks: { LacksByte (T.means current) end },
     ghost starts: { LacksByte (S.texts start) end },
     ghost small: { end < 256 },
@@ -41,7 +41,7 @@ impl<T: Token, S: Start<T>> Lines<T, S> {
             items: Vec::new(alloc),
             current,
             begun: false,
-            kept: 0,
+            items_held: 0,
         }
     }
 }
@@ -55,9 +55,9 @@ impl<T: Token, S: Start<T>> Token for Lines<T, S> {
 
     ghost means = { λ s rest all. AreLinesAfter s.items.items s.begun (T.means s.current) (S.texts s.start) s.end rest all };
 
-    ghost size = { λ s. items_weight T.weight s.items.items + T.size s.current };
+    ghost size = { λ s. items_size T.value_size s.items.items + T.size s.current };
 
-    ghost weight = { items_weight T.weight };
+    ghost value_size = { items_size T.value_size };
 
     ghost ends = { λ s. not s.begun };
 
@@ -84,9 +84,9 @@ impl<T: Token, S: Start<T>> Token for Lines<T, S> {
         let next = self.start.start();
         let done = mem::replace(&mut self.current, next);
         let value = done.take();
-        let weight = T::weight_of(&value);
+        let new_size = T::held_in(&value);
         put(&mut self.items, value);
-        self.kept = self.kept.saturating_add(1).saturating_add(weight);
+        self.items_held = self.items_held.saturating_add(1).saturating_add(new_size);
         self.begun = false;
         Ok(true)
     }
@@ -103,15 +103,15 @@ impl<T: Token, S: Start<T>> Token for Lines<T, S> {
     }
 
     fn held(&self) -> u64 {
-        self.kept.saturating_add(self.current.held())
+        self.items_held.saturating_add(self.current.held())
     }
 
     fn take(self) -> Items<T::Out> {
         Items::of(self.items)
     }
 
-    fn weight_of(value: &Items<T::Out>) -> u64 {
-        weight_of_all::<T>(value.as_slice())
+    fn held_in(value: &Items<T::Out>) -> u64 {
+        held_in_all::<T>(value.as_slice())
     }
 
     ghost completes = { λ s. lines_completes s.end (T.means s.current) (S.texts s.start) s.items.items s.begun (T.completes s.current) };

@@ -1,7 +1,7 @@
 //! A token's text, or none.
 ghost use Rattle.std.specs.Prelude.{◌≡◌, ℕ, ◌+◌, ◌≤◌, ◌↔◌, not, ◌||◌, List, [], IsTrue, IsFalse};
 ghost use Rattle.cg_text.specs.Token.{Spells};
-ghost use Rattle.cg_join.specs.Maybe.{IsMaybe, MaybeRest, maybe_weight};
+ghost use Rattle.cg_join.specs.Maybe.{IsMaybe, MaybeRest, maybe_size};
 ghost use Rattle.cg_join.specs.Repeat.{LacksEmpty};
 
 use cg_text::{OutOfMemory, Token};
@@ -39,7 +39,7 @@ impl<T: Token> Token for Maybe<T> {
 
     ghost size = { λ s. T.size s.token };
 
-    ghost weight = { maybe_weight T.weight };
+    ghost value_size = { maybe_size T.value_size };
 
     ghost ends = { λ s. not s.begun || T.ends s.token };
 
@@ -77,9 +77,9 @@ impl<T: Token> Token for Maybe<T> {
         }
     }
 
-    fn weight_of(value: &Option<T::Out>) -> u64 {
+    fn held_in(value: &Option<T::Out>) -> u64 {
         match value {
-            Some(v) => T::weight_of(v),
+            Some(v) => T::held_in(v),
             None => 0,
         }
     }

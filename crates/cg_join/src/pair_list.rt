@@ -3,8 +3,8 @@ ghost use Rattle.std.specs.Prelude.{◌≡◌, ℕ, ◌+◌, ◌≤◌, ◌<◌,
 ghost use Rattle.cg_text.specs.Token.{told};
 ghost use Rattle.cg_text.specs.WordState.{is_taken};
 ghost use Rattle.cg_join.specs.Distinct.{any_value};
-ghost use Rattle.cg_join.specs.Pairs.{pair_weight};
-ghost use Rattle.cg_join.specs.Repeat.{items_weight};
+ghost use Rattle.cg_join.specs.Pairs.{pair_size};
+ghost use Rattle.cg_join.specs.Repeat.{items_size};
 
 use crate::collection::Collection;
 use crate::store::{make_room, put};
@@ -51,10 +51,10 @@ pub trait MakePair<V: Token> {
 #[derive(Drop)]
 pub struct PairList<V: Token, F: MakePair<V>> {
     pairs: Vec<F::Pair>,
-    kept: u64,
+    items_held: u64,
     value: PhantomData<V>,
     make: PhantomData<F>,
-    ghost counted: { kept ≡ told (items_weight (pair_weight F.key_of F.value_of ⟦<WordText as Token>⟧.weight V.weight) pairs.items) },
+    ghost counted: { items_held ≡ told (items_size (pair_size F.key_of F.value_of ⟦<WordText as Token>⟧.value_size V.value_size) pairs.items) },
 }
 
 impl<V: Token, F: MakePair<V>> PairList<V, F> {
@@ -65,7 +65,7 @@ impl<V: Token, F: MakePair<V>> PairList<V, F> {
     {
         PairList {
             pairs: Vec::new(alloc),
-            kept: 0,
+            items_held: 0,
             value: PhantomData,
             make: PhantomData,
         }
@@ -85,13 +85,13 @@ fn has_pair<V: Token, F: MakePair<V>>(pairs: &[F::Pair], key: &WordText) -> bool
 }
 
 /// The sum of the lengths of the vectors in pairs, and a place for each.
-fn weight_of_made<V: Token, F: MakePair<V>>(pairs: &[F::Pair]) -> u64
-    ensures { result ≡ told (items_weight (pair_weight F.key_of F.value_of ⟦<WordText as Token>⟧.weight V.weight) pairs.now) }
+fn held_in_made<V: Token, F: MakePair<V>>(pairs: &[F::Pair]) -> u64
+    ensures { result ≡ told (items_size (pair_size F.key_of F.value_of ⟦<WordText as Token>⟧.value_size V.value_size) pairs.now) }
 {
     let mut total: u64 = 0;
     for pair in pairs {
-        let weight = WordText::weight_of(F::key(pair)).saturating_add(V::weight_of(F::value(pair)));
-        total = total.saturating_add(1).saturating_add(weight);
+        let new_size = WordText::held_in(F::key(pair)).saturating_add(V::held_in(F::value(pair)));
+        total = total.saturating_add(1).saturating_add(new_size);
     }
     total
 }
@@ -113,9 +113,9 @@ impl<V: Token, F: MakePair<V>> Collection<V> for PairList<V, F> {
 
     ghost has_room = { λ s. vec_len s.pairs < vec_capacity s.pairs };
 
-    ghost size = { λ s. items_weight (pair_weight F.key_of F.value_of ⟦<WordText as Token>⟧.weight V.weight) s.pairs.items };
+    ghost size = { λ s. items_size (pair_size F.key_of F.value_of ⟦<WordText as Token>⟧.value_size V.value_size) s.pairs.items };
 
-    ghost weight = { items_weight (pair_weight F.key_of F.value_of ⟦<WordText as Token>⟧.weight V.weight) };
+    ghost value_size = { items_size (pair_size F.key_of F.value_of ⟦<WordText as Token>⟧.value_size V.value_size) };
 
     ghost places = { 1 };
 
@@ -128,21 +128,21 @@ impl<V: Token, F: MakePair<V>> Collection<V> for PairList<V, F> {
     }
 
     fn push(&mut self, key: Key, value: V::Out) {
-        let weight = WordText::weight_of(&key).saturating_add(V::weight_of(&value));
+        let new_size = WordText::held_in(&key).saturating_add(V::held_in(&value));
         put(&mut self.pairs, F::pair(key, value));
-        self.kept = self.kept.saturating_add(1).saturating_add(weight);
+        self.items_held = self.items_held.saturating_add(1).saturating_add(new_size);
     }
 
     fn held(&self) -> u64 {
-        self.kept
+        self.items_held
     }
 
     fn finish(self) -> Items<F::Pair> {
         Items::of(self.pairs)
     }
 
-    fn weight_of(out: &Items<F::Pair>) -> u64 {
-        weight_of_made::<V, F>(out.as_slice())
+    fn held_in(out: &Items<F::Pair>) -> u64 {
+        held_in_made::<V, F>(out.as_slice())
     }
 
     ghost use Rattle.cg_join.specs.KeyedLaws.{one_few};

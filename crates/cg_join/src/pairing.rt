@@ -2,9 +2,9 @@
 ghost use Rattle.std.specs.Prelude.{◌≡◌, ℕ, ◌+◌, ◌≤◌, ◌<◌, Bool, List, [], ◌++◌, ◌∷◌, IsTrue, map, length, vec_len, vec_capacity, not, ◌&&◌};
 ghost use Rattle.cg_text.specs.Token.{Spells, told};
 ghost use Rattle.cg_text.specs.WordState.{is_taken};
-ghost use Rattle.cg_join.specs.Repeat.{items_weight};
+ghost use Rattle.cg_join.specs.Repeat.{items_size};
 ghost use Rattle.cg_join.specs.Distinct.{any_value};
-ghost use Rattle.cg_join.specs.Pairs.{pair_weight};
+ghost use Rattle.cg_join.specs.Pairs.{pair_size};
 ghost use Rattle.cg_join.specs.PairsState.{IsCompleted};
 
 use crate::start::Start;
@@ -38,7 +38,7 @@ pub trait Pairing<V: Token> {
     /// It takes no memory.
     fn begin(word: Key) -> Self::Pair
         ensures word { word_of result ≡ word }
-        ensures weight { V.weight (value_of result) ≡ 0 };
+        ensures value_size { V.value_size (value_of result) ≡ 0 };
 
     /// Gives the pair its value. It takes no memory.
     fn complete(pair: &mut Self::Pair, value: V::Out)
@@ -81,15 +81,13 @@ pub(crate) fn complete_last<V: Token, F: Pairing<V>>(items: &mut Vec<F::Pair>, v
 }
 
 /// The sum of the lengths of the vectors in pairs, and a place for each.
-pub(crate) fn weight_of_pairs<V: Token, F: Pairing<V>>(items: &[F::Pair]) -> u64
-    ensures { result ≡ told (items_weight (pair_weight F.word_of F.value_of ⟦<WordText as Token>⟧.weight V.weight) items.now) }
+pub(crate) fn held_in_pairs<V: Token, F: Pairing<V>>(items: &[F::Pair]) -> u64
+    ensures { result ≡ told (items_size (pair_size F.word_of F.value_of ⟦<WordText as Token>⟧.value_size V.value_size) items.now) }
 {
     let mut total: u64 = 0;
     for pair in items {
-        let weight = WordText::weight_of(F::word(pair)).saturating_add(V::weight_of(F::value(
-            pair,
-        )));
-        total = total.saturating_add(1).saturating_add(weight);
+        let new_size = WordText::held_in(F::word(pair)).saturating_add(V::held_in(F::value(pair)));
+        total = total.saturating_add(1).saturating_add(new_size);
     }
     total
 }
@@ -98,7 +96,7 @@ pub(crate) fn weight_of_pairs<V: Token, F: Pairing<V>>(items: &[F::Pair]) -> u64
 pub(crate) fn renew<T: Token, S: Start<T>>(token: &mut T, start: &S) -> T::Out
     requires { IsTrue (T.ends token.old) }
     ensures value { T.means token.old [] result }
-    ensures weight { T.weight result ≤ T.size token.old }
+    ensures value_size { T.value_size result ≤ T.size token.old }
     ensures spells { Spells T.means token.new (S.texts start.now) }
     ensures size { T.size token.new ≡ 0 }
 {

@@ -1,17 +1,17 @@
 //! Any number of pairs of a word and a value, the words all different.
 ghost use Rattle.std.specs.Prelude.{◌≡◌, ℕ, ◌+◌, ◌≤◌, ◌<◌, ◌↔◌, Bool, true, false, List, [], ◌++◌, ◌∷◌, IsTrue, map, length, OnErr};
 ghost use Rattle.cg_text.specs.Token.{Begins, Follows, IfRefused, IfTaken, NoneBegins, Same, Spells, UnlessTaken, told};
-ghost use Rattle.cg_join.specs.Repeat.{Stops, items_weight};
+ghost use Rattle.cg_join.specs.Repeat.{Stops, items_size};
 ghost use Rattle.cg_join.specs.Line.{LacksByte};
 ghost use Rattle.cg_join.specs.Distinct.{AreDistinct};
 ghost use Rattle.cg_join.specs.DistinctLaws.{AreDistinct_prop};
 ghost use Rattle.cg_join.specs.JoinedPairs.{AreJoinedPairs};
-ghost use Rattle.cg_join.specs.Pairs.{IsPairText, PairRest, ArePairs, ArePairsAfter, pair_weight};
-ghost use Rattle.cg_join.specs.PairsState.{WordAtHand, last_weight, whole_pairs};
+ghost use Rattle.cg_join.specs.Pairs.{IsPairText, PairRest, ArePairs, ArePairsAfter, pair_size};
+ghost use Rattle.cg_join.specs.PairsState.{WordAtHand, last_size, whole_pairs};
 ghost use Rattle.cg_join.specs.WordStartLaws.{SpellsWord};
 ghost use Rattle.cg_join.specs.declared.pairs.Stage.TheVariants.{Before, InWord, InValue};
 
-use crate::pairing::{Pairing, complete_last, is_new_word, renew, weight_of_pairs};
+use crate::pairing::{Pairing, complete_last, held_in_pairs, is_new_word, renew};
 use crate::start::Start;
 use crate::store::{make_room, put};
 use crate::words::WordStart;
@@ -43,9 +43,9 @@ pub struct DistinctPairs<V: Token, B: Start<V>, F: Pairing<V>> {
     stage: Stage,
     word: WordText,
     value: V,
-    kept: u64,
+    items_held: u64,
     pairing: PhantomData<F>,
-    ghost counted: { kept ≡ told (items_weight (pair_weight F.word_of F.value_of ⟦<WordText as Token>⟧.weight V.weight) items.items) },
+    ghost counted: { items_held ≡ told (items_size (pair_size F.word_of F.value_of ⟦<WordText as Token>⟧.value_size V.value_size) items.items) },
     ghost lacks: { LacksByte (⟦<WordText as Token>⟧.means word) mark },
     ghost words_lack: { LacksByte (SpellsWord words.controller) mark },
     ghost stops: { Stops (V.means value) separator },
@@ -53,7 +53,7 @@ pub struct DistinctPairs<V: Token, B: Start<V>, F: Pairing<V>> {
     ghost small_separator: { separator < 256 },
     ghost small_mark: { mark < 256 },
     ghost begun: { stage ≡ InValue → 0 < length items.items },
-    ghost awaits: { stage ≡ InValue → last_weight (λ p. V.weight (F.value_of p)) items.items ≡ 0 },
+    ghost awaits: { stage ≡ InValue → last_size (λ p. V.value_size (F.value_of p)) items.items ≡ 0 },
     ghost distinct: { AreDistinct (map F.word_of items.items) } by { AreDistinct_prop (map F.word_of items.items) },
 }
 
@@ -82,7 +82,7 @@ impl<V: Token, B: Start<V>, F: Pairing<V>> DistinctPairs<V, B, F> {
             stage: Stage::Before,
             word,
             value,
-            kept: 0,
+            items_held: 0,
             pairing: PhantomData,
         }
     }
@@ -110,7 +110,7 @@ impl<V: Token, B: Start<V>, F: Pairing<V>> DistinctPairs<V, B, F> {
             stage: Stage::InWord,
             word,
             value,
-            kept: 0,
+            items_held: 0,
             pairing: PhantomData,
         }
     }
@@ -139,9 +139,9 @@ impl<V: Token, B: Start<V>, F: Pairing<V>> DistinctPairs<V, B, F> {
             Err(e) => return Err(e),
         }
         let word = renew(&mut self.word, &self.words);
-        let weight = WordText::weight_of(&word);
+        let new_size = WordText::held_in(&word);
         put(&mut self.items, F::begin(word));
-        self.kept = self.kept.saturating_add(1).saturating_add(weight);
+        self.items_held = self.items_held.saturating_add(1).saturating_add(new_size);
         self.stage = Stage::InValue;
         Ok(true)
     }
@@ -168,9 +168,9 @@ impl<V: Token, B: Start<V>, F: Pairing<V>> DistinctPairs<V, B, F> {
             return Ok(false);
         }
         let value = renew(&mut self.value, &self.values);
-        let weight = V::weight_of(&value);
+        let new_size = V::held_in(&value);
         complete_last::<V, F>(&mut self.items, value);
-        self.kept = self.kept.saturating_add(weight);
+        self.items_held = self.items_held.saturating_add(new_size);
         // The token is as new, but what it takes is known only of one that is made here.
         self.word = self.words.start();
         self.stage = Stage::InWord;
@@ -188,9 +188,9 @@ impl<V: Token, B: Start<V>, F: Pairing<V>> Token for DistinctPairs<V, B, F> {
 
     ghost means = { λ s rest all. ArePairsAfter F.word_of s.stage (whole_pairs s.stage s.items.items) (PairRest F.word_of F.value_of (WordAtHand F.word_of s.stage s.items.items (⟦<WordText as Token>⟧.means s.word)) (V.means s.value) s.stage s.mark) (IsPairText F.word_of F.value_of (SpellsWord s.words.controller) (B.texts s.values) s.mark) s.separator rest all };
 
-    ghost size = { λ s. items_weight (pair_weight F.word_of F.value_of ⟦<WordText as Token>⟧.weight V.weight) s.items.items + (⟦<WordText as Token>⟧.size s.word + V.size s.value) };
+    ghost size = { λ s. items_size (pair_size F.word_of F.value_of ⟦<WordText as Token>⟧.value_size V.value_size) s.items.items + (⟦<WordText as Token>⟧.size s.word + V.size s.value) };
 
-    ghost weight = { items_weight (pair_weight F.word_of F.value_of ⟦<WordText as Token>⟧.weight V.weight) };
+    ghost value_size = { items_size (pair_size F.word_of F.value_of ⟦<WordText as Token>⟧.value_size V.value_size) };
 
     ghost ends = { λ s. ends_at s.stage (V.ends s.value) };
 
@@ -240,7 +240,7 @@ impl<V: Token, B: Start<V>, F: Pairing<V>> Token for DistinctPairs<V, B, F> {
 
     fn held(&self) -> u64 {
         let at_hand = self.word.held().saturating_add(self.value.held());
-        self.kept.saturating_add(at_hand)
+        self.items_held.saturating_add(at_hand)
     }
 
     fn take(self) -> Items<F::Pair> {
@@ -256,8 +256,8 @@ impl<V: Token, B: Start<V>, F: Pairing<V>> Token for DistinctPairs<V, B, F> {
         }
     }
 
-    fn weight_of(value: &Items<F::Pair>) -> u64 {
-        weight_of_pairs::<V, F>(value.as_slice())
+    fn held_in(value: &Items<F::Pair>) -> u64 {
+        held_in_pairs::<V, F>(value.as_slice())
     }
 
     ghost completes = { λ s. state_completes F.word_of F.value_of F.paired F.has_word F.has_value s.items.items (IsPairText F.word_of F.value_of (SpellsWord s.words.controller) (B.texts s.values) s.mark) s.separator s.mark (⟦<WordText as Token>⟧.means s.word) (V.means s.value) s.distinct s.stage

@@ -88,7 +88,7 @@ impl<V: Token, B: Start<V> + Copy, F: Pairing<V>> Start<DistinctPairs<V, B, F>>
 impl<V: Token, B: Start<V> + Copy, F: Pairing<V>> Follow<DistinctPairs<V, B, F>>
     for PairsStart<V, B, F> {
     ghost use Rattle.cg_join.specs.JoinedPairsLaws.{no_pairs};
-    ghost use Rattle.cg_join.specs.Pairs.{pair_weight};
+    ghost use Rattle.cg_join.specs.Pairs.{pair_size};
 
     ghost alone = { λ _. Some [] };
 
@@ -96,5 +96,5 @@ impl<V: Token, B: Start<V> + Copy, F: Pairing<V>> Follow<DistinctPairs<V, B, F>>
         Some(Items::new(self.alloc))
     }
 
-    ghost no_weight = { λ s ps e. no_pairs (pair_weight F.word_of F.value_of ⟦<WordText as Token>⟧.weight V.weight) ps e };
+    ghost alone_bare = { λ s ps e. no_pairs (pair_size F.word_of F.value_of ⟦<WordText as Token>⟧.value_size V.value_size) ps e };
 }

@@ -31,7 +31,7 @@ impl<V: Copy> Token for Ready<V> {
 
     ghost size = { λ _. 0 };
 
-    ghost weight = { λ _. 0 };
+    ghost value_size = { λ _. 0 };
 
     ghost ends = { λ _. true };
 
@@ -57,7 +57,7 @@ impl<V: Copy> Token for Ready<V> {
         self.value
     }
 
-    fn weight_of(_value: &V) -> u64 {
+    fn held_in(_value: &V) -> u64 {
         0
     }
 
@@ -79,7 +79,7 @@ pub struct OrReady<T: Token> {
     value: T::Out,
     begun: bool,
     ghost filled: { IsFalse begun → LacksEmpty (T.means token) },
-    ghost bare: { T.weight value ≡ 0 },
+    ghost bare: { T.value_size value ≡ 0 },
     ghost fresh: { IsFalse begun → T.size token ≡ 0 },
 }
 
@@ -87,7 +87,7 @@ impl<T: Token> OrReady<T> {
     /// The token's text, or the empty one with this value, whose vectors are empty. The token is new.
     pub fn new(token: T, value: T::Out) -> OrReady<T>
         requires filled { LacksEmpty (T.means token) }
-        requires bare { T.weight value ≡ 0 }
+        requires bare { T.value_size value ≡ 0 }
         requires fresh { T.size token ≡ 0 }
         ensures spells { Spells ⟦<OrReady<T> as Token>⟧.means result (IsOrReady (T.means token) value) }
         ensures size { ⟦<OrReady<T> as Token>⟧.size result ≡ T.size token }
@@ -109,7 +109,7 @@ impl<T: Token> Token for OrReady<T> {
 
     ghost size = { λ s. T.size s.token };
 
-    ghost weight = { T.weight };
+    ghost value_size = { T.value_size };
 
     ghost ends = { λ s. not s.begun || T.ends s.token };
 
@@ -147,8 +147,8 @@ impl<T: Token> Token for OrReady<T> {
         }
     }
 
-    fn weight_of(value: &T::Out) -> u64 {
-        T::weight_of(value)
+    fn held_in(value: &T::Out) -> u64 {
+        T::held_in(value)
     }
 
     ghost completes = { λ s. or_ready_completes (T.means s.token) s.value s.begun (T.completes s.token) };

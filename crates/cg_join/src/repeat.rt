@@ -1,10 +1,10 @@
 //! One or more of a token, with a byte between.
 ghost use Rattle.std.specs.Prelude.{◌≡◌, ℕ, ◌+◌, ◌≤◌, ◌<◌, ◌↔◌, true, false, List, [], ◌++◌, ◌∷◌, IsTrue, IsFalse, vec_len, vec_capacity};
 ghost use Rattle.cg_text.specs.Token.{Spells, told};
-ghost use Rattle.cg_join.specs.Repeat.{AreJoined, IsListAfter, LacksEmpty, Stops, items_weight, out_weight};
+ghost use Rattle.cg_join.specs.Repeat.{AreJoined, IsListAfter, LacksEmpty, Stops, items_size, out_size};
 
 use crate::start::Start;
-use crate::store::{make_room, put, weight_of_joined};
+use crate::store::{held_in_joined, make_room, put};
 use cg_text::{Items, OutOfMemory, Token};
 use std::alloc::Global;
 use std::mem;
@@ -16,8 +16,8 @@ pub struct Repeat<T: Token, S: Start<T>> {
     separator: u8,
     items: Vec<T::Out>,
     current: T,
-    kept: u64,
-    ghost counted: { kept ≡ told (items_weight T.weight items.items) },
+    items_held: u64,
+    ghost counted: { items_held ≡ told (items_size T.value_size items.items) },
     ghost stops: { Stops (T.means current) separator },
     ghost starts: { Stops (S.texts start) separator },
     ghost filled: { LacksEmpty (S.texts start) },
@@ -39,7 +39,7 @@ impl<T: Token, S: Start<T>> Repeat<T, S> {
             separator,
             items: Vec::new(alloc),
             current,
-            kept: 0,
+            items_held: 0,
         }
     }
 }
@@ -52,9 +52,9 @@ impl<T: Token, S: Start<T>> Token for Repeat<T, S> {
 
     ghost means = { λ s rest all. IsListAfter s.items.items (T.means s.current) (S.texts s.start) s.separator rest all };
 
-    ghost size = { λ s. items_weight T.weight s.items.items + T.size s.current };
+    ghost size = { λ s. items_size T.value_size s.items.items + T.size s.current };
 
-    ghost weight = { out_weight T.weight };
+    ghost value_size = { out_size T.value_size };
 
     ghost ends = { λ s. T.ends s.current };
 
@@ -84,9 +84,9 @@ impl<T: Token, S: Start<T>> Token for Repeat<T, S> {
         let next = self.start.start();
         let done = mem::replace(&mut self.current, next);
         let value = done.take();
-        let weight = T::weight_of(&value);
+        let new_size = T::held_in(&value);
         put(&mut self.items, value);
-        self.kept = self.kept.saturating_add(1).saturating_add(weight);
+        self.items_held = self.items_held.saturating_add(1).saturating_add(new_size);
         Ok(true)
     }
 
@@ -102,7 +102,7 @@ impl<T: Token, S: Start<T>> Token for Repeat<T, S> {
     }
 
     fn held(&self) -> u64 {
-        self.kept.saturating_add(self.current.held())
+        self.items_held.saturating_add(self.current.held())
     }
 
     fn take(self) -> Items<T::Out> {
@@ -111,8 +111,8 @@ impl<T: Token, S: Start<T>> Token for Repeat<T, S> {
         Items::of(items)
     }
 
-    fn weight_of(value: &Items<T::Out>) -> u64 {
-        weight_of_joined::<T>(value.as_slice())
+    fn held_in(value: &Items<T::Out>) -> u64 {
+        held_in_joined::<T>(value.as_slice())
     }
 
     ghost completes = { λ s. list_completes s.separator (T.means s.current) (S.texts s.start) s.items.items (T.completes s.current) };

@@ -1,7 +1,7 @@
 //! The vectors in which repetitions keep their values.
 ghost use Rattle.std.specs.Prelude.{◌≡◌, ℕ, ◌+◌, ◌≤◌, ◌<◌, List, [], ◌++◌, ◌∷◌, OnOk, OnErr, vec_len, vec_capacity};
 ghost use Rattle.cg_text.specs.Token.{told};
-ghost use Rattle.cg_join.specs.Repeat.{items_weight, out_weight};
+ghost use Rattle.cg_join.specs.Repeat.{items_size, out_size};
 
 use cg_text::{OutOfMemory, Token};
 
@@ -30,22 +30,22 @@ pub(crate) fn put<X: Drop>(items: &mut Vec<X>, value: X)
 }
 
 /// The sum of the lengths of the vectors in values, and a place for each.
-pub(crate) fn weight_of_all<T: Token>(items: &[T::Out]) -> u64
-    ensures { result ≡ told (items_weight T.weight items.now) }
+pub(crate) fn held_in_all<T: Token>(items: &[T::Out]) -> u64
+    ensures { result ≡ told (items_size T.value_size items.now) }
 {
     let mut total: u64 = 0;
     for item in items {
-        total = total.saturating_add(1).saturating_add(T::weight_of(item));
+        total = total.saturating_add(1).saturating_add(T::held_in(item));
     }
     total
 }
 
 /// The same, but that the first has no place.
-pub(crate) fn weight_of_joined<T: Token>(items: &[T::Out]) -> u64
-    ensures { result ≡ told (out_weight T.weight items.now) }
+pub(crate) fn held_in_joined<T: Token>(items: &[T::Out]) -> u64
+    ensures { result ≡ told (out_size T.value_size items.now) }
 {
     match items.split_first() {
-        Some((first, rest)) => weight_of_all::<T>(rest).saturating_add(T::weight_of(first)),
+        Some((first, rest)) => held_in_all::<T>(rest).saturating_add(T::held_in(first)),
         None => 0,
     }
 }

@@ -5,7 +5,7 @@ use Rattle.cg_value.specs.Files.{ReadLines, KindText}
 use Rattle.cg_value.specs.Kind.{IsReadForm}
 use Rattle.cg_value.specs.Lines.{unlines}
 use Rattle.cg_value.specs.PrintLaws.{one_text}
-use Rattle.cg_value.specs.Weight.{weight_of_lines}
+use Rattle.cg_value.specs.Held.{held_of_lines}
 use Rattle.cg_value.specs.declared.kind.ReadForm.{ReadForm}
 use Rattle.cg_value.specs.declared.value.Value.{Value}
 use Rattle.cg_file.specs.Kinds.{HoldsLittle, held_of_whole}
@@ -44,7 +44,7 @@ lacks_front [] b h = tt
 lacks_front (x ∷ front) b h = (h.0, lacks_front front b h.1)
 
 -- Of a text that ends where a line does.
-whole_line : (kind : ReadForm) (v : Value) (lines : List (List ℕ)) (taken : List ℕ) (b size : ℕ) → IsReadForm kind → ReadLines kind v lines → taken ++ b ∷ [] ≡ unlines lines → size ≤ held_of_whole v → size ≤ weight_of_lines v lines
+whole_line : (kind : ReadForm) (v : Value) (lines : List (List ℕ)) (taken : List ℕ) (b size : ℕ) → IsReadForm kind → ReadLines kind v lines → taken ++ b ∷ [] ≡ unlines lines → size ≤ held_of_whole v → size ≤ held_of_lines v lines
 whole_line kind v lines taken b size form spelled e bound = elim (one_text kind v lines form spelled) [
   | inl same ↦ rw same bound
   | inr none ↦ absurd (not_empty taken b (e ∙ ap unlines none.no_lines))

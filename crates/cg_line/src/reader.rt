@@ -5,7 +5,7 @@ ghost use Rattle.cg_text.specs.Texts.{Next, Lacks};
 ghost use Rattle.cg_text.specs.Token.{told};
 ghost use Rattle.cg_value.specs.Files.{ReadLines, KindText, KindFile};
 ghost use Rattle.cg_value.specs.Lines.{unlines};
-ghost use Rattle.cg_value.specs.Weight.{weight_of_lines};
+ghost use Rattle.cg_value.specs.Held.{held_of_lines};
 ghost use Rattle.cg_value.specs.declared.value.Value.{Value};
 ghost use Rattle.cg_value.specs.declared.kind.ReadForm.{ReadForm};
 ghost use Rattle.cg_line.specs.Place.{TakesLine};
@@ -154,7 +154,7 @@ impl ValueReader {
     pub fn held(&self) -> u64
         ensures exact { result ≡ told (held_by self.now) }
         ensures few { (kind : ReadForm) (taken : List ℕ) → Reads self.now kind taken → held_by self.now ≤ length taken }
-        ensures most { (kind : ReadForm) (lines : List (List ℕ)) (line : List ℕ) (v : Value) → Reads self.now kind (unlines lines ++ line) → Lacks 10 line → ReadLines kind v lines → held_by self.now ≤ weight_of_lines v lines + length line }
+        ensures most { (kind : ReadForm) (lines : List (List ℕ)) (line : List ℕ) (v : Value) → Reads self.now kind (unlines lines ++ line) → Lacks 10 line → ReadLines kind v lines → held_by self.now ≤ held_of_lines v lines + length line }
     {
         self.text.held()
     }

@@ -1,8 +1,8 @@
 //! Entries and items of plans, the names in paths, and which values fit which kinds.
 use cg_text::{Clamp, Device, Hundredths, Items, Key, Limit, NumberSet};
 use cg_value::{
-    Entry, EntryFault, ItemFault, PlanItem, Profile, ReadForm, Setting, Toggle, Value, WriteForm,
-    name_of, read_kind, table_name, write_kind,
+    Entry, EntryFault, ItemFault, PlanItem, Profile, ReadForm, Role, Setting, Toggle, Value,
+    WriteForm, name_of, read_kind, table_name, write_kind,
 };
 use std::alloc::Global;
 use std::test::Fail;
@@ -20,8 +20,12 @@ fn names(rt: HostRuntime) {
     for (path, wanted) in rows {
         assert!(rt; name_of(path.as_bytes()) == wanted.as_bytes(), "{path}");
     }
-    assert!(rt; table_name(59).is_some());
-    assert!(rt; table_name(60).is_none());
+    let mut rows = 0;
+    while let Some(name) = table_name(rows) {
+        assert!(rt; !name.is_empty(), "{rows}");
+        rows += 1;
+    }
+    assert!(rt; rows > 0 && table_name(rows - 1) == Some(b"cpuset.cpus.partition".as_slice()));
 }
 
 #[test]
@@ -177,6 +181,28 @@ fn bandwidth(quota: Limit, period: Option<u64>) -> Setting {
     Setting::CpuMax { quota, period }
 }
 
+/// A clamp at so many hundredths, to be written.
+fn written_clamp(count: u64) -> Setting {
+    Setting::Clamp(Clamp::At(Hundredths { count }))
+}
+
+/// A reclaim of nothing, with this swappiness.
+fn reclaim(swappiness: Option<u64>) -> Setting {
+    Setting::Reclaim {
+        size: 0,
+        swappiness,
+    }
+}
+
+/// A trigger of all tasks.
+fn trigger(stall: u64, window: u64) -> Setting {
+    Setting::Trigger {
+        full: true,
+        stall,
+        window,
+    }
+}
+
 #[test]
 fn settings_fit(rt: HostRuntime) -> Result<(), Fail> {
     let rows = [
@@ -192,6 +218,18 @@ fn settings_fit(rt: HostRuntime) -> Result<(), Fail> {
         ("cpu.max", bandwidth(Limit::At(1000), None), true),
         ("cpu.max", bandwidth(Limit::Max, Some(1000001)), false),
         ("io.weight", Setting::DefaultWeight(10001), false),
+        ("io.weight", Setting::DefaultWeight(10000), true),
+        ("cpu.uclamp.min", written_clamp(10000), true),
+        ("cpu.uclamp.min", written_clamp(10001), false),
+        ("memory.reclaim", reclaim(Some(200)), true),
+        ("memory.reclaim", reclaim(Some(201)), false),
+        ("memory.reclaim", reclaim(None), true),
+        ("cpuset.cpus.partition", Setting::Role(Role::Isolated), true),
+        ("cgroup.type", Setting::Role(Role::Member), false),
+        ("cpu.pressure", trigger(1, 1), true),
+        ("cpu.pressure", trigger(2, 1), false),
+        ("cpu.pressure", trigger(0, 1), false),
+        ("cpu.pressure", trigger(1, 10000001), false),
     ];
     for (name, setting, wanted) in &rows {
         let fits = is_setting_of(name, setting)?;
@@ -222,12 +260,23 @@ fn target_of(major: u32) -> Setting {
     }
 }
 
+/// A weight of a device, or none.
+fn weight_of(major: u32, weight: Option<u64>) -> Setting {
+    Setting::DeviceWeight {
+        device: Device { major, minor: 0 },
+        weight,
+    }
+}
+
 #[test]
 fn settings_of_devices_fit(rt: HostRuntime) -> Result<(), Fail> {
     let rows = [
         ("io.max", read_limit(Some(Limit::At(1))), true),
         ("io.max", read_limit(Some(Limit::At(0))), false),
         ("io.max", read_limit(None), false),
+        ("io.weight", weight_of(4095, None), true),
+        ("io.weight", weight_of(4095, Some(10001)), false),
+        ("io.weight", weight_of(4096, Some(1)), false),
         ("io.latency", target_of(4095), true),
         ("io.latency", target_of(4096), false),
     ];

@@ -21,8 +21,12 @@
 #[cfg(test)]
 mod calls;
 #[cfg(test)]
+mod decoded;
+#[cfg(test)]
 mod entries;
 mod escape;
+#[cfg(test)]
+mod joined;
 #[cfg(test)]
 mod readers;
 mod row;

@@ -144,17 +144,18 @@ fn state_after(
     Ok((file.takes_line(), file.can_finish(), file.held()))
 }
 
-/// Where a line may begin, where a file may end, and what is held.
+/// Where a line may begin, where a file may end, and what is held: the lengths of all vectors. The last word of a list and
+/// a reason with its closing parenthesis stay with their tokens until the value is taken.
 #[test]
 fn states_of_files(rt: HostRuntime) -> Result<(), Fail> {
-    let rows: [(&[u8], &[u8], bool, bool, u64); 15] = [
+    let rows: [(&[u8], &[u8], bool, bool, u64); 22] = [
         (b"cpu.weight", b"", true, false, 0),
         (b"cpu.weight", b"1", false, false, 0),
         (b"cpu.weight", b"10000", false, false, 0),
         (b"cpu.weight", b"10000\n", false, true, 0),
         (b"cgroup.procs", b"", true, true, 0),
         (b"cgroup.controllers", b"", true, true, 0),
-        (b"cgroup.controllers", b"cpu io\n", false, true, 7),
+        (b"cgroup.controllers", b"cpu io\n", false, true, 6),
         (b"cpuset.cpus", b"0-3,5\n", false, true, 2),
         (b"memory.stat", b"", true, true, 0),
         (b"memory.stat", b"ab", false, false, 2),
@@ -163,11 +164,24 @@ fn states_of_files(rt: HostRuntime) -> Result<(), Fail> {
         (b"hugetlb.2MB.max", b"ab\n\nc", false, false, 5),
         (b"hugetlb.2MB.max", b"ab\n", true, true, 3),
         (b"cpu.pressure", b"", true, false, 0),
+        (b"cgroup.procs", b"7\n0\n", true, true, 2),
+        (b"cgroup.procs", b"7\n0", false, false, 1),
+        (b"io.stat", b"8:0 ab", false, false, 2),
+        (b"io.stat", b"8:0 ab=", false, false, 3),
+        (b"io.stat", b"8:0 ab=1\n", true, true, 4),
+        (b"io.weight", b"default 1\n8:0 1\n", true, true, 1),
+        (
+            b"cpuset.cpus.partition",
+            b"root invalid (ab)\n",
+            false,
+            true,
+            3,
+        ),
     ];
-    for (name, bytes, takes_line, can_finish, most) in rows {
+    for (name, bytes, takes_line, can_finish, wanted) in rows {
         let (takes, can, held) = state_after(&rt, rt.alloc(), name, bytes)?;
         assert!(rt; takes == takes_line && can == can_finish, "{bytes:?}");
-        assert!(rt; held <= most, "{bytes:?} {held}");
+        assert_eq!(rt; held, wanted, "{bytes:?}");
     }
     Ok(())
 }

@@ -1,10 +1,8 @@
 -- How the list of the kinds grows by a line.
-use Rattle.std.proofs.Common.{◌≡◌, ℕ, ◌+◌, ◌<◌, ◌≤◌, Bool, true, false, List, [], ◌∷◌, ◌++◌, take, length, get_or, nat_lt, drop, drop-cons, take-append-drop, suc, refl, sym, ap, ◌∙◌, append_assoc, append-nil, arith, ltb-true, length-append, true≢false}
+use Rattle.std.proofs.Common.{◌≡◌, ℕ, ◌+◌, ◌<◌, ◌≤◌, List, [], ◌∷◌, ◌++◌, take, length, get_or, drop, drop-cons, take-append-drop, suc, refl, sym, ap, ◌∙◌, append_assoc, append-nil, arith, length-append}
 use Rattle.std.proofs.lemmas.List.{get_or-map, length-map, take_more, take_all, take-append-le}
-use Rattle.std.proofs.lemmas.List.Folds.{list_all_at}
 use Rattle.std.proofs.Math.Seq.{take-append-add}
-use Rattle.std.specs.List.{list_all}
-use Rattle.cg_value.specs.TableRows.{table_name_at}
+use Rattle.cg_value.specs.TableRows.{table_name_at, table_names}
 use Rattle.cg_value.specs.declared.profile.Profile.{Profile}
 use Rattle.cg_value.specs.declared.profile.Profile.TheVariants.{One, Two}
 use Rattle.cg_run.specs.Kinds.{kinds_line, kinds_lines, names}
@@ -14,26 +12,15 @@ same_names : (profile : Profile) → names profile ≡ names One
 same_names One = refl
 same_names Two = refl
 
-names_count : (profile : Profile) → length (names profile) ≡ 60
+names_count : (profile : Profile) → length (names profile) ≡ length table_names
 names_count One = refl
 names_count Two = refl
 
-all_short : list_all (λ name. nat_lt (length name) 41) (names One) ≡ true
-all_short = refl
-
--- A name of the table has at most 40 bytes.
-pub name_short : (place : ℕ) → place < 60 → length (table_name_at place) ≤ 40
-name_short place within = go (nat_lt (length (table_name_at place)) 41) refl
-  where
-    go : (b : Bool) → nat_lt (length (table_name_at place)) 41 ≡ b → length (table_name_at place) ≤ 40
-    go true e = let short = ltb-true _ _ e in omega (arith, short)
-    go false e = absurd (true≢false (sym all_short ∙ list_all_at (λ name. nat_lt (length name) 41) (names One) place [] within e))
-
-pub lines_count : (profile : Profile) → length (kinds_lines profile) ≡ 60
+pub lines_count : (profile : Profile) → length (kinds_lines profile) ≡ length table_names
 unfolding kinds_lines
 lines_count profile = length-map (names profile) (λ name. kinds_line profile name) ∙ names_count profile
 
-line_at : (profile : Profile) (place : ℕ) → place < 60 → get_or (kinds_lines profile) place [] ≡ kinds_line profile (table_name_at place)
+line_at : (profile : Profile) (place : ℕ) → place < length table_names → get_or (kinds_lines profile) place [] ≡ kinds_line profile (table_name_at place)
 unfolding kinds_lines
 line_at profile place within =
     get_or-map (λ name. kinds_line profile name) (names profile) place [] [] (omega (arith, within, names_count profile))
@@ -49,24 +36,24 @@ joined_append (x ∷ xs) ys = ap (λ t. x ++ t) (joined_append xs ys) ∙ sym (a
 
 module _ (profile : Profile) (place : ℕ) where
   -- The lines before the place, and one more.
-  pub lines_more : place < 60 → joined (take (place + 1) (kinds_lines profile)) ≡ joined (take place (kinds_lines profile)) ++ kinds_line profile (table_name_at place)
+  pub lines_more : place < length table_names → joined (take (place + 1) (kinds_lines profile)) ≡ joined (take place (kinds_lines profile)) ++ kinds_line profile (table_name_at place)
   lines_more within =
       ap joined (take_more (kinds_lines profile) place [] (omega (arith, within, lines_count profile)))
       ∙ joined_more (take place (kinds_lines profile)) (get_or (kinds_lines profile) place [])
       ∙ ap (λ t. joined (take place (kinds_lines profile)) ++ t) (line_at profile place within)
 
   -- After the last place they are all.
-  pub lines_all : 60 ≤ place → joined (take place (kinds_lines profile)) ≡ joined (kinds_lines profile)
+  pub lines_all : length table_names ≤ place → joined (take place (kinds_lines profile)) ≡ joined (kinds_lines profile)
   lines_all done = ap joined (take_all place (kinds_lines profile) (omega (arith, done, lines_count profile)))
 
-  lines_split : place < 60 → joined (kinds_lines profile) ≡ joined (take place (kinds_lines profile)) ++ (kinds_line profile (table_name_at place) ++ joined (drop (suc place) (kinds_lines profile)))
+  lines_split : place < length table_names → joined (kinds_lines profile) ≡ joined (take place (kinds_lines profile)) ++ (kinds_line profile (table_name_at place) ++ joined (drop (suc place) (kinds_lines profile)))
   lines_split within =
       let ls = kinds_lines profile in
       let next : drop place ls ≡ kinds_line profile (table_name_at place) ∷ drop (suc place) ls = drop-cons ls place [] (omega (arith, within, lines_count profile)) ∙ ap (λ t. t ∷ drop (suc place) ls) (line_at profile place within) in
       ap joined (sym (take-append-drop place ls)) ∙ joined_append (take place ls) (drop place ls) ∙ ap (λ t. joined (take place ls) ++ joined t) next
 
   -- The lines before the place, and the first bytes of its own, are the first bytes of all.
-  module _ (n : ℕ) (within : place < 60) (part : n ≤ length (kinds_line profile (table_name_at place))) where
+  module _ (n : ℕ) (within : place < length table_names) (part : n ≤ length (kinds_line profile (table_name_at place))) where
     pub first_bytes : take (length (joined (take place (kinds_lines profile))) + n) (joined (kinds_lines profile)) ≡ joined (take place (kinds_lines profile)) ++ take n (kinds_line profile (table_name_at place))
     first_bytes =
         let front = joined (take place (kinds_lines profile)) in

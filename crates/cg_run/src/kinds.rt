@@ -2,6 +2,7 @@
 ghost use Rattle.std.specs.Prelude.{◌≡◌, ◌≤◌, length};
 ghost use Rattle.cg_value.specs.Kind.{read_word, write_word};
 ghost use Rattle.cg_value.specs.Table.{read_form_of, write_form_of};
+ghost use Rattle.cg_value.specs.TableRows.{longest, table_names};
 ghost use Rattle.cg_run.specs.Kinds.{word_or_dash, kinds_line, kinds_lines};
 ghost use Rattle.cg_run.specs.Run.{Wrote, joined};
 
@@ -34,7 +35,7 @@ fn write_word_of(profile: Profile, name: &[u8]) -> &'static [u8]
 
 /// The line of a file's name.
 fn line_of(profile: Profile, name: &[u8]) -> Line
-    requires { length name.now ≤ 40 }
+    requires { length name.now ≤ longest table_names }
     ensures line { result ≡ kinds_line profile name.now }
     ensures short { length result ≤ 80 }
 {

@@ -1,1 +1,13 @@
+pub mod Closed
+pub mod ClosedLaws
+pub mod Laws
+pub mod Plan
+pub mod PlanLaws
+pub mod PlanStop
+pub mod ProfileLaws
+pub mod RowLaws
+pub mod Rows
+pub mod Snap
+pub mod SnapLaws
+pub mod SnapStop
 pub mod Stop

@@ -6,9 +6,9 @@ use Rattle.cg_text.specs.TokenLaws.{bytes_append}
 use Rattle.cg_text.specs.Decimal.{AreDigits, IsDecimal}
 use Rattle.cg_text.specs.DecimalLaws.{number_digits, digits_bytes, IsDecimalRest_completes, IsDecimalRest_one}
 use Rattle.cg_text.specs.Numbers.{IsSet}
-use Rattle.cg_text.specs.RangesState.{front, Cut, after_dash_from, after_comma_from, LowRest, AfterRange, RangesRest, ListRest, begin_of, Begun, number_rest, IsTurn}
-use Rattle.cg_text.specs.declared.list.Turn.{Turn}
-use Rattle.cg_text.specs.declared.list.Turn.TheVariants.{Digit, Dash, Comma, Refused}
+use Rattle.cg_text.specs.RangesState.{front, Cut, after_dash_from, after_comma_from, LowRest, AfterRange, RangesRest, ListRest, begin_of, Begun, number_rest, IsListByte}
+use Rattle.cg_text.specs.declared.list.ListByte.{ListByte}
+use Rattle.cg_text.specs.declared.list.ListByte.TheVariants.{Digit, Dash, Comma, Refused}
 use Rattle.cg_text.specs.declared.decimal.DecimalText.{DecimalText}
 use Rattle.cg_text.specs.declared.decimal.Progress.TheVariants.{Start}
 
@@ -423,7 +423,7 @@ ranges_bytes strict most (Some a) P f (r ∷ rs) text h = cut_bytes (λ x. P x (
 pub rest_bytes : (strict : Bool) (items : List (ℕ × ℕ)) (most : ℕ) (low : Option ℕ) (P : List ℕ → ℕ → Type 0) → ((x : List ℕ) (n : ℕ) → P x n → AreDigits x) → (A : List (ℕ × ℕ) → Type 0) (rest : List ℕ) → ListRest strict items most low P A rest → AreBytes rest
 rest_bytes strict items most low P f A rest h = elim h.2 [ inl k ↦ ranges_bytes strict most low P f h.0 rest k | inr k ↦ rw k.2 tt ]
 
-pub turn_begun : (strict : Bool) (most : ℕ) (low : Option ℕ) (old : DecimalText) (byte : ℕ) (t : Turn) → IsTurn strict most low old byte t → (t ≡ Refused → ⊥) → Begun strict most low (number_rest old) byte
+pub turn_begun : (strict : Bool) (most : ℕ) (low : Option ℕ) (old : DecimalText) (byte : ℕ) (t : ListByte) → IsListByte strict most low old byte t → (t ≡ Refused → ⊥) → Begun strict most low (number_rest old) byte
 turn_begun strict most low old byte (Digit new) h f = let k = IsDecimalRest_completes new.lo new.hi new.progress new.range new.live in inl (k.0, k.1, (h k.0 k.1).0 k.2)
 turn_begun strict most low old byte (Comma end new) h f = inr (inl (h.0, end, h.1, h.2))
 turn_begun strict most low old byte (Dash end new) h f = inr (inr (h.0, h.4, end, h.1, h.2))

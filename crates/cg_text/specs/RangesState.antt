@@ -3,8 +3,8 @@ use Rattle.std.specs.Prelude.{◌≡◌, ℕ, ◌+◌, ◌≤◌, ◌⊎◌, ◌
 use Rattle.cg_text.specs.Decimal.{IsDecimal}
 use Rattle.cg_text.specs.DecimalState.{IsDecimalRest}
 use Rattle.cg_text.specs.declared.decimal.DecimalText.{DecimalText}
-use Rattle.cg_text.specs.declared.list.Turn.{Turn}
-use Rattle.cg_text.specs.declared.list.Turn.TheVariants.{Digit, Dash, Comma, Refused}
+use Rattle.cg_text.specs.declared.list.ListByte.{ListByte}
+use Rattle.cg_text.specs.declared.list.ListByte.TheVariants.{Digit, Dash, Comma, Refused}
 
 -- All but the last.
 abbrev pub front : {X : Type 0} → List X → List X
@@ -60,8 +60,8 @@ abbrev pub number_rest : DecimalText → List ℕ → ℕ → Type 0
 number_rest d rest n = IsDecimalRest d.lo d.hi d.progress rest n
 
 -- What a turn tells of the byte.
-abbrev pub IsTurn : Bool → ℕ → Option ℕ → DecimalText → ℕ → Turn → Type 0
-IsTurn strict most low old byte (Digit new) = (rest : List ℕ) (n : ℕ) → number_rest new rest n ↔ number_rest old (byte ∷ rest) n
-IsTurn strict most low old byte (Comma end new) = (byte ≡ 44) × number_rest old [] end × (after_comma_from strict end ≤ most) × ((rest : List ℕ) (n : ℕ) → number_rest new rest n ↔ IsDecimal (after_comma_from strict end) most n rest)
-IsTurn strict most low old byte (Dash end new) = (byte ≡ 45) × number_rest old [] end × (after_dash_from strict end ≤ most) × ((rest : List ℕ) (n : ℕ) → number_rest new rest n ↔ IsDecimal (after_dash_from strict end) most n rest) × (low ≡ None)
-IsTurn strict most low old byte Refused = Begun strict most low (number_rest old) byte → ⊥
+abbrev pub IsListByte : Bool → ℕ → Option ℕ → DecimalText → ℕ → ListByte → Type 0
+IsListByte strict most low old byte (Digit new) = (rest : List ℕ) (n : ℕ) → number_rest new rest n ↔ number_rest old (byte ∷ rest) n
+IsListByte strict most low old byte (Comma end new) = (byte ≡ 44) × number_rest old [] end × (after_comma_from strict end ≤ most) × ((rest : List ℕ) (n : ℕ) → number_rest new rest n ↔ IsDecimal (after_comma_from strict end) most n rest)
+IsListByte strict most low old byte (Dash end new) = (byte ≡ 45) × number_rest old [] end × (after_dash_from strict end ≤ most) × ((rest : List ℕ) (n : ℕ) → number_rest new rest n ↔ IsDecimal (after_dash_from strict end) most n rest) × (low ≡ None)
+IsListByte strict most low old byte Refused = Begun strict most low (number_rest old) byte → ⊥

@@ -7,12 +7,12 @@ use Rattle.cg_text.specs.Token.{AreBytes}
 use Rattle.cg_text.specs.TokenLaws.{bytes_append}
 use Rattle.cg_text.specs.DecimalLaws.{digits_bytes}
 use Rattle.cg_text.specs.RangesLaws.{split_one, some_decimal, decimal_digits}
-use Rattle.cg_text.specs.TriggerState.{TimesRest, TimesBegun, IsTimesTurn, times_end, IsWithin}
+use Rattle.cg_text.specs.TriggerState.{TimesRest, TimesBegun, IsTimesByte, times_end, IsWithin}
 use Rattle.cg_text.specs.declared.decimal.DecimalText.{DecimalText}
 use Rattle.cg_text.specs.declared.decimal.Progress.TheVariants.{Start}
 use Rattle.cg_text.specs.declared.trigger.Times.{Times}
-use Rattle.cg_text.specs.declared.trigger.TimesTurn.{TimesTurn}
-use Rattle.cg_text.specs.declared.trigger.TimesTurn.TheVariants.{Digit, Space, Refused}
+use Rattle.cg_text.specs.declared.trigger.TimesByte.{TimesByte}
+use Rattle.cg_text.specs.declared.trigger.TimesByte.TheVariants.{Digit, Space, Refused}
 
 heads : (a b : ℕ) (x y : List ℕ) → a ∷ x ≡ b ∷ y → a ≡ b
 heads a b x y e = cc
@@ -73,7 +73,7 @@ begun_times byte (Some a) P w (inl h) = (h.0, record { stall = a; window = h.1 }
 begun_times byte None P w (inr h) = let t = some_decimal h.2 10000000 h.4 in (t.0, record { stall = h.2; window = 10000000 }, ([], t.0, ap (λ x. x ∷ t.0) h.0, h.3, t.1))
 begun_times byte (Some a) P w (inr h) = absurd (let e = h.1 in cc)
 
-pub turn_begins : (byte : ℕ) (stall : Option ℕ) (old : DecimalText) (t : TimesTurn) → IsWithin (number_rest old) → IsTimesTurn stall old byte t → (t ≡ Refused → ⊥) → (text : List ℕ) × (v : Times) × TimesRest stall (number_rest old) (byte ∷ text) v
+pub turn_begins : (byte : ℕ) (stall : Option ℕ) (old : DecimalText) (t : TimesByte) → IsWithin (number_rest old) → IsTimesByte stall old byte t → (t ≡ Refused → ⊥) → (text : List ℕ) × (v : Times) × TimesRest stall (number_rest old) (byte ∷ text) v
 turn_begins byte stall old (Digit new) w h f =
     let k = IsDecimalRest_completes new.lo new.hi new.progress new.range new.live in
     begun_times byte stall (number_rest old) w (inl (k.0, k.1, (h k.0 k.1).0 k.2))

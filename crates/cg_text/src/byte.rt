@@ -33,7 +33,7 @@ impl Token for ByteText {
 
     ghost size = { λ _. 0 };
 
-    ghost weight = { λ _. 0 };
+    ghost value_size = { λ _. 0 };
 
     ghost ends = { λ s. s.taken };
 
@@ -62,7 +62,7 @@ impl Token for ByteText {
 
     fn take(self) {}
 
-    fn weight_of(_value: &()) -> u64 {
+    fn held_in(_value: &()) -> u64 {
         0
     }
 

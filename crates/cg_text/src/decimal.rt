@@ -97,7 +97,7 @@ impl Token for DecimalText {
 
     ghost size = { λ _. 0 };
 
-    ghost weight = { λ _. 0 };
+    ghost value_size = { λ _. 0 };
 
     ghost ends = { λ s. decimal_ends s.lo s.hi s.progress };
 
@@ -139,7 +139,7 @@ impl Token for DecimalText {
         }
     }
 
-    fn weight_of(_value: &u64) -> u64 {
+    fn held_in(_value: &u64) -> u64 {
         0
     }
 

@@ -35,7 +35,7 @@ impl Token for FixedText {
 
     ghost size = { λ _. 0 };
 
-    ghost weight = { λ _. 0 };
+    ghost value_size = { λ _. 0 };
 
     ghost ends = { λ s. nat_eq s.at (length s.text.now) };
 
@@ -64,7 +64,7 @@ impl Token for FixedText {
 
     fn take(self) {}
 
-    fn weight_of(_value: &()) -> u64 {
+    fn held_in(_value: &()) -> u64 {
         0
     }
 

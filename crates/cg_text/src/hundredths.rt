@@ -148,7 +148,7 @@ impl Token for HundredthsText {
 
     ghost size = { λ _. 0 };
 
-    ghost weight = { λ _. 0 };
+    ghost value_size = { λ _. 0 };
 
     ghost ends = { λ s. hundredths_ends s.form s.most s.part };
 
@@ -196,7 +196,7 @@ impl Token for HundredthsText {
         Hundredths { count }
     }
 
-    fn weight_of(_value: &Hundredths) -> u64 {
+    fn held_in(_value: &Hundredths) -> u64 {
         0
     }
 

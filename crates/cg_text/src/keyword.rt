@@ -120,7 +120,7 @@ impl Token for KeywordText {
 
     ghost size = { λ _. 0 };
 
-    ghost weight = { λ _. 0 };
+    ghost value_size = { λ _. 0 };
 
     ghost ends = { λ s. nat_eq s.at (length (text_of s.keyword)) };
 
@@ -151,7 +151,7 @@ impl Token for KeywordText {
 
     fn take(self) {}
 
-    fn weight_of(_value: &()) -> u64 {
+    fn held_in(_value: &()) -> u64 {
         0
     }
 

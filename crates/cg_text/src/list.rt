@@ -3,7 +3,7 @@ ghost use Rattle.std.specs.Prelude.{◌≡◌, ℕ, ◌+◌, ◌≤◌, ◌<◌,
 ghost use Rattle.cg_text.specs.Token.{Spells};
 ghost use Rattle.cg_text.specs.List.{IsStrictList};
 ghost use Rattle.cg_text.specs.ListState.{IsListRest, IsSound};
-ghost use Rattle.cg_text.specs.RangesState.{front, IsTurn, after_comma_from, after_dash_from, number_rest};
+ghost use Rattle.cg_text.specs.RangesState.{front, IsListByte, after_comma_from, after_dash_from, number_rest};
 ghost use Rattle.cg_text.specs.DecimalState.{decimal_ends};
 ghost use Rattle.cg_text.specs.ListLaws.{IsSound_prop};
 
@@ -29,7 +29,7 @@ pub struct StrictListText {
 
 /// What a byte does.
 #[derive(Clone, Copy, Drop)]
-pub(crate) enum Turn {
+pub(crate) enum ListByte {
     Digit(DecimalText),
     Comma(u64, DecimalText),
     Dash(u64, DecimalText),
@@ -53,41 +53,41 @@ fn after_dash_from(strict: bool, end: u64) -> u64
 }
 
 /// What the byte does to a list with this number at hand. In a strict list ranges come in order, at least 2 apart, and a pair's ends differ.
-pub(crate) fn turn_of(
+pub(crate) fn list_byte(
     strict: bool,
     most: u64,
     low: Option<u32>,
     number: DecimalText,
     byte: u8,
-) -> Turn
+) -> ListByte
     requires small { most ≤ 4294967295 }
     requires within { (rest : List ℕ) (n : ℕ) → number_rest number rest n → n ≤ most }
-    ensures turn { IsTurn strict most low number byte result }
+    ensures turn { IsListByte strict most low number byte result }
 {
     let mut next = number;
     match next.step(byte) {
-        Ok(true) => return Turn::Digit(next),
+        Ok(true) => return ListByte::Digit(next),
         Ok(false) => {}
         Err(_) => unreachable!(),
     }
     if !number.can_end() {
-        return Turn::Refused;
+        return ListByte::Refused;
     }
     let end = number.take();
     if byte == b',' {
         return match DecimalText::new(after_comma_from(strict, end), most) {
-            Some(next) => Turn::Comma(end, next),
-            None => Turn::Refused,
+            Some(next) => ListByte::Comma(end, next),
+            None => ListByte::Refused,
         };
     }
     if byte != b'-' {
-        return Turn::Refused;
+        return ListByte::Refused;
     }
     match low {
-        Some(_) => Turn::Refused,
+        Some(_) => ListByte::Refused,
         None => match DecimalText::new(after_dash_from(strict, end), most) {
-            Some(next) => Turn::Dash(end, next),
-            None => Turn::Refused,
+            Some(next) => ListByte::Dash(end, next),
+            None => ListByte::Refused,
         },
     }
 }
@@ -162,22 +162,22 @@ impl Token for StrictListText {
 
     ghost size = { λ s. length s.ranges.items };
 
-    ghost weight = { length };
+    ghost value_size = { length };
 
     ghost ends = { λ s. nat_eq (length s.ranges.items) 0 || decimal_ends s.number.lo s.number.hi s.number.progress };
 
     ghost grows = { true };
 
     fn step(&mut self, byte: u8) -> Result<bool, OutOfMemory> {
-        match turn_of(true, self.most, self.low, self.number, byte) {
-            Turn::Digit(number) => match open(&mut self.ranges) {
+        match list_byte(true, self.most, self.low, self.number, byte) {
+            ListByte::Digit(number) => match open(&mut self.ranges) {
                 Ok(()) => {
                     self.number = number;
                     Ok(true)
                 }
                 Err(e) => Err(e),
             },
-            Turn::Comma(end, number) => {
+            ListByte::Comma(end, number) => {
                 let begin = match self.low {
                     Some(low) => low,
                     None => end as u32,
@@ -191,18 +191,18 @@ impl Token for StrictListText {
                     Err(e) => Err(e),
                 }
             }
-            Turn::Dash(end, number) => {
+            ListByte::Dash(end, number) => {
                 self.low = Some(end as u32);
                 self.number = number;
                 Ok(true)
             }
-            Turn::Refused => Ok(false),
+            ListByte::Refused => Ok(false),
         }
     }
 
     fn allows(&self, byte: u8) -> bool {
-        match turn_of(true, self.most, self.low, self.number, byte) {
-            Turn::Refused => false,
+        match list_byte(true, self.most, self.low, self.number, byte) {
+            ListByte::Refused => false,
             _ => true,
         }
     }
@@ -230,7 +230,7 @@ impl Token for StrictListText {
         NumberSet { ranges }
     }
 
-    fn weight_of(value: &NumberSet) -> u64 {
+    fn held_in(value: &NumberSet) -> u64 {
         value.ranges.len() as u64
     }
 

@@ -10,7 +10,7 @@ ghost use Rattle.cg_text.specs.DecimalState.{decimal_ends};
 ghost use Rattle.cg_text.specs.LooseSound.{set_prop, sound_prop};
 
 use crate::decimal::DecimalText;
-use crate::list::{Turn, open, turn_of};
+use crate::list::{ListByte, list_byte, open};
 use crate::memory::OutOfMemory;
 use crate::numbers::{NumberSet, insert_into};
 use crate::token::Token;
@@ -96,22 +96,22 @@ impl Token for LooseListText {
 
     ghost size = { λ s. length s.ranges.items };
 
-    ghost weight = { length };
+    ghost value_size = { length };
 
     ghost ends = { λ s. nat_eq (length s.ranges.items) 0 || decimal_ends s.number.lo s.number.hi s.number.progress };
 
     ghost grows = { true };
 
     fn step(&mut self, byte: u8) -> Result<bool, OutOfMemory> {
-        match turn_of(false, self.most, self.low, self.number, byte) {
-            Turn::Digit(number) => match open(&mut self.ranges) {
+        match list_byte(false, self.most, self.low, self.number, byte) {
+            ListByte::Digit(number) => match open(&mut self.ranges) {
                 Ok(()) => {
                     self.number = number;
                     Ok(true)
                 }
                 Err(e) => Err(e),
             },
-            Turn::Comma(end, number) => {
+            ListByte::Comma(end, number) => {
                 let begin = match self.low {
                     Some(low) => low,
                     None => end as u32,
@@ -125,18 +125,18 @@ impl Token for LooseListText {
                     Err(e) => Err(e),
                 }
             }
-            Turn::Dash(end, number) => {
+            ListByte::Dash(end, number) => {
                 self.low = Some(end as u32);
                 self.number = number;
                 Ok(true)
             }
-            Turn::Refused => Ok(false),
+            ListByte::Refused => Ok(false),
         }
     }
 
     fn allows(&self, byte: u8) -> bool {
-        match turn_of(false, self.most, self.low, self.number, byte) {
-            Turn::Refused => false,
+        match list_byte(false, self.most, self.low, self.number, byte) {
+            ListByte::Refused => false,
             _ => true,
         }
     }
@@ -164,7 +164,7 @@ impl Token for LooseListText {
         NumberSet { ranges }
     }
 
-    fn weight_of(value: &NumberSet) -> u64 {
+    fn held_in(value: &NumberSet) -> u64 {
         value.ranges.len() as u64
     }
 

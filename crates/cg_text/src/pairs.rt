@@ -300,7 +300,7 @@ impl Token for LimitPairsText {
 
     ghost size = { λ _. 0 };
 
-    ghost weight = { λ _. 0 };
+    ghost value_size = { λ _. 0 };
 
     ghost ends = { λ s. limits_end s.part };
 
@@ -342,7 +342,7 @@ impl Token for LimitPairsText {
         }
     }
 
-    fn weight_of(_value: &LimitPairs) -> u64 {
+    fn held_in(_value: &LimitPairs) -> u64 {
         0
     }
 

@@ -46,7 +46,7 @@ impl Token for RawText {
 
     ghost size = { λ s. length s.bytes.items };
 
-    ghost weight = { length };
+    ghost value_size = { length };
 
     ghost ends = { λ _. true };
 
@@ -78,7 +78,7 @@ impl Token for RawText {
         Items::of(self.bytes)
     }
 
-    fn weight_of(value: &Items<u8>) -> u64 {
+    fn held_in(value: &Items<u8>) -> u64 {
         value.as_slice().len() as u64
     }
 

@@ -40,7 +40,7 @@ impl Token for ReasonText {
 
     ghost size = { λ s. length s.bytes.items };
 
-    ghost weight = { length };
+    ghost value_size = { length };
 
     ghost ends = { λ s. is_closed s.bytes.items };
 
@@ -74,7 +74,7 @@ impl Token for ReasonText {
         Items::of(bytes)
     }
 
-    fn weight_of(value: &Items<u8>) -> u64 {
+    fn held_in(value: &Items<u8>) -> u64 {
         value.as_slice().len() as u64
     }
 

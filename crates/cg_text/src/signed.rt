@@ -104,7 +104,7 @@ impl Token for SignedText {
 
     ghost size = { λ _. 0 };
 
-    ghost weight = { λ _. 0 };
+    ghost value_size = { λ _. 0 };
 
     ghost ends = { λ s. signed_ends s.taken };
 
@@ -151,7 +151,7 @@ impl Token for SignedText {
         }
     }
 
-    fn weight_of(_value: &i64) -> u64 {
+    fn held_in(_value: &i64) -> u64 {
         0
     }
 

@@ -99,7 +99,7 @@ impl Token for SizeText {
 
     ghost size = { λ _. 0 };
 
-    ghost weight = { λ _. 0 };
+    ghost value_size = { λ _. 0 };
 
     ghost ends = { λ s. size_ends s.taken };
 
@@ -140,7 +140,7 @@ impl Token for SizeText {
         }
     }
 
-    fn weight_of(_value: &u64) -> u64 {
+    fn held_in(_value: &u64) -> u64 {
         0
     }
 

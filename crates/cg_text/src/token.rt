@@ -4,7 +4,7 @@ ghost use Rattle.cg_text.specs.Token.{Follows, Begins, NoneBegins, Ends, Same, C
 
 use crate::memory::OutOfMemory;
 
-/// A machine that takes the text of one value, a byte at a time.
+/// A token: it takes the text of one value, a byte at a time, and gives what the text spells.
 pub trait Token: Drop {
     type Out: Drop;
 
@@ -15,7 +15,7 @@ pub trait Token: Drop {
     ghost size: { Self → ℕ };
 
     /// The sum of the lengths of the vectors in a value.
-    ghost weight: { Self.Out → ℕ };
+    ghost value_size: { Self.Out → ℕ };
 
     /// Whether nothing need follow a state.
     ghost ends: { Self → Bool };
@@ -65,9 +65,9 @@ pub trait Token: Drop {
     fn take(self) -> Self::Out
         requires { IsTrue (ends self) }
         ensures value { means self [] result }
-        ensures weight { weight result ≤ size self };
+        ensures value_size { value_size result ≤ size self };
 
     /// The sum of the lengths of the vectors in a value.
-    fn weight_of(value: &Self::Out) -> u64
-        ensures { result ≡ told (weight value.now) };
+    fn held_in(value: &Self::Out) -> u64
+        ensures { result ≡ told (value_size value.now) };
 }

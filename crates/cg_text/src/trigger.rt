@@ -3,7 +3,7 @@ ghost use Rattle.std.specs.Prelude.{◌≡◌, ℕ, ◌+◌, ◌≤◌, ◌<◌,
 ghost use Rattle.cg_text.specs.Token.{Spells};
 ghost use Rattle.cg_text.specs.Trigger.{AreTimes};
 ghost use Rattle.cg_text.specs.RangesState.{number_rest};
-ghost use Rattle.cg_text.specs.TriggerState.{TimesRest, IsTimesTurn, times_end, IsWithin};
+ghost use Rattle.cg_text.specs.TriggerState.{TimesRest, IsTimesByte, times_end, IsWithin};
 ghost use Rattle.cg_text.specs.DecimalState.{decimal_ends};
 
 use crate::decimal::DecimalText;
@@ -31,7 +31,7 @@ pub struct TriggerText {
 
 /// What a byte does.
 #[derive(Clone, Copy, Drop)]
-enum TimesTurn {
+enum TimesByte {
     Digit(DecimalText),
     Space(u64, DecimalText),
     Refused,
@@ -53,27 +53,27 @@ impl TriggerText {
     }
 
     /// What the byte does.
-    fn turn(&self, byte: u8) -> TimesTurn
-        ensures turn { IsTimesTurn self.now.stall self.now.number byte result }
+    fn turn(&self, byte: u8) -> TimesByte
+        ensures turn { IsTimesByte self.now.stall self.now.number byte result }
     {
         let mut number = self.number;
         match number.step(byte) {
-            Ok(true) => return TimesTurn::Digit(number),
+            Ok(true) => return TimesByte::Digit(number),
             Ok(false) => {}
             Err(_) => unreachable!(),
         }
         if byte != b' ' {
-            return TimesTurn::Refused;
+            return TimesByte::Refused;
         }
         if !self.number.can_end() {
-            return TimesTurn::Refused;
+            return TimesByte::Refused;
         }
         let stall = self.number.take();
         match self.stall {
-            Some(_) => TimesTurn::Refused,
+            Some(_) => TimesByte::Refused,
             None => match DecimalText::new(stall, LONGEST) {
-                Some(number) => TimesTurn::Space(stall, number),
-                None => TimesTurn::Refused,
+                Some(number) => TimesByte::Space(stall, number),
+                None => TimesByte::Refused,
             },
         }
     }
@@ -89,7 +89,7 @@ impl Token for TriggerText {
 
     ghost size = { λ _. 0 };
 
-    ghost weight = { λ _. 0 };
+    ghost value_size = { λ _. 0 };
 
     ghost ends = { λ s. times_end s.stall (decimal_ends s.number.lo s.number.hi s.number.progress) };
 
@@ -97,22 +97,22 @@ impl Token for TriggerText {
 
     fn step(&mut self, byte: u8) -> Result<bool, OutOfMemory> {
         match self.turn(byte) {
-            TimesTurn::Digit(number) => {
+            TimesByte::Digit(number) => {
                 self.number = number;
                 Ok(true)
             }
-            TimesTurn::Space(stall, number) => {
+            TimesByte::Space(stall, number) => {
                 self.stall = Some(stall);
                 self.number = number;
                 Ok(true)
             }
-            TimesTurn::Refused => Ok(false),
+            TimesByte::Refused => Ok(false),
         }
     }
 
     fn allows(&self, byte: u8) -> bool {
         match self.turn(byte) {
-            TimesTurn::Refused => false,
+            TimesByte::Refused => false,
             _ => true,
         }
     }
@@ -138,7 +138,7 @@ impl Token for TriggerText {
         }
     }
 
-    fn weight_of(_value: &Times) -> u64 {
+    fn held_in(_value: &Times) -> u64 {
         0
     }
 

@@ -64,7 +64,7 @@ impl Token for WordText {
 
     ghost size = { λ s. length s.bytes.items };
 
-    ghost weight = { length };
+    ghost value_size = { length };
 
     ghost ends = { λ s. nat_lt 0 (length s.bytes.items) };
 
@@ -96,7 +96,7 @@ impl Token for WordText {
         Key::of(self.bytes)
     }
 
-    fn weight_of(value: &Key) -> u64 {
+    fn held_in(value: &Key) -> u64 {
         value.bytes().len() as u64
     }
 

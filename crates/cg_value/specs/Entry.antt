@@ -1,6 +1,5 @@
 -- Entries of a snapshot and items of a plan: a path with what its file holds, or with what is to be written to it.
-use Rattle.std.specs.Prelude.{◌≡◌, ◌≢◌, ℕ, ◌<◌, List, [], ◌∷◌, ◌++◌, length, Option, Some, None}
-use Rattle.cg_text.specs.Texts.{Lacks}
+use Rattle.std.specs.Prelude.{◌≡◌, ◌≢◌, ℕ, ◌<◌, List, [], ◌∷◌, ◌++◌, All, Option, Some}
 use Rattle.cg_value.specs.Files.{Fits}
 use Rattle.cg_value.specs.Path.{IsNameOf}
 use Rattle.cg_value.specs.Print.{print_lines}
@@ -12,23 +11,17 @@ use Rattle.cg_value.specs.declared.profile.Profile.{Profile}
 use Rattle.cg_value.specs.declared.setting.Setting.{Setting}
 use Rattle.cg_value.specs.declared.value.Value.{Value}
 
--- One or more bytes, none of them NUL or a newline, the last of them no '/'.
+-- A byte that is neither NUL nor a newline.
+abbrev pub IsPathByte : ℕ → Type 0
+IsPathByte byte = (0 < byte) × (byte < 256) × (byte ≢ 10)
+
+-- One or more such bytes, the last of them no '/'.
 pub record IsPath (path : List ℕ) : Type 0 where
-  pub no_nul : Lacks 0 path
-  pub no_newline : Lacks 10 path
+  pub bytes : All IsPathByte path
   pub front : List ℕ
   pub last : ℕ
   pub ends : path ≡ front ++ last ∷ []
   pub named : last ≢ 47
-
--- What contracts see of an entry and of an item.
-pub record EntryData : Type 0 where
-  pub path : List ℕ
-  pub value : Value
-
-pub record ItemData : Type 0 where
-  pub path : List ℕ
-  pub setting : Setting
 
 -- What a file at the path holds when it is read, none where it can't be.
 pub record ReadsAt (profile : Profile) (path : List ℕ) (form : Option ReadForm) : Type 0 where
@@ -55,3 +48,21 @@ pub record IsItem (profile : Profile) (path : List ℕ) (s : Setting) : Type 0 w
   pub kind : WriteForm
   pub writes : WritesAt profile path (Some kind)
   pub fits : FitsWrite kind s
+
+-- The parts are an entry, or an item, of some profile. Its truncation says that there is one.
+abbrev pub IsSomeEntry : List ℕ → Value → Type 0
+IsSomeEntry path v = ∥ ((profile : Profile) × IsEntry profile path v) ∥₁
+
+abbrev pub IsSomeItem : List ℕ → Setting → Type 0
+IsSomeItem path s = ∥ ((profile : Profile) × IsItem profile path s) ∥₁
+
+-- What contracts see of an entry and of an item: their parts, and that these fit, whoever made it.
+pub record EntryData : Type 0 where
+  pub path : List ℕ
+  pub value : Value
+  pub fits : IsSomeEntry path value
+
+pub record ItemData : Type 0 where
+  pub path : List ℕ
+  pub setting : Setting
+  pub fits : IsSomeItem path setting

@@ -1,4 +1,5 @@
 pub mod Entry
+pub mod EntryLaws
 pub mod EntryRefusal
 pub mod Files
 pub mod FirstLineLaws
@@ -38,7 +39,7 @@ pub mod SpelledLaws
 pub mod Table
 pub mod TableLaws
 pub mod TableRows
-pub mod Weight
+pub mod Held
 pub mod WholeLinesLaws
 pub mod Within
 pub mod WriteLine

@@ -1,5 +1,5 @@
 -- The examples of what may follow hold.
-use Rattle.std.proofs.Common.{◌≡◌, ℕ, ◌+◌, ◌-◌, ◌*◌, ◌<◌, ◌≤◌, ◌⊎◌, ◌↔◌, inl, inr, Bool, true, false, ◌++◌, ◌∷◌, [], List, codes, Option, Some, None, refl, sym, subst, ◌∙◌, ap, append_assoc, arith, nat_le, ◌&&◌, leb-true}
+use Rattle.std.proofs.Common.{◌≡◌, ℕ, ◌+◌, ◌-◌, ◌*◌, ◌≤◌, ◌⊎◌, inl, inr, Bool, true, false, ◌++◌, ◌∷◌, [], List, codes, Option, Some, None, refl, sym, subst, ◌∙◌, ap, append_assoc, arith, nat_le, ◌&&◌, leb-true}
 use Rattle.std.proofs.lemmas.Bool.{and_parts}
 use Rattle.std.specs.List.{list_all}
 use native.Mathlib.Decide.{dec_lt}
@@ -8,14 +8,14 @@ use Rattle.cg_text.specs.Decimal.{IsNumeral, IsDecimal}
 use Rattle.cg_text.specs.Limit.{IsLimit}
 use Rattle.cg_text.specs.KeywordLaws.{tested_lacks}
 use Rattle.cg_text.specs.List.{IsRangeText, AreRangeTexts, IsStrictList}
-use Rattle.cg_text.specs.ListFacts.{not_nil, heads, tails}
+use Rattle.cg_text.specs.ListFacts.{not_nil, heads}
 use Rattle.cg_text.specs.NumeralLaws.{numeral_one_text}
-use Rattle.cg_text.specs.Texts.{Lacks, Viable, Next}
+use Rattle.cg_text.specs.Texts.{Lacks, Next}
 use Rattle.cg_text.specs.TextsLaws.{lacks_inside}
 use Rattle.cg_text.specs.declared.trigger.Times.{Times}
 use Rattle.cg_text.specs.declared.values.Limit.{Limit}
 use Rattle.cg_text.specs.declared.values.Limit.TheVariants.{Max, At}
-use Rattle.cg_value.specs.Files.{FileText, File}
+use Rattle.cg_value.specs.Files.{File}
 use Rattle.cg_value.specs.Kind.{any_u64}
 use Rattle.cg_value.specs.RefusedRowLaws.{comma_parts, dash_parts, comma_none, set_file, ranges_least}
 use Rattle.cg_value.specs.RowBegins.{next_read, next_written, begins_part, stripped, dead_decimal, read_on_least, marked, between, numeral_lacks, numeral_value}
@@ -26,11 +26,10 @@ use Rattle.cg_value.specs.SettingRowLaws.{write, line_of}
 use Rattle.cg_value.specs.SettingRows.{AfterMax, AfterThousand, AfterStall}
 use Rattle.cg_value.specs.Settings.{SettingText, Write}
 use Rattle.cg_value.specs.Table.{read_form_of, write_form_of}
-use Rattle.cg_value.specs.WriteLine.{WriteLine, IsQuota, IsTrigger}
+use Rattle.cg_value.specs.WriteLine.{IsQuota, IsTrigger}
 use Rattle.cg_value.specs.declared.kind.ReadForm.TheVariants as read
 use Rattle.cg_value.specs.declared.kind.WriteForm.TheVariants as form
 use Rattle.cg_value.specs.declared.profile.Profile.TheVariants.{One, Two}
-use Rattle.cg_value.specs.declared.setting.Setting.{Setting}
 use Rattle.cg_value.specs.declared.setting.Setting.TheVariants as setting
 use Rattle.cg_value.specs.declared.value.Value.TheVariants as value
 

@@ -1,6 +1,6 @@
 -- The canonical texts of values and settings, which depend on the value or setting alone. Where a line can be spelled in
 -- one way only, this is that way, in the order of the kinds.
-use Rattle.std.specs.Prelude.{ℕ, ◌+◌, ◌/◌, ◌%◌, Bool, true, false, cond, nat_eq, ℤ, List, [], ◌∷◌, ◌++◌, Option, Some, None, decimal, codes, map}
+use Rattle.std.specs.Prelude.{ℕ, ◌+◌, ◌/◌, ◌%◌, Bool, true, false, cond, nat_eq, List, [], ◌∷◌, ◌++◌, Option, Some, None, decimal, codes, map}
 use Rattle.std.specs.Fmt.{signed_decimal}
 use Rattle.cg_text.specs.declared.values.Amount.{Amount}
 use Rattle.cg_text.specs.declared.values.Amount.TheVariants as amount

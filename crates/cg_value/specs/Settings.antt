@@ -1,5 +1,5 @@
 -- What one write is: a line that spells its setting, and a newline (cgroup-v2.rst, "Interface Files").
-use Rattle.std.specs.Prelude.{◌≡◌, ℕ, List, [], ◌∷◌, ◌++◌, Option, Some}
+use Rattle.std.specs.Prelude.{◌≡◌, ℕ, List, [], ◌∷◌, ◌++◌, Some}
 use Rattle.cg_text.specs.Texts.{TextOf}
 use Rattle.cg_value.specs.Table.{write_form_of}
 use Rattle.cg_value.specs.WriteLine.{WriteLine}

@@ -1,11 +1,11 @@
 -- What holds of the file table.
-use Rattle.std.proofs.Common.{◌≡◌, ℕ, zero, suc, ◌<◌, length, map, slice_index_or, ◌≤◌, List, [], ◌∷◌, Option, Some, None, Bool, true, false, cond, refl, sym, ◌∙◌, ap, ℤ, pos, negsuc, arith, inl, inr}
-use Rattle.std.specs.Prelude.{if◌then◌else◌}
+use Rattle.std.proofs.Common.{◌≡◌, ℕ, zero, suc, ◌<◌, length, map, slice_index_or, ◌≤◌, List, [], ◌∷◌, Option, Some, None, Bool, true, false, cond, refl, sym, ◌∙◌, ap, arith, inl, inr}
+use Rattle.std.specs.Prelude.{if◌then◌else◌, IfSome, MatchOption}
 use Rattle.std.specs.Option.{option_map}
 use Rattle.std.specs.Str.{bytes_eq}
 use Rattle.cg_value.specs.Kind.{IsReadForm, IsWriteForm}
 use Rattle.cg_value.specs.Table.{Row, rows, reads_in, writes_in, read_form_of, write_form_of}
-use Rattle.cg_value.specs.TableRows.{read_in, write_in}
+use Rattle.cg_value.specs.TableRows.{longest, read_in, table_name_at, table_names, write_in}
 use Rattle.cg_value.specs.declared.profile.Profile.{Profile}
 use Rattle.cg_value.specs.declared.profile.Profile.TheVariants.{One, Two}
 use Rattle.cg_value.specs.declared.kind.ReadForm.{ReadForm}
@@ -19,6 +19,17 @@ pub index_map : {X Y : Type 0} (f : X → Y) (xs : List X) (k : ℕ) (d : X) (e 
 index_map f [] k d e h = absurd (omega arith)
 index_map f (x ∷ xs) zero d e h = refl
 index_map f (x ∷ xs) (suc k) d e h = index_map f xs k d e (omega arith)
+
+-- A name is at most as long as the longest.
+pub longest_is : (names : List (List ℕ)) (k : ℕ) → k < length names → length (slice_index_or names k []) ≤ longest names
+longest_is [] k h = absurd (omega (arith, h))
+longest_is (name ∷ names) zero h = omega arith
+longest_is (name ∷ names) (suc k) h = omega (arith, longest_is names k (omega (arith, h)))
+
+-- So is one that was found in the table.
+pub found_short : {X : Type 0} (found : Option X) (now : X → List ℕ) (place : ℕ) → MatchOption found (length table_names ≤ place) (λ name. (place < length table_names) × (now name ≡ table_name_at place)) → IfSome found (λ name. length (now name) ≤ longest table_names)
+found_short None now place row = tt
+found_short (Some name) now place row = rw row.1 (longest_is table_names place row.0)
 
 -- What the first row of the name says both ways.
 abbrev pub forms_in : List Row → List ℕ → Option Forms

@@ -1,5 +1,5 @@
 -- The rows of the code's table.
-use Rattle.std.specs.Prelude.{◌≡◌, ℕ, ◌<◌, ◌≤◌, List, [], ◌∷◌, Option, Some, None, if◌then◌else◌, slice_index_or, map}
+use Rattle.std.specs.Prelude.{ℕ, List, [], ◌∷◌, Option, Some, None, if◌then◌else◌, slice_index_or, map, max, length}
 use Rattle.std.specs.Str.{bytes_eq}
 use Rattle.cg_value.specs.Table.{Row as TableRow, rows}
 use Rattle.cg_value.specs.declared.kind.ReadForm.{ReadForm}
@@ -31,6 +31,14 @@ write_in Two form = form
 abbrev pub names_in : List Row → List (List ℕ)
 names_in rs = map (λ (r : Row). r.name.now) rs
 
--- The name at the place of the table, which both profiles share.
+-- The names of the table, in its order, which both profiles share.
+abbrev pub table_names : List (List ℕ)
+table_names = map (λ (r : TableRow). r.name) (rows One)
+
 abbrev pub table_name_at : ℕ → List ℕ
-table_name_at place = slice_index_or (map (λ (r : TableRow). r.name) (rows One)) place []
+table_name_at place = slice_index_or table_names place []
+
+-- The length of the longest of the names.
+abbrev pub longest : List (List ℕ) → ℕ
+longest [] = 0
+longest (name ∷ names) = max (length name) (longest names)

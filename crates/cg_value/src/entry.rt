@@ -1,8 +1,9 @@
 //! Entries of a snapshot: a path with what its file holds.
-ghost use Rattle.std.specs.Prelude.{◌≡◌, IfOk, IfErr, MatchOption};
-ghost use Rattle.cg_value.specs.Entry.{IsEntry};
+ghost use Rattle.std.specs.Prelude.{◌≡◌, ◌≢◌, [], IfOk, IfErr, MatchOption};
+ghost use Rattle.cg_value.specs.Entry.{IsEntry, IsPath, IsSomeEntry};
 ghost use Rattle.cg_value.specs.EntryRefusal.{IsEntryFault};
 ghost use Rattle.cg_value.specs.Path.{IsNameOf};
+ghost use Rattle.cg_value.specs.Print.{print_lines};
 
 use crate::copied::Copied;
 use crate::path::{is_path, name_of};
@@ -20,6 +21,7 @@ use thiserror::Error;
 pub struct Entry {
     path: Vec<u8>,
     value: Value,
+    ghost fits: { IsSomeEntry path.items value },
 }
 
 impl Model for Entry {
@@ -27,7 +29,7 @@ impl Model for Entry {
 
     ghost Value = { EntryData };
 
-    ghost view = { λ e. record { path = e.path.items; value = e.value } };
+    ghost view = { λ e. record { path = e.path.items; value = e.value; fits = e.fits } };
 }
 
 /// Why a path and a value make no entry: the first that applies.
@@ -79,7 +81,7 @@ fn entry_fault(profile: Profile, path: &[u8], value: &Value) -> Option<EntryFaul
 impl Entry {
     /// The entry of the path and the value. It takes no memory.
     pub fn new(profile: Profile, path: Vec<u8>, value: Value) -> Result<Entry, EntryRefused>
-        ensures ok { IfOk result (λ e. (e ≡ record { path = path.items; value = value }) × IsEntry profile path.items value) }
+        ensures ok { IfOk result (λ e. (e.path ≡ path.items) × (e.value ≡ value) × IsEntry profile path.items value) }
         ensures err { IfErr result (λ r. (r.path.items ≡ path.items) × (r.value ≡ value) × IsEntryFault profile path.items value r.why) }
     {
         match entry_fault(profile, path.as_slice(), &value) {
@@ -90,7 +92,8 @@ impl Entry {
 
     /// The path.
     pub fn path(&self) -> &[u8]
-        ensures { result.now ≡ self.now.path }
+        ensures path { result.now ≡ self.now.path }
+        ensures good { IsPath result.now }
     {
         self.path.as_slice()
     }
@@ -104,7 +107,8 @@ impl Entry {
 
     /// What the file holds.
     pub fn value(&self) -> &Value
-        ensures { result.now ≡ self.now.value }
+        ensures value { result.now ≡ self.now.value }
+        ensures some_line { print_lines result.now ≢ [] }
     {
         &self.value
     }

@@ -1,6 +1,6 @@
 //! Items of a plan: a path with what is to be written to its file.
 ghost use Rattle.std.specs.Prelude.{◌≡◌, IfOk, IfErr, MatchOption};
-ghost use Rattle.cg_value.specs.Entry.{IsItem};
+ghost use Rattle.cg_value.specs.Entry.{IsItem, IsPath, IsSomeItem};
 ghost use Rattle.cg_value.specs.EntryRefusal.{IsItemFault};
 ghost use Rattle.cg_value.specs.Path.{IsNameOf};
 
@@ -17,6 +17,7 @@ use thiserror::Error;
 pub struct PlanItem {
     path: Vec<u8>,
     setting: Setting,
+    ghost fits: { IsSomeItem path.items setting },
 }
 
 impl Model for PlanItem {
@@ -24,7 +25,7 @@ impl Model for PlanItem {
 
     ghost Value = { ItemData };
 
-    ghost view = { λ i. record { path = i.path.items; setting = i.setting } };
+    ghost view = { λ i. record { path = i.path.items; setting = i.setting; fits = i.fits } };
 }
 
 /// Why a path and a setting make no item: the first that applies.
@@ -70,7 +71,7 @@ fn item_fault(profile: Profile, path: &[u8], setting: &Setting) -> Option<ItemFa
 impl PlanItem {
     /// The item of the path and the setting. It takes no memory.
     pub fn new(profile: Profile, path: Vec<u8>, setting: Setting) -> Result<PlanItem, ItemRefused>
-        ensures ok { IfOk result (λ i. (i ≡ record { path = path.items; setting = setting }) × IsItem profile path.items setting) }
+        ensures ok { IfOk result (λ i. (i.path ≡ path.items) × (i.setting ≡ setting) × IsItem profile path.items setting) }
         ensures err { IfErr result (λ r. (r.path.items ≡ path.items) × (r.setting ≡ setting) × IsItemFault profile path.items setting r.why) }
     {
         match item_fault(profile, path.as_slice(), &setting) {
@@ -81,7 +82,8 @@ impl PlanItem {
 
     /// The path.
     pub fn path(&self) -> &[u8]
-        ensures { result.now ≡ self.now.path }
+        ensures path { result.now ≡ self.now.path }
+        ensures good { IsPath result.now }
     {
         self.path.as_slice()
     }

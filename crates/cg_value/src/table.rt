@@ -1,7 +1,7 @@
 //! The file table.
-ghost use Rattle.std.specs.Prelude.{◌≡◌, ◌<◌, ◌≤◌, Some, None, IfOk, OnErr, MatchOption, [], length, slice_index_or};
+ghost use Rattle.std.specs.Prelude.{◌≡◌, ◌<◌, ◌≤◌, Some, None, IfOk, IfSome, OnErr, MatchOption, [], length, slice_index_or};
 ghost use Rattle.cg_value.specs.Table.{read_form_of, write_form_of};
-ghost use Rattle.cg_value.specs.TableRows.{found_in, names_in, read_in, table_name_at, write_in};
+ghost use Rattle.cg_value.specs.TableRows.{found_in, longest, names_in, read_in, table_name_at, table_names, write_in};
 
 use crate::kind::{ReadForm, ReadKind, WriteForm, WriteKind};
 use crate::profile::Profile;
@@ -455,9 +455,10 @@ fn name_at(rows: &[Row], place: usize) -> Option<&'static [u8]>
     }
 }
 
-/// The name at this place of the file table, none from 60 on. It takes no memory.
+/// The name at this place of the file table, none after the last. It takes no memory.
 pub fn table_name(place: usize) -> Option<&'static [u8]>
-    ensures { MatchOption result (60 ≤ place) (λ name. (place < 60) × (name.now ≡ table_name_at place)) }
+    ensures row { MatchOption result (length table_names ≤ place) (λ name. (place < length table_names) × (name.now ≡ table_name_at place)) }
+    ensures short { IfSome result (λ name. length name.now ≤ longest table_names) }
 {
     name_at(&ROWS, place)
 }

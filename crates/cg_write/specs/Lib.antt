@@ -7,7 +7,10 @@ pub mod DeviceLimitsLaws
 pub mod DeviceTargetLaws
 pub mod DeviceWeightLaws
 pub mod FollowedLaws
+pub mod Laws
 pub mod ModeLaws
+pub mod OneSettingLaws
+pub mod OneTextLaws
 pub mod RawLaws
 pub mod ReclaimLaws
 pub mod RoleLaws

@@ -18,7 +18,7 @@ impl Turn<Choice<KeywordText, DecimalText>> for ToChosen {
 
     ghost turned = { chosen_weight };
 
-    ghost weight = { λ _. 0 };
+    ghost value_size = { λ _. 0 };
 
     fn turn(value: Either<(), u64>) -> Option<u64> {
         match value {
@@ -27,7 +27,7 @@ impl Turn<Choice<KeywordText, DecimalText>> for ToChosen {
         }
     }
 
-    fn weight_of(_value: &Option<u64>) -> u64 {
+    fn held_in(_value: &Option<u64>) -> u64 {
         0
     }
 
@@ -62,7 +62,7 @@ impl Token for ChosenText {
 
     ghost size = { λ s. ⟦<Parts as Token>⟧.size s.parts };
 
-    ghost weight = { λ _. 0 };
+    ghost value_size = { λ _. 0 };
 
     ghost ends = { λ s. ⟦<Parts as Token>⟧.ends s.parts };
 
@@ -98,7 +98,7 @@ impl Token for ChosenText {
         self.parts.take()
     }
 
-    fn weight_of(_value: &Option<u64>) -> u64 {
+    fn held_in(_value: &Option<u64>) -> u64 {
         0
     }
 }

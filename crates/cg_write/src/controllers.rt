@@ -34,13 +34,13 @@ impl Turn<Sequence<TogglesText, ByteText>> for ToControllers {
 
     ghost turned = { controllers_setting };
 
-    ghost weight = { λ _. 0 };
+    ghost value_size = { λ _. 0 };
 
     fn turn(value: (Items<Toggle>, ())) -> Setting {
         Setting::Controllers(value.0)
     }
 
-    fn weight_of(_value: &Setting) -> u64 {
+    fn held_in(_value: &Setting) -> u64 {
         0
     }
 
@@ -74,7 +74,7 @@ impl Token for ControllersWrite {
 
     ghost size = { λ s. ⟦<Text as Token>⟧.size s.text };
 
-    ghost weight = { λ _. 0 };
+    ghost value_size = { λ _. 0 };
 
     ghost ends = { λ s. ⟦<Text as Token>⟧.ends s.text };
 
@@ -110,7 +110,7 @@ impl Token for ControllersWrite {
         self.text.take()
     }
 
-    fn weight_of(_value: &Setting) -> u64 {
+    fn held_in(_value: &Setting) -> u64 {
         0
     }
 }

@@ -21,7 +21,7 @@ impl Turn<Sequence<WrittenQuota, ByteText>> for ToCpuMax {
 
     ghost turned = { cpu_max_setting };
 
-    ghost weight = { λ _. 0 };
+    ghost value_size = { λ _. 0 };
 
     fn turn(value: ((Limit, Option<((), u64)>), ())) -> Setting {
         let (quota, period) = value.0;
@@ -31,7 +31,7 @@ impl Turn<Sequence<WrittenQuota, ByteText>> for ToCpuMax {
         }
     }
 
-    fn weight_of(_value: &Setting) -> u64 {
+    fn held_in(_value: &Setting) -> u64 {
         0
     }
 
@@ -65,7 +65,7 @@ impl Token for CpuMaxWrite {
 
     ghost size = { λ s. ⟦<Text as Token>⟧.size s.text };
 
-    ghost weight = { λ _. 0 };
+    ghost value_size = { λ _. 0 };
 
     ghost ends = { λ s. ⟦<Text as Token>⟧.ends s.text };
 
@@ -101,7 +101,7 @@ impl Token for CpuMaxWrite {
         self.text.take()
     }
 
-    fn weight_of(_value: &Setting) -> u64 {
+    fn held_in(_value: &Setting) -> u64 {
         0
     }
 }

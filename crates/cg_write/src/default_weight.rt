@@ -18,7 +18,7 @@ impl Turn<Choice<DecimalText, LabelText<Spaced<DecimalText>>>> for ToDefault {
 
     ghost turned = { default_weight };
 
-    ghost weight = { λ _. 0 };
+    ghost value_size = { λ _. 0 };
 
     fn turn(value: Either<u64, ((), ((), u64))>) -> u64 {
         match value {
@@ -27,7 +27,7 @@ impl Turn<Choice<DecimalText, LabelText<Spaced<DecimalText>>>> for ToDefault {
         }
     }
 
-    fn weight_of(_value: &u64) -> u64 {
+    fn held_in(_value: &u64) -> u64 {
         0
     }
 
@@ -64,7 +64,7 @@ impl Token for DefaultText {
 
     ghost size = { λ s. ⟦<Parts as Token>⟧.size s.parts };
 
-    ghost weight = { λ _. 0 };
+    ghost value_size = { λ _. 0 };
 
     ghost ends = { λ s. ⟦<Parts as Token>⟧.ends s.parts };
 
@@ -100,7 +100,7 @@ impl Token for DefaultText {
         self.parts.take()
     }
 
-    fn weight_of(_value: &u64) -> u64 {
+    fn held_in(_value: &u64) -> u64 {
         0
     }
 }

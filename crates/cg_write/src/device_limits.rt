@@ -36,7 +36,7 @@ impl Token for DeviceLimitsText {
 
     ghost size = { λ s. ⟦<Parts as Token>⟧.size s.parts };
 
-    ghost weight = { λ _. 0 };
+    ghost value_size = { λ _. 0 };
 
     ghost ends = { λ s. ⟦<Parts as Token>⟧.ends s.parts };
 
@@ -72,7 +72,7 @@ impl Token for DeviceLimitsText {
         self.parts.take()
     }
 
-    fn weight_of(_value: &(Device, ((), LimitPairs))) -> u64 {
+    fn held_in(_value: &(Device, ((), LimitPairs))) -> u64 {
         0
     }
 }
@@ -89,7 +89,7 @@ impl Turn<Sequence<DeviceLimitsText, ByteText>> for ToDeviceLimits {
 
     ghost turned = { device_limits_setting };
 
-    ghost weight = { λ _. 0 };
+    ghost value_size = { λ _. 0 };
 
     fn turn(value: ((Device, ((), LimitPairs)), ())) -> Setting {
         let (device, (_, limits)) = value.0;
@@ -102,7 +102,7 @@ impl Turn<Sequence<DeviceLimitsText, ByteText>> for ToDeviceLimits {
         }
     }
 
-    fn weight_of(_value: &Setting) -> u64 {
+    fn held_in(_value: &Setting) -> u64 {
         0
     }
 
@@ -136,7 +136,7 @@ impl Token for DeviceLimitsWrite {
 
     ghost size = { λ s. ⟦<Text as Token>⟧.size s.text };
 
-    ghost weight = { λ _. 0 };
+    ghost value_size = { λ _. 0 };
 
     ghost ends = { λ s. ⟦<Text as Token>⟧.ends s.text };
 
@@ -172,7 +172,7 @@ impl Token for DeviceLimitsWrite {
         self.text.take()
     }
 
-    fn weight_of(_value: &Setting) -> u64 {
+    fn held_in(_value: &Setting) -> u64 {
         0
     }
 }

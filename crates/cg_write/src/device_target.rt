@@ -20,14 +20,14 @@ impl Turn<Sequence<DeviceTarget, ByteText>> for ToDeviceTarget {
 
     ghost turned = { device_target_setting };
 
-    ghost weight = { λ _. 0 };
+    ghost value_size = { λ _. 0 };
 
     fn turn(value: ((Device, ((), u64)), ())) -> Setting {
         let (device, (_, target)) = value.0;
         Setting::DeviceTarget { device, target }
     }
 
-    fn weight_of(_value: &Setting) -> u64 {
+    fn held_in(_value: &Setting) -> u64 {
         0
     }
 
@@ -61,7 +61,7 @@ impl Token for DeviceTargetWrite {
 
     ghost size = { λ s. ⟦<Text as Token>⟧.size s.text };
 
-    ghost weight = { λ _. 0 };
+    ghost value_size = { λ _. 0 };
 
     ghost ends = { λ s. ⟦<Text as Token>⟧.ends s.text };
 
@@ -97,7 +97,7 @@ impl Token for DeviceTargetWrite {
         self.text.take()
     }
 
-    fn weight_of(_value: &Setting) -> u64 {
+    fn held_in(_value: &Setting) -> u64 {
         0
     }
 }

@@ -49,7 +49,7 @@ impl Token for AnyWeightText {
 
     ghost size = { λ s. ⟦<Parts as Token>⟧.size s.parts };
 
-    ghost weight = { λ _. 0 };
+    ghost value_size = { λ _. 0 };
 
     ghost ends = { λ s. ⟦<Parts as Token>⟧.ends s.parts };
 
@@ -85,7 +85,7 @@ impl Token for AnyWeightText {
         self.parts.take()
     }
 
-    fn weight_of(_value: &Either<u64, (Device, ((), Option<u64>))>) -> u64 {
+    fn held_in(_value: &Either<u64, (Device, ((), Option<u64>))>) -> u64 {
         0
     }
 }
@@ -102,7 +102,7 @@ impl Turn<Sequence<AnyWeightText, ByteText>> for ToDeviceWeight {
 
     ghost turned = { weight_setting };
 
-    ghost weight = { λ _. 0 };
+    ghost value_size = { λ _. 0 };
 
     fn turn(value: (Either<u64, (Device, ((), Option<u64>))>, ())) -> Setting {
         match value.0 {
@@ -111,7 +111,7 @@ impl Turn<Sequence<AnyWeightText, ByteText>> for ToDeviceWeight {
         }
     }
 
-    fn weight_of(_value: &Setting) -> u64 {
+    fn held_in(_value: &Setting) -> u64 {
         0
     }
 
@@ -145,7 +145,7 @@ impl Token for DeviceWeightWrite {
 
     ghost size = { λ s. ⟦<Text as Token>⟧.size s.text };
 
-    ghost weight = { λ _. 0 };
+    ghost value_size = { λ _. 0 };
 
     ghost ends = { λ s. ⟦<Text as Token>⟧.ends s.text };
 
@@ -181,7 +181,7 @@ impl Token for DeviceWeightWrite {
         self.text.take()
     }
 
-    fn weight_of(_value: &Setting) -> u64 {
+    fn held_in(_value: &Setting) -> u64 {
         0
     }
 }

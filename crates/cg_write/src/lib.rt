@@ -10,6 +10,7 @@ pub mod device_limits;
 pub mod device_target;
 pub mod device_weight;
 mod followed;
+pub mod laws;
 pub mod limit;
 pub mod mode;
 pub mod number;

@@ -20,13 +20,13 @@ impl Turn<Sequence<DecimalText, ByteText>> for ToNumber {
 
     ghost turned = { number_setting };
 
-    ghost weight = { λ _. 0 };
+    ghost value_size = { λ _. 0 };
 
     fn turn(value: (u64, ())) -> Setting {
         Setting::Number(value.0)
     }
 
-    fn weight_of(_value: &Setting) -> u64 {
+    fn held_in(_value: &Setting) -> u64 {
         0
     }
 
@@ -61,7 +61,7 @@ impl Token for NumberWrite {
 
     ghost size = { λ s. ⟦<Text as Token>⟧.size s.text };
 
-    ghost weight = { λ _. 0 };
+    ghost value_size = { λ _. 0 };
 
     ghost ends = { λ s. ⟦<Text as Token>⟧.ends s.text };
 
@@ -97,7 +97,7 @@ impl Token for NumberWrite {
         self.text.take()
     }
 
-    fn weight_of(_value: &Setting) -> u64 {
+    fn held_in(_value: &Setting) -> u64 {
         0
     }
 }

@@ -35,7 +35,7 @@ impl Turn<Sequence<ReclaimText, ByteText>> for ToReclaim {
 
     ghost turned = { reclaim_setting };
 
-    ghost weight = { λ _. 0 };
+    ghost value_size = { λ _. 0 };
 
     fn turn(value: ((u64, Option<((), u64)>), ())) -> Setting {
         let (size, swappiness) = value.0;
@@ -45,7 +45,7 @@ impl Turn<Sequence<ReclaimText, ByteText>> for ToReclaim {
         }
     }
 
-    fn weight_of(_value: &Setting) -> u64 {
+    fn held_in(_value: &Setting) -> u64 {
         0
     }
 
@@ -79,7 +79,7 @@ impl Token for ReclaimWrite {
 
     ghost size = { λ s. ⟦<Text as Token>⟧.size s.text };
 
-    ghost weight = { λ _. 0 };
+    ghost value_size = { λ _. 0 };
 
     ghost ends = { λ s. ⟦<Text as Token>⟧.ends s.text };
 
@@ -115,7 +115,7 @@ impl Token for ReclaimWrite {
         self.text.take()
     }
 
-    fn weight_of(_value: &Setting) -> u64 {
+    fn held_in(_value: &Setting) -> u64 {
         0
     }
 }

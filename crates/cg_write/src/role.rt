@@ -39,7 +39,7 @@ impl Turn<Sequence<RoleText, ByteText>> for ToRole {
 
     ghost turned = { role_setting };
 
-    ghost weight = { λ _. 0 };
+    ghost value_size = { λ _. 0 };
 
     fn turn(value: (Either<(), Either<(), ()>>, ())) -> Setting {
         Setting::Role(match value.0 {
@@ -49,7 +49,7 @@ impl Turn<Sequence<RoleText, ByteText>> for ToRole {
         })
     }
 
-    fn weight_of(_value: &Setting) -> u64 {
+    fn held_in(_value: &Setting) -> u64 {
         0
     }
 
@@ -83,7 +83,7 @@ impl Token for RoleWrite {
 
     ghost size = { λ s. ⟦<Text as Token>⟧.size s.text };
 
-    ghost weight = { λ _. 0 };
+    ghost value_size = { λ _. 0 };
 
     ghost ends = { λ s. ⟦<Text as Token>⟧.ends s.text };
 
@@ -119,7 +119,7 @@ impl Token for RoleWrite {
         self.text.take()
     }
 
-    fn weight_of(_value: &Setting) -> u64 {
+    fn held_in(_value: &Setting) -> u64 {
         0
     }
 }

@@ -32,7 +32,7 @@ impl Turn<Sequence<SizeLimitText, ByteText>> for ToSizeLimit {
 
     ghost turned = { size_limit_setting };
 
-    ghost weight = { λ _. 0 };
+    ghost value_size = { λ _. 0 };
 
     fn turn(value: (Either<(), u64>, ())) -> Setting {
         Setting::Limit(match value.0 {
@@ -41,7 +41,7 @@ impl Turn<Sequence<SizeLimitText, ByteText>> for ToSizeLimit {
         })
     }
 
-    fn weight_of(_value: &Setting) -> u64 {
+    fn held_in(_value: &Setting) -> u64 {
         0
     }
 
@@ -75,7 +75,7 @@ impl Token for SizeLimitWrite {
 
     ghost size = { λ s. ⟦<Text as Token>⟧.size s.text };
 
-    ghost weight = { λ _. 0 };
+    ghost value_size = { λ _. 0 };
 
     ghost ends = { λ s. ⟦<Text as Token>⟧.ends s.text };
 
@@ -111,7 +111,7 @@ impl Token for SizeLimitWrite {
         self.text.take()
     }
 
-    fn weight_of(_value: &Setting) -> u64 {
+    fn held_in(_value: &Setting) -> u64 {
         0
     }
 }

@@ -23,7 +23,7 @@ impl Turn<Sequence<SignText, WordText>> for ToToggle {
 
     ghost turned = { toggle_of };
 
-    ghost weight = { λ t. length t.name };
+    ghost value_size = { λ t. length t.name };
 
     fn turn(value: (Either<(), ()>, Key)) -> Toggle {
         let (sign, name) = value;
@@ -34,7 +34,7 @@ impl Turn<Sequence<SignText, WordText>> for ToToggle {
         Toggle { on, name }
     }
 
-    fn weight_of(value: &Toggle) -> u64 {
+    fn held_in(value: &Toggle) -> u64 {
         value.name.bytes().len() as u64
     }
 
@@ -78,7 +78,7 @@ impl Token for ToggleText {
 
     ghost size = { λ s. ⟦<Parts as Token>⟧.size s.parts };
 
-    ghost weight = { λ t. length t.name };
+    ghost value_size = { λ t. length t.name };
 
     ghost ends = { λ s. ⟦<Parts as Token>⟧.ends s.parts };
 
@@ -115,7 +115,7 @@ impl Token for ToggleText {
         self.parts.take()
     }
 
-    fn weight_of(value: &Toggle) -> u64 {
+    fn held_in(value: &Toggle) -> u64 {
         value.name.bytes().len() as u64
     }
 }

@@ -38,7 +38,7 @@ impl Turn<Sequence<ThresholdText, ByteText>> for ToTrigger {
 
     ghost turned = { trigger_setting };
 
-    ghost weight = { λ _. 0 };
+    ghost value_size = { λ _. 0 };
 
     fn turn(value: ((Either<(), ()>, ((), Times)), ())) -> Setting {
         let (tasks, (_, times)) = value.0;
@@ -52,7 +52,7 @@ impl Turn<Sequence<ThresholdText, ByteText>> for ToTrigger {
         }
     }
 
-    fn weight_of(_value: &Setting) -> u64 {
+    fn held_in(_value: &Setting) -> u64 {
         0
     }
 
@@ -86,7 +86,7 @@ impl Token for TriggerWrite {
 
     ghost size = { λ s. ⟦<Text as Token>⟧.size s.text };
 
-    ghost weight = { λ _. 0 };
+    ghost value_size = { λ _. 0 };
 
     ghost ends = { λ s. ⟦<Text as Token>⟧.ends s.text };
 
@@ -122,7 +122,7 @@ impl Token for TriggerWrite {
         self.text.take()
     }
 
-    fn weight_of(_value: &Setting) -> u64 {
+    fn held_in(_value: &Setting) -> u64 {
         0
     }
 }

@@ -109,7 +109,7 @@ impl Token for WriteText {
 
     ghost size = { write_size };
 
-    ghost weight = { λ _. 0 };
+    ghost value_size = { λ _. 0 };
 
     ghost ends = { write_ends };
 
@@ -230,7 +230,7 @@ impl Token for WriteText {
         }
     }
 
-    fn weight_of(_value: &Setting) -> u64 {
+    fn held_in(_value: &Setting) -> u64 {
         0
     }
 }

@@ -4,19 +4,16 @@ use Rattle.cg_print.proofs.Known.{Appends-trans}
 use Rattle.cg_value.specs.TableRows.{table_name_at}
 use Rattle.cg_run.specs.Kinds.{kinds_line, kinds_lines}
 use Rattle.cg_run.specs.Run.{joined}
-use Rattle.cg_run.proofs.KindsLemmas.{name_short, lines_more, lines_all, first_bytes, within_all}
+use Rattle.cg_run.proofs.KindsLemmas.{lines_more, lines_all, first_bytes, within_all}
 use Rattle.cg_run.proofs.kinds.told_kinds.Goals as goal
-
-pub line_of-line-requires : goal.line_of-line-requires
-line_of-line-requires g c = rw c.in-Some.ensures.1 (name_short c.lines.place c.in-Some.ensures.0)
 
 pub lines-preserved : goal.lines-preserved
 lines-preserved g c =
     let place = c.lines.place in
-    let within = c.in-Some.ensures.0 in
+    let within = c.in-Some.ensures.row.0 in
     let front = joined (take place (kinds_lines c.args.profile)) in
     let line = c.line_of-line.result in
-    let line_is : line ≡ kinds_line c.args.profile (table_name_at place) = c.line_of-line.ensures.line ∙ ap (λ name. kinds_line c.args.profile name) c.in-Some.ensures.1 in
+    let line_is : line ≡ kinds_line c.args.profile (table_name_at place) = c.line_of-line.ensures.line ∙ ap (λ name. kinds_line c.args.profile name) c.in-Some.ensures.row.1 in
     let all : joined (take (place + 1) (kinds_lines c.args.profile)) ≡ front ++ line = lines_more c.args.profile place within ∙ ap (λ t. front ++ t) (sym line_is) in
     let count : length c.bytes-in-Ok.result.now ≡ length line = ap length c.bytes-in-Ok.ensures in
     record {
@@ -30,10 +27,10 @@ pub returns-in-Err : goal.returns-in-Err
 returns-in-Err g c =
     let place = c.lines.place in
     let profile = c.args.profile in
-    let within = c.in-Some.ensures.0 in
+    let within = c.in-Some.ensures.row.0 in
     let front = joined (take place (kinds_lines profile)) in
     let line = c.line_of-line.result in
-    let line_is : line ≡ kinds_line profile (table_name_at place) = c.line_of-line.ensures.line ∙ ap (λ name. kinds_line profile name) c.in-Some.ensures.1 in
+    let line_is : line ≡ kinds_line profile (table_name_at place) = c.line_of-line.ensures.line ∙ ap (λ name. kinds_line profile name) c.in-Some.ensures.row.1 in
     let more = c.in-Err.field-0.written in
     let part : more ≤ length line = rw c.bytes.ensures at c.in-Err.ensures.part in
     let part_is : more ≤ length (kinds_line profile (table_name_at place)) = rw line_is at part in
@@ -47,4 +44,4 @@ returns-in-Err g c =
     )
 
 pub returns : goal.returns
-returns g c = (refl, rw (← lines_all c.args.profile c.lines.place c.in_default.ensures) c.lines.invariant.taken)
+returns g c = (refl, rw (← lines_all c.args.profile c.lines.place c.in_default.ensures.row) c.lines.invariant.taken)

@@ -1,7 +1,7 @@
 use Rattle.std.proofs.Common.{◌≡◌, true, [], ◌∷◌, ◌++◌, ◌∙◌, ap, arith, sym}
-use Rattle.cg_join.specs.RepeatLaws.{told_more, weight_pushed}
+use Rattle.cg_join.specs.RepeatLaws.{told_more, size_pushed}
 use Rattle.cg_join.specs.LinesLaws.{lacks_taken, lacks_same, lines_taken, lines_same, lines_none, lines_next, lines_begins, lines_over}
-use Rattle.cg_join.specs.Repeat.{items_weight}
+use Rattle.cg_join.specs.Repeat.{items_size}
 use Rattle.cg_join.proofs.lines.LinesToken.step.Goals as goal
 
 pub invariant_of-self : goal.invariant_of-self
@@ -61,10 +61,10 @@ pub invariant_of-self-2-clause-counted : goal.invariant_of-self-2-clause-counted
 invariant_of-self-2-clause-counted g c =
     let old = c.args.self.now in
     let v = c.take-value.result in
-    let f = g.T.Token.weight in
+    let f = g.T.Token.value_size in
     let items : c.put.new.items.items ≡ old.items.items ++ v ∷ [] = c.put.ensures ∙ ap (λ x. x ++ v ∷ []) c.make_room.ensures.items in
-    told_more (items_weight f old.items.items) (f v) (items_weight f c.put.new.items.items) old.kept c.saturating_add.result c.weight_of-weight.result c.saturating_add-self.result
-    old.counted c.saturating_add.ensures c.weight_of-weight.ensures c.saturating_add-self.ensures (weight_pushed f c.put.new.items.items old.items.items v items)
+    told_more (items_size f old.items.items) (f v) (items_size f c.put.new.items.items) old.items_held c.saturating_add.result c.held_in-new_size.result c.saturating_add-self.result
+    old.counted c.saturating_add.ensures c.held_in-new_size.ensures c.saturating_add-self.ensures (size_pushed f c.put.new.items.items old.items.items v items)
 
 pub invariant_of-self-2-clause-lacks : goal.invariant_of-self-2-clause-lacks
 invariant_of-self-2-clause-lacks g c =
@@ -75,12 +75,12 @@ pub returns-clause-size : goal.returns-clause-size
 returns-clause-size g c =
     let old = c.args.self.now in
     let v = c.take-value.result in
-    let f = g.T.Token.weight in
+    let f = g.T.Token.value_size in
     let size = g.T.Token.size in
     let items : c.put.new.items.items ≡ old.items.items ++ v ∷ [] = c.put.ensures ∙ ap (λ x. x ++ v ∷ []) c.make_room.ensures.items in
     let fresh : size c.replace-done.new.dest ≡ 0 = ap size c.replace-done.ensures.after ∙ c.start-next.ensures.size in
     let done : size c.replace-done.result ≡ size old.current = ap size c.replace-done.ensures.value in
-    omega (arith, weight_pushed f c.put.new.items.items old.items.items v items, fresh, done, c.take-value.ensures.weight)
+    omega (arith, size_pushed f c.put.new.items.items old.items.items v items, fresh, done, c.take-value.ensures.value_size)
 
 pub returns-in-Err-clause-last : goal.returns-in-Err-clause-last
 returns-in-Err-clause-last g c =

@@ -1,11 +1,11 @@
 use Rattle.std.proofs.Common.{◌≡◌, true, [], ◌+◌, arith, refl, eqb, eqb-true, eq-eqb}
-use Rattle.cg_join.specs.Repeat.{items_weight}
+use Rattle.cg_join.specs.Repeat.{items_size}
 use Rattle.cg_join.specs.RepeatLaws.{stops_taken, stops_same, told_sum}
 use Rattle.cg_join.specs.LinesLaws.{lacks_same}
-use Rattle.cg_join.specs.Pairs.{IsPairText, pair_weight}
+use Rattle.cg_join.specs.Pairs.{IsPairText, pair_size}
 use Rattle.cg_join.specs.PairsState.{WordAtHand, before_last}
 use Rattle.cg_join.specs.PairsLaws.{pair_alike, pair_step, paired_ended, value_one, value_step, value_step_refused, value_step_same, value_begins, new_pair}
-use Rattle.cg_join.specs.PairsStateLaws.{completed_distinct, completed_weight, last_word, one_last, distinct_before}
+use Rattle.cg_join.specs.PairsStateLaws.{completed_distinct, completed_size, last_word, one_last, distinct_before}
 use Rattle.cg_join.specs.declared.pairs.Stage.TheVariants.{InWord, InValue}
 use Rattle.cg_join.specs.WordStartLaws.{SpellsWord, new_word_text}
 use Rattle.cg_text.specs.contracts.word.WordTextToken.TheImpl as word_text
@@ -139,10 +139,10 @@ invariant_of-self-2 g c =
     let R = IsPairText w v (SpellsWord old.words.controller) (g.B.Start.texts old.values) old.mark in
     let done = c.complete_last.ensures in
     let new = c.complete_last.new.items.items in
-    let f = pair_weight w v word_text.ghosts.weight g.V.Token.weight in
-    let weight : items_weight f new ≡ items_weight f old.items.items + g.V.Token.weight c.renew-value.result = completed_weight w v word_text.ghosts.weight g.V.Token.weight old.items.items new c.renew-value.result done (old.awaits c.requires) in
+    let f = pair_size w v word_text.ghosts.value_size g.V.Token.value_size in
+    let value_size : items_size f new ≡ items_size f old.items.items + g.V.Token.value_size c.renew-value.result = completed_size w v word_text.ghosts.value_size g.V.Token.value_size old.items.items new c.renew-value.result done (old.awaits c.requires) in
     record {
-      counted = told_sum (items_weight f old.items.items) (g.V.Token.weight c.renew-value.result) (items_weight f new) old.kept c.weight_of-weight.result c.saturating_add-self.result old.counted c.weight_of-weight.ensures c.saturating_add-self.ensures weight;
+      counted = told_sum (items_size f old.items.items) (g.V.Token.value_size c.renew-value.result) (items_size f new) old.items_held c.held_in-new_size.result c.saturating_add-self.result old.counted c.held_in-new_size.ensures c.saturating_add-self.ensures value_size;
       lacks = lacks_same old.mark (SpellsWord old.words.controller) (word_text.ghosts.means c.start.result) c.start.ensures.spells.is old.words_lack;
       words_lack = old.words_lack;
       stops = stops_same old.separator (g.B.Start.texts old.values) (g.V.Token.means c.renew-value.new.token) c.renew-value.ensures.spells.is old.values_stop;
@@ -188,8 +188,8 @@ returns-clause-size g c =
     let D = g.V.Token.means old.value in
     let R = IsPairText w v (SpellsWord old.words.controller) (g.B.Start.texts old.values) old.mark in
     let same_size = rw c.in-Ok-false.field-0-test at c.in-Ok-false.ensures.same_size in
-    let weight = completed_weight w v word_text.ghosts.weight g.V.Token.weight old.items.items c.complete_last.new.items.items c.renew-value.result c.complete_last.ensures (old.awaits c.requires) in
-    omega (arith, weight, same_size, c.start.ensures.size, c.renew-value.ensures.size, c.renew-value.ensures.weight)
+    let value_size = completed_size w v word_text.ghosts.value_size g.V.Token.value_size old.items.items c.complete_last.new.items.items c.renew-value.result c.complete_last.ensures (old.awaits c.requires) in
+    omega (arith, value_size, same_size, c.start.ensures.size, c.renew-value.ensures.size, c.renew-value.ensures.value_size)
 
 pub returns-in-Err-clause-last : goal.returns-in-Err-clause-last
 returns-in-Err-clause-last g c =

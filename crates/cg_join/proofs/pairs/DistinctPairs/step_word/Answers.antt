@@ -1,14 +1,14 @@
 use Rattle.cg_join.specs.LabelLaws.{if_err_as}
 use Rattle.std.proofs.Common.{◌≡◌, Bool, true, false, not, [], ◌∷◌, ◌++◌, map, refl, sym, ◌∙◌, ap, arith}
 use Rattle.cg_text.specs.Token.{told}
-use Rattle.cg_join.specs.Repeat.{items_weight}
-use Rattle.cg_join.specs.RepeatLaws.{told_more, weight_pushed}
+use Rattle.cg_join.specs.Repeat.{items_size}
+use Rattle.cg_join.specs.RepeatLaws.{told_more, size_pushed}
 use Rattle.cg_join.specs.Distinct.{any_value}
 use Rattle.cg_join.specs.DistinctLaws.{lacks_value}
 use Rattle.cg_join.specs.LinesLaws.{lacks_same}
-use Rattle.cg_join.specs.Pairs.{IsPairText, pair_weight}
+use Rattle.cg_join.specs.Pairs.{IsPairText, pair_size}
 use Rattle.cg_join.specs.PairsLaws.{lacks_stepped, mark_refused, old_word_refused, paired_rest, word_step_refused, word_step_same, word_step_taken, words_pushed, word_begins, mark_begins}
-use Rattle.cg_join.specs.PairsStateLaws.{mark_pushed, some_last, weight_last}
+use Rattle.cg_join.specs.PairsStateLaws.{mark_pushed, some_last, size_last}
 use Rattle.cg_join.specs.declared.pairs.Stage.{Stage}
 use Rattle.cg_join.specs.declared.pairs.Stage.TheVariants.{InWord, InValue}
 use Rattle.cg_text.specs.WordState.{is_taken}
@@ -137,16 +137,16 @@ invariant_of-self-2 g c =
     let x = c.renew-word.result in
     let p = c.begin.result in
     let items : c.put.new.items.items ≡ old.items.items ++ p ∷ [] = c.put.ensures ∙ ap (λ y. y ++ p ∷ []) c.make_room.ensures.items in
-    let f = pair_weight w v word_text.ghosts.weight g.V.Token.weight in
-    let one : f p ≡ word_text.ghosts.weight x = (let e = ap word_text.ghosts.weight c.begin.ensures.word in let h = c.begin.ensures.weight in omega (arith, e, h)) in
+    let f = pair_size w v word_text.ghosts.value_size g.V.Token.value_size in
+    let one : f p ≡ word_text.ghosts.value_size x = (let e = ap word_text.ghosts.value_size c.begin.ensures.word in let h = c.begin.ensures.value_size in omega (arith, e, h)) in
     let k = c.renew-word.ensures.value in
     let is = taken_is old.word.controller old.word.bytes.items old.word.sound in
     let fresh : any_value (is_taken old.word.bytes.items) (map w old.items.items) ≡ false =
     not_true (any_value (is_taken old.word.bytes.items) (map w old.items.items)) (ap (λ y. not (any_value (is_taken old.word.bytes.items) (map w y))) (sym c.as_slice.ensures.value) ∙ sym c.is_new_word.ensures ∙ c.if-not-is_new_word.false) in
-    let weighs : c.weight_of-weight.result ≡ told (f p) = c.weight_of-weight.ensures ∙ ap told (sym one) in
+    let new_told : c.held_in-new_size.result ≡ told (f p) = c.held_in-new_size.ensures ∙ ap told (sym one) in
     record {
-      counted = told_more (items_weight f old.items.items) (f p) (items_weight f c.put.new.items.items) old.kept c.saturating_add.result c.weight_of-weight.result c.saturating_add-self.result
-          old.counted c.saturating_add.ensures weighs c.saturating_add-self.ensures (weight_pushed f c.put.new.items.items old.items.items p items);
+      counted = told_more (items_size f old.items.items) (f p) (items_size f c.put.new.items.items) old.items_held c.saturating_add.result c.held_in-new_size.result c.saturating_add-self.result
+          old.counted c.saturating_add.ensures new_told c.saturating_add-self.ensures (size_pushed f c.put.new.items.items old.items.items p items);
       lacks = lacks_same old.mark (SpellsWord old.words.controller) (word_text.ghosts.means c.renew-word.new.token) c.renew-word.ensures.spells.is old.words_lack;
       words_lack = old.words_lack;
       stops = old.stops;
@@ -154,7 +154,7 @@ invariant_of-self-2 g c =
       small_separator = old.small_separator;
       small_mark = old.small_mark;
       begun = λ _. rw items (some_last old.items.items p);
-      awaits = λ _. rw items (weight_last (λ q. g.V.Token.weight (v q)) old.items.items p ∙ c.begin.ensures.weight);
+      awaits = λ _. rw items (size_last (λ q. g.V.Token.value_size (v q)) old.items.items p ∙ c.begin.ensures.value_size);
       distinct = words_pushed w old.items.items c.put.new.items.items p items old.distinct
           (rw c.begin.ensures.word (lacks_value (is_taken old.word.bytes.items) (map w old.items.items) x fresh ((is x).1 k) (λ y e. (is y).1 (rw e k))));
     }
@@ -173,8 +173,8 @@ returns-clause-taken g c =
     let x = c.renew-word.result in
     let p = c.begin.result in
     let items : c.put.new.items.items ≡ old.items.items ++ p ∷ [] = c.put.ensures ∙ ap (λ y. y ++ p ∷ []) c.make_room.ensures.items in
-    let f = pair_weight w v word_text.ghosts.weight g.V.Token.weight in
-    let one : f p ≡ word_text.ghosts.weight x = (let e = ap word_text.ghosts.weight c.begin.ensures.word in let h = c.begin.ensures.weight in omega (arith, e, h)) in
+    let f = pair_size w v word_text.ghosts.value_size g.V.Token.value_size in
+    let one : f p ≡ word_text.ghosts.value_size x = (let e = ap word_text.ghosts.value_size c.begin.ensures.word in let h = c.begin.ensures.value_size in omega (arith, e, h)) in
     let new = c.put.new.items.items in
     let k = c.renew-word.ensures.value in
     let d = g.V.Token.completes old.value in
@@ -195,9 +195,9 @@ returns-clause-size g c =
     let x = c.renew-word.result in
     let p = c.begin.result in
     let items : c.put.new.items.items ≡ old.items.items ++ p ∷ [] = c.put.ensures ∙ ap (λ y. y ++ p ∷ []) c.make_room.ensures.items in
-    let f = pair_weight w v word_text.ghosts.weight g.V.Token.weight in
-    let one : f p ≡ word_text.ghosts.weight x = (let e = ap word_text.ghosts.weight c.begin.ensures.word in let h = c.begin.ensures.weight in omega (arith, e, h)) in
-    omega (arith, weight_pushed f c.put.new.items.items old.items.items p items, one, c.renew-word.ensures.size, c.renew-word.ensures.weight)
+    let f = pair_size w v word_text.ghosts.value_size g.V.Token.value_size in
+    let one : f p ≡ word_text.ghosts.value_size x = (let e = ap word_text.ghosts.value_size c.begin.ensures.word in let h = c.begin.ensures.value_size in omega (arith, e, h)) in
+    omega (arith, size_pushed f c.put.new.items.items old.items.items p items, one, c.renew-word.ensures.size, c.renew-word.ensures.value_size)
 
 pub returns-then-byte-self-clause-last : goal.returns-then-byte-self-clause-last
 returns-then-byte-self-clause-last g c =

@@ -2,7 +2,7 @@ use Rattle.std.proofs.Common.{arith}
 use Rattle.cg_join.specs.Pairs.{IsPairText}
 use Rattle.cg_join.specs.PairsState.{IsCompleted, WordAtHand, before_last}
 use Rattle.cg_join.specs.PairsLaws.{pairs_value}
-use Rattle.cg_join.specs.PairsStateLaws.{completed_distinct, completed_weight}
+use Rattle.cg_join.specs.PairsStateLaws.{completed_distinct, completed_size}
 use Rattle.cg_join.specs.declared.pairs.Stage.TheVariants.{InValue}
 use Rattle.cg_join.specs.WordStartLaws.{SpellsWord}
 use Rattle.cg_text.specs.contracts.word.WordTextToken.TheImpl as word_text
@@ -22,12 +22,12 @@ returns-clause-value g c =
     (pairs_value w v old.mark old.separator (before_last old.items.items) R K D done.pair c.of-in-InValue.result done.items done.has_word (rw done.has_value c.take.ensures.value)
     (completed_distinct w v old.items.items c.of-in-InValue.result y done old.distinct))
 
-pub returns-clause-weight : goal.returns-clause-weight
-returns-clause-weight g c =
+pub returns-clause-value_size : goal.returns-clause-value_size
+returns-clause-value_size g c =
     let old = c.args.self in
     let w = g.F.Pairing.word_of in
     let v = g.F.Pairing.value_of in
     let y = c.take.result in
     let done : IsCompleted w v old.items.items y c.of-in-InValue.result = rw c.of-in-InValue.ensures c.complete_last.ensures in
-    let weight = completed_weight w v word_text.ghosts.weight g.V.Token.weight old.items.items c.of-in-InValue.result y done (old.awaits c.in-InValue.is) in
-    omega (arith, weight, c.take.ensures.weight)
+    let value_size = completed_size w v word_text.ghosts.value_size g.V.Token.value_size old.items.items c.of-in-InValue.result y done (old.awaits c.in-InValue.is) in
+    omega (arith, value_size, c.take.ensures.value_size)

@@ -6,8 +6,8 @@ use Rattle.cg_text.specs.LooseLaws.{list_value, list_no_value}
 use Rattle.cg_text.proofs.loose.LooseListTextToken.take.Goals as goal
 use Rattle.cg_text.proofs.loose.LooseListTextToken.take.Goals.{then-not-is_empty, else-not-is_empty, in-Some, in-None}
 
-pub returns-clause-weight : goal.returns-clause-weight
-returns-clause-weight c = elim c.if-not-is_empty.branch [
+pub returns-clause-value_size : goal.returns-clause-value_size
+returns-clause-value_size c = elim c.if-not-is_empty.branch [
   | then-not-is_empty w ↦ rw w.ranges-is (omega (arith, w.add_last.ensures.len, w.add_last.new.ranges.ok.0, c.args.self.ranges.ok.0))
   | else-not-is_empty w ↦ rw w.ranges-is (omega arith)
 ]
