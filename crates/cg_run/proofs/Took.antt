@@ -1,7 +1,7 @@
 -- How a piece is taken.
 use Rattle.std.proofs.Common.{◌≡◌, ℕ, zero, suc, Bool, ◌+◌, ◌-◌, ◌<◌, ◌≤◌, List, [], ◌∷◌, ◌++◌, take, drop, length, get_or, Option, Some, None, refl, sym, ap, ◌∙◌, append_assoc, append-nil, arith, length-append, length-drop, length-take}
 use Rattle.std.proofs.Math.Seq.{take-add, take-append_seam}
-use Rattle.std.proofs.lemmas.List.{get_or-drop, get_or-take, take_all}
+use Rattle.std.proofs.lemmas.List.{get_or-drop, get_or-take, take_all, take_min}
 use Rattle.std.specs.Io.KnownBytes.{Consumes, Keeps}
 use Rattle.cg_text.specs.Texts.{Viable, Next}
 use Rattle.cg_line.specs.declared.push.PushFault.{PushFault}
@@ -61,17 +61,20 @@ take_less (suc n) zero xs less = absurd (omega (arith, less))
 take_less (suc n) (suc m) [] less = refl
 take_less (suc n) (suc m) (x ∷ xs) less = ap (λ t. x ∷ t) (take_less n m xs (omega (arith, less)))
 
-module _ (piece rest front : List ℕ) (used n : ℕ) (rest_is : rest ≡ drop used piece) (front_is : front ≡ take (length front) rest) where
+pub front_is : (room : ℕ) (rest : List ℕ) → take room rest ≡ take (length (take room rest)) rest
+front_is room rest = rw (length-take room rest) (sym (take_min room rest))
+
+module _ (piece rest front : List ℕ) (used n : ℕ) (rest_is : rest ≡ drop used piece) (same_front : front ≡ take (length front) rest) where
   run_front : n ≤ length front → take (used + n) piece ≡ take used piece ++ take n front
   run_front within =
-      let here : take n front ≡ take n rest = ap (λ t. take n t) front_is ∙ take_less n (length front) rest within in
+      let here : take n front ≡ take n rest = ap (λ t. take n t) same_front ∙ take_less n (length front) rest within in
       take-add used n piece ∙ ap (λ t. take used piece ++ t) (sym (here ∙ ap (λ t. take n t) rest_is))
 
   front_byte : n < length front → get_or front n 0 ≡ get_or piece (used + n) 0
-  front_byte within = ap (λ t. get_or t n 0) front_is ∙ get_or-take (length front) rest n 0 within ∙ ap (λ t. get_or t n 0) rest_is ∙ get_or-drop used piece n 0
+  front_byte within = ap (λ t. get_or t n 0) same_front ∙ get_or-take (length front) rest n 0 within ∙ ap (λ t. get_or t n 0) rest_is ∙ get_or-drop used piece n 0
 
   front_within : length front ≤ length piece - used
-  front_within = omega (arith, ap length front_is, length-take (length front) rest, ap length rest_is, length-drop used piece)
+  front_within = omega (arith, ap length same_front, length-take (length front) rest, ap length rest_is, length-drop used piece)
 
   -- It was taken.
   pub goes_run : (Took : List ℕ → Type 0) (max : ℕ) (taken : List ℕ) → n ≤ length front → length taken + used + n ≤ max → Took ((taken ++ take used piece) ++ take n front) → GoesOn Took max (taken ++ take (used + n) piece)

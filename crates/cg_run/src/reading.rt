@@ -1,5 +1,5 @@
 //! Reading one text from a source.
-ghost use Rattle.std.specs.Prelude.{◌≡◌, ◌≤◌, ◌<◌, ◌+◌, ℕ, List, [], ◌∷◌, ◌++◌, false, length, take, IfNone};
+ghost use Rattle.std.specs.Prelude.{◌≡◌, ◌≤◌, ◌<◌, ◌+◌, ℕ, List, [], ◌∷◌, ◌++◌, false, length, IfNone};
 ghost use Rattle.cg_text.specs.Texts.{TextOf};
 ghost use Rattle.cg_snap.specs.Stop.{TextStopOf};
 ghost use Rattle.cg_run.specs.Reading.{ending_of, GoesOn, TookPiece, HasRead};
@@ -33,19 +33,6 @@ fn stop_at_limit<T: TextReader>(reader: &T, byte: u8, at: u64) -> Stop
     }
 }
 
-/// As many bytes from the front as there is room for.
-fn front_of(bytes: &[u8], room: u64) -> &[u8]
-    ensures front { result.now ≡ take (length result.now) bytes.now }
-    ensures most { length result.now ≤ room }
-    ensures some { 0 < room → 0 < length bytes.now → 0 < length result.now }
-{
-    if room < bytes.len() as u64 {
-        bytes.split_at(room as usize).0
-    } else {
-        bytes
-    }
-}
-
 /// How reading ends at a byte of this place, which was not taken.
 fn ending_at(fault: PushFault, at: u64) -> Ending
     ensures { result ≡ ending_of fault at }
@@ -70,7 +57,7 @@ fn take_piece<T: TextReader>(reader: &mut T, piece: &[u8], at: u64, max: u64) ->
             return Some(Ending::Stopped(stop_at_limit(reader, piece[used], place)));
         }
         let (_, rest) = piece.split_at(used);
-        let run = reader.push_run(front_of(rest, max - place));
+        let run = reader.take_run(rest, max - place);
         used += run.used;
         match run.fault {
             None => {}

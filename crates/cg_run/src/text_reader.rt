@@ -1,5 +1,5 @@
 //! What reads one text, of a file or of a write.
-ghost use Rattle.std.specs.Prelude.{◌≡◌, ◌≤◌, ◌<◌, ◌↔◌, ℕ, List, length, MatchOption, IfOk, IfNone};
+ghost use Rattle.std.specs.Prelude.{◌≡◌, ◌≤◌, ◌<◌, ◌↔◌, ℕ, List, length, take, MatchOption, IfOk, IfNone};
 ghost use Rattle.cg_text.specs.Bytes.{HasByte};
 ghost use Rattle.cg_text.specs.Texts.{TextOf, Viable, Next};
 ghost use Rattle.cg_run.specs.TextReader.{IsRunTaken};
@@ -9,6 +9,17 @@ use cg_print::{print_file, print_setting};
 use cg_text::{ByteSet, OutOfMemory};
 use cg_value::{ReadForm, Setting, Value, WriteForm};
 use std::alloc::Global;
+
+/// As many bytes from the front as there is room for.
+fn front_of(bytes: &[u8], room: u64) -> &[u8]
+    ensures { result.now ≡ take room bytes.now }
+{
+    if room < bytes.len() as u64 {
+        bytes.split_at(room as usize).0
+    } else {
+        bytes
+    }
+}
 
 /// A reader of one text, and how what the text spells is printed.
 pub(crate) trait TextReader: Drop {
@@ -27,11 +38,12 @@ pub(crate) trait TextReader: Drop {
     // The reader is of this form and took these bytes.
     ghost took: { Self → Self.Form → List ℕ → Type 0 };
 
-    /// Takes bytes from the front of `bytes`: until a newline was taken, none is left, or one is refused or memory is.
-    fn push_run(&mut self, bytes: &[u8]) -> PushedRun
-        ensures taken { (form : Self.Form) (taken : List ℕ) → took self.old form taken → IsRunTaken (TextOf (text form)) (took self.new form) taken bytes.now result }
-        ensures within { result.used ≤ length bytes.now }
-        ensures goes_on { IfNone result.fault (0 < length bytes.now → 0 < result.used) };
+    /// Takes bytes from the front of `bytes`, as many as there is room for at most: until a newline was taken, none is left, or
+    /// one is refused or memory is.
+    fn take_run(&mut self, bytes: &[u8], room: u64) -> PushedRun
+        ensures taken { (form : Self.Form) (taken : List ℕ) → took self.old form taken → IsRunTaken (TextOf (text form)) (took self.new form) taken (take room bytes.now) result }
+        ensures within { result.used ≤ length (take room bytes.now) }
+        ensures goes_on { IfNone result.fault (0 < length (take room bytes.now) → 0 < result.used) };
 
     /// The bytes with which some text of the form goes on.
     fn allowed(&self) -> ByteSet
@@ -66,8 +78,8 @@ impl TextReader for ValueReader {
 
     ghost viable = { reads_viable };
 
-    fn push_run(&mut self, bytes: &[u8]) -> PushedRun {
-        ValueReader::push_run(self, bytes)
+    fn take_run(&mut self, bytes: &[u8], room: u64) -> PushedRun {
+        self.push_run(front_of(bytes, room))
     }
 
     fn allowed(&self) -> ByteSet {
@@ -103,8 +115,8 @@ impl TextReader for SettingReader {
 
     ghost viable = { takes_viable };
 
-    fn push_run(&mut self, bytes: &[u8]) -> PushedRun {
-        SettingReader::push_run(self, bytes)
+    fn take_run(&mut self, bytes: &[u8], room: u64) -> PushedRun {
+        self.push_run(front_of(bytes, room))
     }
 
     fn allowed(&self) -> ByteSet {

@@ -1,6 +1,6 @@
 use Rattle.std.proofs.Common.{◌≡◌, ◌<◌, ◌≤◌, ◌+◌, ◌-◌, ◌++◌, refl, ap, take, drop, length, length-drop, length-take, arith}
 use Rattle.cg_text.specs.Texts.{TextOf}
-use Rattle.cg_run.proofs.Took.{goes_run, piece_stopped, place_is, run_stopped}
+use Rattle.cg_run.proofs.Took.{front_is, goes_run, piece_stopped, place_is, run_stopped}
 use Rattle.cg_run.proofs.reading.take_piece.Goals as goal
 
 pub returns-then-place-max-clause-took : goal.returns-then-place-max-clause-took
@@ -16,20 +16,20 @@ pub loop-used-preserved : goal.loop-used-preserved
 loop-used-preserved g c =
     let piece = c.args.piece.now in
     let i = c.loop-used.used in
-    let n = c.push_run-run.result.used in
+    let n = c.take_run-run.result.used in
     let rest = c.split_at.result.1.now in
-    let front = c.front_of.result.now in
-    let within : n ≤ length front = c.push_run-run.ensures.within in
+    let space = c.args.max - (c.args.at + i) in
+    let front = take space rest in
+    let within : n ≤ length front = c.take_run-run.ensures.within in
     let left : length rest ≡ length (drop i piece) = ap length c.split_at.ensures.back in
-    let short : length front ≡ length (take (length front) rest) = ap length c.front_of.ensures.front in
-    let room : c.args.at + i + n ≤ c.args.max = omega (arith, within, c.front_of.ensures.most, c.loop-used.invariant.small) in
+    let room : c.args.at + i + n ≤ c.args.max = omega (arith, within, length-take space rest, c.loop-used.invariant.small) in
     record {
-      within = omega (arith, within, left, short, length-drop i piece, length-take (length front) rest, c.loop-used.invariant.within);
+      within = omega (arith, within, left, length-drop i piece, length-take space rest, c.loop-used.invariant.within);
       small = omega (arith, room);
       goes_on = λ form taken e h.
           let goes = c.loop-used.invariant.goes_on form taken e h in
-          let pushed = c.push_run-run.ensures.taken form (taken ++ take i piece) goes.0 in
-          goes_run piece rest front i n c.split_at.ensures.back c.front_of.ensures.front (g.T.TextReader.took c.push_run-run.new.self form) c.args.max taken within (omega (arith, e, room)) pushed.took;
+          let pushed = c.take_run-run.ensures.taken form (taken ++ take i piece) goes.0 in
+          goes_run piece rest front i n c.split_at.ensures.back (front_is space rest) (g.T.TextReader.took c.take_run-run.new.self form) c.args.max taken within (omega (arith, e, room)) pushed.took;
     }
 
 pub loop-used-smaller : goal.loop-used-smaller
@@ -40,22 +40,25 @@ loop-used-smaller g c =
     let here : i < length piece = omega arith in
     let left : length rest ≡ length (drop i piece) = ap length c.split_at.ensures.back in
     let some : 0 < length rest = omega (arith, here, left, length-drop i piece) in
-    let space : 0 < c.args.max - (c.args.at + i) = omega (arith, c.loop-used.invariant.small, c.if-place-max.false) in
-    let more : 0 < c.push_run-run.result.used = rw c.in-None.is at c.push_run-run.ensures.goes_on (c.front_of.ensures.some space some) in
+    let room : 0 < c.args.max - (c.args.at + i) = omega (arith, c.loop-used.invariant.small, c.if-place-max.false) in
+    let space = c.args.max - (c.args.at + i) in
+    let more : 0 < c.take_run-run.result.used = rw c.in-None.is at c.take_run-run.ensures.goes_on (omega (arith, some, room, length-take space rest)) in
     omega (arith, here, more)
 
 pub returns-in-Some-clause-took : goal.returns-in-Some-clause-took
 returns-in-Some-clause-took g c form taken e h =
     let piece = c.args.piece.now in
     let i = c.loop-used.used in
-    let n = c.push_run-run.result.used in
-    let front = c.front_of.result.now in
-    let new = c.push_run-run.new.self in
-    let within : n ≤ length front = c.push_run-run.ensures.within in
-    let room : c.args.at + i + length front ≤ c.args.max = omega (arith, c.front_of.ensures.most, c.loop-used.invariant.small) in
+    let n = c.take_run-run.result.used in
+    let rest = c.split_at.result.1.now in
+    let space = c.args.max - (c.args.at + i) in
+    let front = take space rest in
+    let new = c.take_run-run.new.self in
+    let within : n ≤ length front = c.take_run-run.ensures.within in
+    let room : c.args.at + i + length front ≤ c.args.max = omega (arith, length-take space rest, c.loop-used.invariant.small) in
     let goes = c.loop-used.invariant.goes_on form taken e h in
-    let pushed = c.push_run-run.ensures.taken form (taken ++ take i piece) goes.0 in
+    let pushed = c.take_run-run.ensures.taken form (taken ++ take i piece) goes.0 in
     let stops = rw c.in-Some.is at pushed.stops in
-    rw c.ending_at.ensures (run_stopped piece c.split_at.result.1.now front i n c.split_at.ensures.back c.front_of.ensures.front
+    rw c.ending_at.ensures (run_stopped piece rest front i n c.split_at.ensures.back (front_is space rest)
     (TextOf (g.T.TextReader.text form)) (g.T.TextReader.took new form) (g.met.T.TextReader.viable new form) c.args.max c.args.at (c.args.at + i) taken c.in-Some.fault
     e refl c.loop-used.invariant.within room within pushed.took stops)

@@ -1,4 +1,0 @@
-use Rattle.cg_run.proofs.text_reader.ValueReaderTextReader.push_run.Goals as goal
-
-pub returns-clause-taken : goal.returns-clause-taken
-returns-clause-taken c form taken h = let run = c.push_run.ensures.pushed form taken h in record { took = run.reads; stops = run.stops }
