@@ -20,12 +20,13 @@ fn names(rt: HostRuntime) {
     for (path, wanted) in rows {
         assert!(rt; name_of(path.as_bytes()) == wanted.as_bytes(), "{path}");
     }
-    let mut rows = 0;
-    while let Some(name) = table_name(rows) {
-        assert!(rt; !name.is_empty(), "{rows}");
-        rows += 1;
+    let mut last = None;
+    for place in 0..256 {
+        if let Some(name) = table_name(place) {
+            last = Some(name);
+        }
     }
-    assert!(rt; rows > 0 && table_name(rows - 1) == Some(b"cpuset.cpus.partition".as_slice()));
+    assert!(rt; last == Some(b"cpuset.cpus.partition".as_slice()));
 }
 
 #[test]
