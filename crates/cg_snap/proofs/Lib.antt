@@ -1,0 +1,13 @@
+pub mod Joins
+pub mod Steps
+pub mod Refusals
+pub mod Closes
+pub mod States
+pub mod Allowed
+pub mod Ends
+pub mod Places
+pub mod Nuls
+pub mod Finishes
+pub mod Runs
+pub mod Limiting
+pub mod Moves

@@ -1,5 +1,7 @@
 pub mod Closed
 pub mod ClosedLaws
+pub mod Decoder
+pub mod DecoderState
 pub mod Laws
 pub mod Plan
 pub mod PlanLaws

@@ -1,0 +1,66 @@
+-- Where a byte keeps a continuation.
+use Rattle.std.proofs.Common.{◌≡◌, ◌≢◌, ℕ, ◌<◌, Bool, true, false, List, [], ◌∷◌, ◌++◌, Option, Some, None, refl, sym, ap, subst, ◌∙◌, append_assoc, inl, inr, ◌⊎◌, arith}
+use Rattle.std.specs.List.{AllByRecursion}
+use Rattle.std.proofs.lemmas.List.{append-nil}
+use Rattle.std.proofs.lemmas.Bool.{cases_eq}
+use Rattle.cg_text.specs.Texts.{Lacks, Viable, Next}
+use Rattle.cg_text.specs.TextsLaws.{lacks_push}
+use Rattle.cg_value.specs.Entry.{EntryData, IsPath, ReadsAt}
+use Rattle.cg_value.specs.Files.{KindFile}
+use Rattle.cg_value.specs.Lines.{unlines}
+use Rattle.cg_value.specs.declared.kind.ReadForm.{ReadForm}
+use Rattle.cg_value.specs.declared.profile.Profile.{Profile}
+use Rattle.cg_snap.specs.DecoderState.{AtLine, AtPath, AtStart, CanEndLine, IsOfKind}
+use Rattle.cg_snap.specs.Snap.{Snap, SnapText, records}
+use Rattle.cg_snap.specs.declared.present.Present.{Present}
+use Rattle.cg_snap.proofs.Joins.{ends_push, push_at, records-append, snap_append, unlines-push}
+use Rattle.cg_snap.proofs.States.{named_path}
+use Rattle.cg_snap.proofs.Steps.{all_push, line_goes, line_text_viable, line_viable, lines_text_snap, one_record, present_entry, same_path, some_push}
+
+-- ---- Within a line
+
+line_text_end : (p g r q l : List ℕ) (b : ℕ) → b ≡ 10 → p ≡ g ++ (r ++ (q ++ 0 ∷ l)) → (p ++ b ∷ []) ++ [] ≡ g ++ (r ++ (q ++ 0 ∷ (l ++ 10 ∷ [])))
+line_text_end p g r q l b e f = rw (e, f) (simp (append_assoc, append-nil))
+
+line_text_more : (p g r q l : List ℕ) (b : ℕ) → p ≡ g ++ (r ++ (q ++ 0 ∷ l)) → p ++ b ∷ [] ≡ g ++ (r ++ (q ++ 0 ∷ (l ++ b ∷ [])))
+line_text_more p g r q l b f = rw f (simp append_assoc)
+
+file_more : (k : ReadForm) (u l : List ℕ) (b : ℕ) → Viable (KindFile k) ((u ++ l) ++ b ∷ []) → Viable (KindFile k) (u ++ (l ++ b ∷ []))
+file_more k u l b v = rw append_assoc at v
+
+start_text : (p q r : List ℕ) → p ≡ q → q ++ 0 ∷ r ≡ (p ++ 0 ∷ []) ++ r
+start_text p q r e = rw e (simp append_assoc)
+
+next_text : (p g r b t : List ℕ) → p ≡ g ++ (r ++ b) → (g ++ r) ++ (b ++ 0 ∷ t) ≡ (p ++ 0 ∷ []) ++ t
+next_text p g r b t e = rw e (simp append_assoc)
+
+module _ (profile : Profile) where
+  pub line_allowed : (begun : List ℕ) (x : Present) (p : List ℕ) (es : List EntryData) (b : ℕ) (h : AtLine profile begun x p es) → Next (KindFile h.kind) (unlines h.lines ++ h.line) b → Next (Snap profile) p b
+  line_allowed begun x p es b h v =
+      elim (cases_eq b 10) [
+        | inl e ↦
+            let f : Viable (KindFile h.kind) (unlines (h.lines ++ h.line ∷ [])) = rw (unlines-push h.lines h.line) (subst (λ (c : ℕ). Viable (KindFile h.kind) (unlines h.lines ++ (h.line ++ c ∷ []))) e (file_more h.kind (unlines h.lines) h.line b v)) in
+            let s = lines_text_snap profile es h.given x.path.items h.kind (h.lines ++ h.line ∷ []) h.entries h.other h.good h.reads_at (some_push h.lines h.line) (all_push (Lacks 10) h.lines h.line h.plain h.plain_line) f in
+            record { rest = []; whole = subst (Snap profile) (ap (λ (t : List ℕ). h.given ++ t) (records-append x.path.items h.lines (h.line ∷ [])) ∙ sym (line_text_end p h.given (records x.path.items h.lines) x.path.items h.line b e h.split)) s }
+        | inr n ↦
+            line_text_viable profile es h.given x.path.items h.kind h.lines (h.line ++ b ∷ []) (p ++ b ∷ []) h.entries h.other h.good h.reads_at h.plain (lacks_push 10 h.line b h.plain_line n)
+            (line_goes h.kind h.lines h.line b n h.plain_line h.plain (file_more h.kind (unlines h.lines) h.line b v)) (line_text_more p h.given (records x.path.items h.lines) x.path.items h.line b h.split)
+      ]
+
+  -- ---- After a path
+
+  pub start_nul_allowed : (begun p : List ℕ) (es : List EntryData) (k : ReadForm) → IsOfKind profile begun k → AtStart begun p es → Next (Snap profile) p 0
+  start_nul_allowed begun p es k c h =
+      let r = one_record profile begun k (named_path begun h.begun_path c.0) c.1 in
+      record { rest = r.0; whole = (r.1 ∷ [], subst (SnapText profile (r.1 ∷ [])) (start_text p begun r.0 h.bytes) r.3) }
+
+  pub next_nul_allowed : (begun : List ℕ) (x : Present) (p : List ℕ) (es : List EntryData) (k : ReadForm) → IsOfKind profile begun k → x.path.items ≢ begun → AtPath profile begun x p es → Next (Snap profile) p 0
+  next_nul_allowed begun x p es k c n h =
+      let r = one_record profile begun k (named_path begun h.begun_path c.0) c.1 in
+      let e = present_entry profile begun x p es h in
+      let front = push_at profile es h.given x.path.items e.0 h.lines e.1 h.entries e.2 h.other in
+      let whole = snap_append profile (es ++ e.0 ∷ []) (r.1 ∷ []) (h.given ++ records x.path.items h.lines) (begun ++ 0 ∷ r.0) front r.3 (ends_push es e.0 r.1.path (λ z. n (sym e.1 ∙ z ∙ r.2))) in
+      record { rest = r.0; whole = ((es ++ e.0 ∷ []) ++ r.1 ∷ [], subst (SnapText profile ((es ++ e.0 ∷ []) ++ r.1 ∷ [])) (next_text p h.given (records x.path.items h.lines) begun r.0 h.split) whole) }
+
+  pub same_nul_allowed : (begun : List ℕ) (x : Present) (p : List ℕ) (es : List EntryData) (h : AtPath profile begun x p es) → begun ≡ x.path.items → CanEndLine h.kind h.lines [] → Next (Snap profile) p 0
+  same_nul_allowed begun x p es h e g = line_viable profile [] x (p ++ 0 ∷ []) es (same_path profile begun [] x x p es 0 h refl refl e refl refl refl g)

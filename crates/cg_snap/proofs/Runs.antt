@@ -1,0 +1,53 @@
+-- Runs of bytes.
+use Rattle.std.proofs.Common.{◌≡◌, ◌≢◌, ℕ, suc, zero, ◌+◌, ◌<◌, ◌≤◌, List, [], ◌∷◌, ◌++◌, take, length, get_or, refl, sym, ap, subst, ◌∙◌, arith, inl, inr, ◌⊎◌, Option, Some, None, Bool, true, false}
+use Rattle.std.specs.Bool.{MatchBool}
+use Rattle.std.specs.Prelude.{slice_index, ◌==◌}
+use Rattle.std.proofs.lemmas.Bool.{eq-eqb}
+use Rattle.std.proofs.lemmas.List.{length-take, take-take}
+use Rattle.cg_text.specs.Texts.{Lacks, Viable}
+use Rattle.cg_value.specs.Entry.{EntryData}
+use Rattle.cg_value.specs.declared.profile.Profile.{Profile}
+use Rattle.cg_snap.specs.Closed.{IsBegun}
+use Rattle.cg_snap.specs.ClosedLaws.{begun_once}
+use Rattle.cg_snap.specs.Decoder.{Stands}
+use Rattle.cg_snap.specs.DecoderState.{ArePathBytes, At, AtLine, AtPath, IsRun}
+use Rattle.cg_snap.specs.Snap.{Snap}
+use Rattle.cg_snap.specs.SnapStop.{IsSnapUnstopped}
+use Rattle.cg_snap.specs.declared.decoder.SnapshotDecoder.{SnapshotDecoder}
+use Rattle.cg_snap.specs.declared.limits.Limits.{Limits}
+use Rattle.cg_snap.specs.declared.present.Present.{Present}
+use Rattle.cg_snap.proofs.Closes.{line_begun}
+use Rattle.cg_snap.proofs.Places.{begun_run, unstopped_run}
+use Rattle.cg_snap.proofs.States.{at_viable}
+use Rattle.cg_snap.proofs.Steps.{bytes_no_newline, bytes_no_nul}
+
+pub lacks_take : (n : ℕ) (bytes : List ℕ) → Lacks 10 bytes → Lacks 10 (take n bytes)
+lacks_take zero bytes h = tt
+lacks_take (suc n) [] h = tt
+lacks_take (suc n) (b ∷ bytes) h = (h.0, lacks_take n bytes h.1)
+
+-- The bytes up to a place with no newline before it.
+pub line_searched : (bytes : List ℕ) (m n : ℕ) → ((k : ℕ) → 0 ≤ k → k < m → ¬ ((slice_index bytes k == 10) ≡ true)) → n ≤ m → Lacks 10 (take n bytes)
+line_searched bytes m zero h le = tt
+line_searched [] m (suc n) h le = tt
+line_searched (b ∷ bytes) zero (suc n) h le = absurd (omega (arith, le))
+line_searched (b ∷ bytes) (suc m) (suc n) h le = ((λ e. h 0 (omega arith) (omega arith) (eq-eqb b 10 e)), line_searched bytes m n (λ k z lt. h (suc k) (omega arith) (omega (arith, lt))) (omega (arith, le)))
+
+pub take_front : (used n : ℕ) (piece front : List ℕ) → front ≡ take n piece → used ≤ length front → (take used front ≡ take used piece) × (take used (take n piece) ≡ take used piece)
+take_front used n piece front e le =
+    let short : used ≤ n = omega (arith, le, ap length e, length-take n piece) in
+    let same : take used (take n piece) ≡ take used piece = take-take used n piece short in
+    (ap (λ (t : List ℕ). take used t) e ∙ same, same)
+
+-- Why a run has no NUL that ends a path.
+abbrev pub RunWhy : List ℕ → List ℕ → Type 0
+RunWhy r q = Lacks 10 q × (Lacks 0 q ⊎ ((path : List ℕ) × (line : List ℕ) × (r ≡ path ++ 0 ∷ line)))
+
+module _ (profile : Profile) where
+  run_flag : (begun : List ℕ) (x : Present) (p r q : List ℕ) (es : List EntryData) (b : Bool) → MatchBool b (AtLine profile begun x p es) (AtPath profile begun x p es) → IsBegun p r → MatchBool b (Lacks 10 q) (ArePathBytes q) → RunWhy r q
+  run_flag begun x p r q es true h g n = (n, inr (x.path.items, h.line, begun_once p r (x.path.items ++ 0 ∷ h.line) g (line_begun profile begun x p es h)))
+  run_flag begun x p r q es false h g n = (bytes_no_newline q n, inl (bytes_no_nul q n))
+
+  pub run_why : (begun : List ℕ) (o : Option Present) (p r q : List ℕ) (es : List EntryData) → At profile begun o p es → IsBegun p r → IsRun o q → RunWhy r q
+  run_why begun None p r q es h g n = (bytes_no_newline q n, inl (bytes_no_nul q n))
+  run_why begun (Some x) p r q es h g n = run_flag begun x p r q es x.in_line h g n

@@ -1,0 +1,24 @@
+use Rattle.std.proofs.Common.{◌≡◌, ◌≤◌, ◌++◌, ℕ, List, take, length, ap, refl, sym, ◌∙◌, subst, arith}
+use Rattle.std.proofs.lemmas.List.{length-take}
+use Rattle.cg_line.specs.Reads.{Reads}
+use Rattle.cg_text.specs.Texts.{Lacks}
+use Rattle.cg_snap.proofs.Runs.{lacks_take, take_front}
+use Rattle.cg_snap.proofs.States.{line_taken}
+use Rattle.cg_snap.proofs.run.take_line.Goals as goal
+
+pub returns-clause-taken : goal.returns-clause-taken
+returns-clause-taken c = λ profile p es h t.
+    let used = c.push_run.result.used in
+    let n = c.line_length.result in
+    let piece = c.args.piece.now in
+    let same = take_front used n piece c.split_at.result.0.now c.split_at.ensures.front c.push_run.ensures.within in
+    line_taken profile c.args.begun.now.items c.args.present.now _ p es (take used piece) t h (subst (Lacks 10) same.1 (lacks_take used (take n piece) c.line_length.ensures.plain)) refl refl t
+    (λ k s r. subst (λ (bytes : List ℕ). Reads c.push_run.new.self k (s ++ bytes)) same.0 (c.push_run.ensures.pushed k s r).reads)
+
+pub returns-clause-plain : goal.returns-clause-plain
+returns-clause-plain c =
+    let used = c.push_run.result.used in
+    let n = c.line_length.result in
+    let piece = c.args.piece.now in
+    let same = take_front used n piece c.split_at.result.0.now c.split_at.ensures.front c.push_run.ensures.within in
+    subst (Lacks 10) same.1 (lacks_take used (take n piece) c.line_length.ensures.plain)

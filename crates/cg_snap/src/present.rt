@@ -1,0 +1,188 @@
+//! The entry whose records come, and what one byte does to it.
+ghost use Rattle.std.specs.Prelude.{◌≡◌, ℕ, List, Some, true, MatchOption};
+ghost use Rattle.cg_value.specs.Entry.{EntryData};
+ghost use Rattle.cg_snap.specs.DecoderState.{At, AtPath, Did, IsBetween, IsLineFlag, IsLineCount, IsOfKind};
+ghost use Rattle.cg_snap.specs.Snap.{AreEntryLines};
+
+use crate::class::{PathClass, classify};
+use crate::stop::Why;
+use cg_line::{PushFault, ValueReader};
+use cg_value::{Entry, Profile, ReadKind};
+use std::alloc::Global;
+use std::mem;
+
+/// The entry whose records come.
+#[derive(Drop)]
+pub(crate) struct Present {
+    pub(crate) path: Vec<u8>,
+    pub(crate) reader: ValueReader,
+    /// How many of its records have ended, or `u64::MAX` where that is more.
+    pub(crate) lines: u64,
+    /// Whether the NUL of a further record came.
+    pub(crate) in_line: bool,
+}
+
+/// What one byte did.
+#[derive(Drop)]
+pub(crate) enum Stepped {
+    Taken,
+    Given(Entry),
+    Refused(Why),
+    OutOfMemory,
+}
+
+/// Whether the NUL of a record came that hasn't ended.
+pub(crate) fn is_in_line(present: &Option<Present>) -> bool
+    ensures { IsLineFlag present.now result }
+{
+    match present {
+        None => false,
+        Some(x) => x.in_line,
+    }
+}
+
+/// How many records have ended of the entry whose path is begun: none where it's another entry than the present one.
+pub(crate) fn line_count(begun: &Vec<u8>, present: &Option<Present>) -> u64
+    ensures { IsLineCount begun.now.items present.now result }
+{
+    match present {
+        None => 0,
+        Some(x) => {
+            if x.path.as_slice() == begun.as_slice() {
+                x.lines
+            } else {
+                0
+            }
+        }
+    }
+}
+
+/// The entry of the whole records. There always is one.
+pub(crate) fn ended(profile: Profile, present: Present) -> Option<Entry>
+    ensures { (begun p : List ℕ) (es : List EntryData) (h : AtPath profile begun present p es) →
+        MatchOption result ⊥ (λ e. (e.path ≡ present.path.items) × AreEntryLines profile e h.lines) }
+{
+    let Present {
+        path,
+        reader,
+        lines: _,
+        in_line: _,
+    } = present;
+    match reader.finish() {
+        Ok(value) => match Entry::new(profile, path, value) {
+            Ok(entry) => Some(entry),
+            Err(_) => None,
+        },
+        Err(_) => None,
+    }
+}
+
+/// A byte of a line, or the newline after it.
+fn line_byte(begun: &Vec<u8>, present: &mut Present, byte: u8) -> Stepped
+    ensures { (profile : Profile) (p : List ℕ) (es : List EntryData) → At profile begun.now.items (Some present.old) p es → present.old.in_line ≡ true →
+        Did profile begun.now.items (Some present.new) p es byte result }
+{
+    match present.reader.push(byte) {
+        Ok(()) => {
+            if byte == b'\n' {
+                present.in_line = false;
+                present.lines = present.lines.saturating_add(1);
+            }
+            Stepped::Taken
+        }
+        Err(PushFault::Refused) => Stepped::Refused(Why::Line),
+        Err(PushFault::OutOfMemory) => Stepped::OutOfMemory,
+    }
+}
+
+/// The NUL after a path of a file of this kind.
+fn end_path(
+    alloc: Global,
+    profile: Profile,
+    begun: &mut Vec<u8>,
+    present: &mut Option<Present>,
+    kind: ReadKind,
+) -> Stepped
+    ensures { (p : List ℕ) (es : List EntryData) → At profile begun.old.items present.old p es → IsBetween present.old → IsOfKind profile begun.old.items kind →
+        Did profile begun.new.items present.new p es 0 result }
+{
+    match present.take() {
+        None => {
+            let path = mem::replace(begun, Vec::new(alloc));
+            *present = Some(Present {
+                path,
+                reader: ValueReader::new(alloc, kind),
+                lines: 0,
+                in_line: true,
+            });
+            Stepped::Taken
+        }
+        Some(mut x) => {
+            if x.path.as_slice() == begun.as_slice() {
+                if x.reader.takes_line() {
+                    begun.clear();
+                    x.in_line = true;
+                    *present = Some(x);
+                    return Stepped::Taken;
+                }
+                *present = Some(x);
+                return Stepped::Refused(Why::NoMoreLines);
+            }
+            let path = mem::replace(begun, Vec::new(alloc));
+            *present = Some(Present {
+                path,
+                reader: ValueReader::new(alloc, kind),
+                lines: 0,
+                in_line: true,
+            });
+            match ended(profile, x) {
+                Some(entry) => Stepped::Given(entry),
+                None => Stepped::Refused(Why::NoMoreLines),
+            }
+        }
+    }
+}
+
+/// A byte of a path, or the NUL after it.
+fn path_byte(
+    alloc: Global,
+    profile: Profile,
+    begun: &mut Vec<u8>,
+    present: &mut Option<Present>,
+    byte: u8,
+) -> Stepped
+    ensures { (p : List ℕ) (es : List EntryData) → At profile begun.old.items present.old p es → IsBetween present.old → Did profile begun.new.items present.new p es byte result }
+{
+    if byte == 0 {
+        return match classify(profile, begun.as_slice()) {
+            PathClass::NoName => Stepped::Refused(Why::NoName),
+            PathClass::NotReadable => Stepped::Refused(Why::NotReadable),
+            PathClass::Readable(kind) => end_path(alloc, profile, begun, present, kind),
+        };
+    }
+    if byte == b'\n' {
+        return Stepped::Refused(Why::PathByte);
+    }
+    match begun.push(byte) {
+        Ok(()) => Stepped::Taken,
+        Err(_) => Stepped::OutOfMemory,
+    }
+}
+
+/// What the byte does.
+pub(crate) fn step(
+    alloc: Global,
+    profile: Profile,
+    begun: &mut Vec<u8>,
+    present: &mut Option<Present>,
+    byte: u8,
+) -> Stepped
+    ensures { (p : List ℕ) (es : List EntryData) → At profile begun.old.items present.old p es → Did profile begun.new.items present.new p es byte result }
+{
+    if let Some(x) = present {
+        if x.in_line {
+            return line_byte(begun, x, byte);
+        }
+    }
+    path_byte(alloc, profile, begun, present, byte)
+}
