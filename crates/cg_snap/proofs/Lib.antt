@@ -11,3 +11,5 @@ pub mod Finishes
 pub mod Runs
 pub mod Limiting
 pub mod Moves
+pub mod Holds
+pub mod Offers

@@ -390,6 +390,12 @@ module _ (profile : Profile) where
   pub path_ends : (begun : List ℕ) (x : Present) (p : List ℕ) (es : List EntryData) (h : AtPath profile begun x p es) → (v : Value) × ReadLines h.kind v h.lines
   path_ends begun x p es h = lines_can_end h.kind h.lines h.some h.plain (reads_viable x.reader h.kind (unlines h.lines) h.reads)
 
+  -- So can that of a line, after its whole records.
+  pub line_can_end : (begun : List ℕ) (x : Present) (p : List ℕ) (es : List EntryData) (h : AtLine profile begun x p es) → h.lines ≢ [] → (v : Value) × ReadLines h.kind v h.lines
+  line_can_end begun x p es h some =
+      let v = reads_viable x.reader h.kind (unlines h.lines ++ h.line) h.reads in
+      lines_can_end h.kind h.lines some h.plain (record { rest = h.line ++ v.rest; whole = subst (KindFile h.kind) (append_assoc (unlines h.lines) h.line v.rest) v.whole })
+
   pub present_entry : (begun : List ℕ) (x : Present) (p : List ℕ) (es : List EntryData) (h : AtPath profile begun x p es) → (e : EntryData) × (e.path ≡ x.path.items) × AreEntryLines profile e h.lines
   present_entry begun x p es h =
       let v = path_ends begun x p es h in

@@ -3,6 +3,7 @@ use Rattle.std.specs.Prelude.{◌≡◌, ◌≢◌, ℕ, ◌+◌, ◌-◌, ◌<�
 use Rattle.cg_text.specs.Texts.{Lacks, Next}
 use Rattle.cg_value.specs.Entry.{EntryData}
 use Rattle.cg_value.specs.declared.profile.Profile.{Profile}
+use Rattle.cg_line.specs.Reads as reader
 use Rattle.cg_snap.specs.Closed.{Closed, IsBegun}
 use Rattle.cg_snap.specs.DecoderState.{ArePathBytes, At}
 use Rattle.cg_snap.specs.Snap.{Snap, SnapText}
@@ -14,6 +15,7 @@ use Rattle.cg_snap.specs.declared.decoder.SnapshotDecoder.{SnapshotDecoder}
 use Rattle.cg_snap.specs.declared.decoder.What.{What}
 use Rattle.cg_snap.specs.declared.decoder.What.TheVariants as whats
 use Rattle.cg_snap.specs.declared.limits.Limits.{Limits}
+use Rattle.cg_snap.specs.declared.present.Present.{Present}
 use Rattle.cg_snap.specs.declared.stop.Stop.{Stop}
 use Rattle.cg_snap.specs.declared.stop.Stop.TheVariants as stops
 
@@ -26,6 +28,14 @@ limits_of d = d.limits
 -- The stop that came, if one did.
 abbrev pub stop_of : SnapshotDecoder → Option Stop
 stop_of d = d.stop
+
+-- The sum of the lengths of its vectors.
+abbrev pub held_in : Option Present → ℕ
+held_in None = 0
+held_in (Some x) = length x.path.items + reader.held_by x.reader
+
+abbrev pub held_by : SnapshotDecoder → ℕ
+held_by d = length d.begun.items + held_in d.present
 
 -- The decoder consumed the bytes p, of which none stops a stream, and gave the entries es.
 pub record Stands (d : SnapshotDecoder) (p : List ℕ) (es : List EntryData) : Type 0 where

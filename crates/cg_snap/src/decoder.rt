@@ -1,6 +1,11 @@
 //! The decoder of a snapshot.
-ghost use Rattle.std.specs.Prelude.{◌≡◌, ◌≤◌, ◌<◌, ◌++◌, ℕ, List, [], length, take, Some, None, Err, IfNone};
+ghost use Rattle.std.specs.Prelude.{◌≡◌, ◌↔◌, ◌≤◌, ◌<◌, ◌++◌, ℕ, List, [], length, take, Some, None, Err, IfNone};
+ghost use Rattle.cg_text.specs.Bytes.{HasByte};
+ghost use Rattle.cg_text.specs.Texts.{Next};
+ghost use Rattle.cg_text.specs.Token.{told};
 ghost use Rattle.cg_value.specs.Entry.{EntryData};
+ghost use Rattle.cg_snap.specs.Closed.{IsHeldFor};
+ghost use Rattle.cg_snap.specs.Snap.{Snap};
 ghost use Rattle.cg_snap.specs.DecoderState.{At};
 ghost use Rattle.cg_snap.specs.Decoder.{FinishIs, ManyIs};
 
@@ -9,6 +14,7 @@ use crate::present::{Present, Stepped, ended, is_in_line, line_count, step};
 use crate::refusal::refusal;
 use crate::run::take_run;
 use crate::stop::Stop;
+use cg_text::ByteSet;
 use cg_value::{Entry, Profile};
 use std::alloc::Global;
 
@@ -56,7 +62,7 @@ pub struct SnapshotDecoder {
 }
 
 impl SnapshotDecoder {
-    ghost use Rattle.cg_snap.specs.Decoder.{Stands, WhatIs, IsProgress, IsStuck, MovedIs, LimitIs, profile_of, limits_of, stop_of};
+    ghost use Rattle.cg_snap.specs.Decoder.{Stands, WhatIs, IsProgress, IsStuck, MovedIs, LimitIs, held_by, profile_of, limits_of, stop_of};
 
     /// A decoder that consumed nothing. It takes no memory.
     pub fn new(alloc: Global, profile: Profile, limits: Limits) -> SnapshotDecoder
@@ -209,6 +215,40 @@ impl SnapshotDecoder {
         ensures { (p : List ℕ) (es : List EntryData) → Stands self.now p es → result ≡ length p }
     {
         self.offset
+    }
+
+    /// The bytes with which some snapshot goes on. Limits don't matter, nor a stop that came. It takes no memory.
+    pub fn allowed(&self) -> ByteSet
+        ensures { (p : List ℕ) (es : List EntryData) → Stands self.now p es → (byte : ℕ) → HasByte result byte ↔ Next (Snap (profile_of self.now)) p byte }
+    {
+        if let Some(x) = &self.present {
+            if x.in_line {
+                return x.reader.allowed();
+            }
+        }
+        let mut set = ByteSet::new();
+        for number in 0..256u16 {
+            let byte = number as u8;
+            match refusal(self.profile, &self.begun, &self.present, byte) {
+                None => set.insert(byte),
+                Some(_) => {}
+            }
+        }
+        set
+    }
+
+    /// The sum of the lengths of its vectors, or `u64::MAX` where that is more. It takes no memory.
+    pub fn held(&self) -> u64
+        ensures exact { result ≡ told (held_by self.now) }
+        ensures held { (p : List ℕ) (es : List EntryData) → Stands self.now p es → IsHeldFor (profile_of self.now) p es (held_by self.now) }
+    {
+        let begun = self.begun.len() as u64;
+        match &self.present {
+            None => begun,
+            Some(x) => begun
+                .saturating_add(x.path.len() as u64)
+                .saturating_add(x.reader.held()),
+        }
     }
 
     /// The last entry, none of an empty snapshot; or where a record is begun, `Cut` with the stream's length; or the stop
