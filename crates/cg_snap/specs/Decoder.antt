@@ -1,6 +1,6 @@
 -- What the calls of a decoder promise, of the bytes that it consumed and the entries that it gave.
 use Rattle.std.specs.Prelude.{◌≡◌, ◌≢◌, ℕ, ◌+◌, ◌-◌, ◌<◌, ◌≤◌, List, [], ◌∷◌, ◌++◌, length, take, Option, Some, None, option_to_list, Bool, true, false, Result, Ok, Err}
-use Rattle.cg_text.specs.Texts.{Lacks, Next}
+use Rattle.cg_text.specs.Texts.{Next, Viable}
 use Rattle.cg_value.specs.Entry.{EntryData}
 use Rattle.cg_value.specs.declared.profile.Profile.{Profile}
 use Rattle.cg_line.specs.Reads as reader
@@ -46,6 +46,11 @@ pub record Stands (d : SnapshotDecoder) (p : List ℕ) (es : List EntryData) : T
   pub begins : IsBegun p now_begun
   pub length_is : d.record_len ≡ length now_begun
   pub unstopped : IsSnapUnstopped d.profile d.limits p
+
+-- What a decoder consumed closes what it gave, can be gone on from, and has no byte that stops it.
+abbrev pub PulledIsClosed : Type 0
+PulledIsClosed = (d : SnapshotDecoder) (p : List ℕ) (es : List EntryData) → Stands d p es →
+    Closed (profile_of d) p es × Viable (Snap (profile_of d)) p × IsSnapUnstopped (profile_of d) (limits_of d) p
 
 -- The byte passes no limit after p.
 pub record IsFree (profile : Profile) (limits : Limits) (p : List ℕ) (byte : ℕ) : Type 0 where

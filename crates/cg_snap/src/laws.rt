@@ -1,4 +1,5 @@
 //! The laws of snapshots and of plans. Each function takes and answers nothing: its contract is the law.
+ghost use Rattle.cg_snap.specs.Decoder.{PulledIsClosed};
 ghost use Rattle.cg_snap.specs.Laws.{ClosedOnce, ClosedPlanOnce, ItemsPrinted, OneBegun, OneClosing, OneList, OnePlan, SnapIsPrint, TwoProfiles};
 
 /// No text is the snapshot of two lists of entries, and a snapshot is its one list printed: the records of the canonical
@@ -30,4 +31,10 @@ pub fn closed_plan_once()
 /// upgraded: raw lines of `memory.numa_stat` are read as nested, and every other entry is itself.
 pub fn two_profiles()
     ensures { TwoProfiles }
+{}
+
+/// The bytes that a decoder of snapshots consumed close the entries that it gave, which are one list; some snapshot goes on
+/// from them, and none of them stops the stream.
+pub fn pulled_is_closed()
+    ensures { PulledIsClosed }
 {}
