@@ -13,3 +13,4 @@ pub mod Limiting
 pub mod Moves
 pub mod Holds
 pub mod Offers
+pub mod Wholes

@@ -63,7 +63,7 @@ ran old new p q es n h e run a pr li o r far long =
 
 -- ---- A piece, byte by byte
 
-take_two : (p piece : List ℕ) (at used : ℕ) → (p ++ take at piece) ++ take used (drop at piece) ≡ p ++ take (at + used) piece
+pub take_two : (p piece : List ℕ) (at used : ℕ) → (p ++ take at piece) ++ take used (drop at piece) ≡ p ++ take (at + used) piece
 take_two p piece at used =
     let t : take at piece ++ take used (drop at piece) ≡ take (at + used) piece = rw (← drop-take at used piece, ← take-take at (at + used) piece (omega arith)) (take-append-drop at (take (at + used) piece)) in
     append_assoc p (take at piece) (take used (drop at piece)) ∙ ap (λ (t : List ℕ). p ++ t) t

@@ -1,5 +1,6 @@
 pub mod Closed
 pub mod ClosedLaws
+pub mod Decode
 pub mod Decoder
 pub mod DecoderState
 pub mod Laws

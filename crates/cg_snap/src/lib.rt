@@ -2,6 +2,7 @@
 #![tactic(auto)]
 
 mod class;
+pub mod decode;
 pub mod decoder;
 pub mod laws;
 pub mod limits;
@@ -11,6 +12,7 @@ pub mod rows;
 mod run;
 pub mod stop;
 
+pub use decode::{StreamFault, decode_snapshot};
 pub use decoder::{Pulled, SnapshotDecoder, What};
 pub use limits::Limits;
 pub use stop::{Stop, Why};
