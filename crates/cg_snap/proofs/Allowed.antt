@@ -1,11 +1,10 @@
 -- Where a byte keeps a continuation.
-use Rattle.std.proofs.Common.{◌≡◌, ◌≢◌, ℕ, ◌<◌, Bool, true, false, List, [], ◌∷◌, ◌++◌, Option, Some, None, refl, sym, ap, subst, ◌∙◌, append_assoc, inl, inr, ◌⊎◌, arith}
-use Rattle.std.specs.List.{AllByRecursion}
+use Rattle.std.proofs.Common.{◌≡◌, ◌≢◌, ℕ, List, [], ◌∷◌, ◌++◌, refl, sym, ap, subst, ◌∙◌, append_assoc, inl, inr}
 use Rattle.std.proofs.lemmas.List.{append-nil}
 use Rattle.std.proofs.lemmas.Bool.{cases_eq}
 use Rattle.cg_text.specs.Texts.{Lacks, Viable, Next}
 use Rattle.cg_text.specs.TextsLaws.{lacks_push}
-use Rattle.cg_value.specs.Entry.{EntryData, IsPath, ReadsAt}
+use Rattle.cg_value.specs.Entry.{EntryData}
 use Rattle.cg_value.specs.Files.{KindFile}
 use Rattle.cg_value.specs.Lines.{unlines}
 use Rattle.cg_value.specs.declared.kind.ReadForm.{ReadForm}

@@ -1,5 +1,5 @@
 -- What record is begun in each state, and which entries are closed.
-use Rattle.std.proofs.Common.{◌≡◌, ◌≢◌, ℕ, List, [], ◌∷◌, ◌++◌, refl, sym, ap, subst, ◌∙◌, append_assoc, inl, inr, ◌⊎◌}
+use Rattle.std.proofs.Common.{◌≡◌, ℕ, List, [], ◌∷◌, ◌++◌, refl, sym, subst, ◌∙◌, append_assoc, inl, inr}
 use Rattle.std.specs.List.{AllByRecursion}
 use Rattle.std.proofs.lemmas.List.{append-nil}
 use Rattle.cg_text.specs.Texts.{Lacks}
@@ -8,7 +8,7 @@ use Rattle.cg_value.specs.Entry.{EntryData, IsPath}
 use Rattle.cg_value.specs.PathLaws.{path_lacks_newline}
 use Rattle.cg_value.specs.declared.profile.Profile.{Profile}
 use Rattle.cg_snap.specs.Closed.{Closed, EndsOther, IsBegun, IsRecordEnd}
-use Rattle.cg_snap.specs.DecoderState.{ArePathBytes, AtLine, AtPath, AtStart}
+use Rattle.cg_snap.specs.DecoderState.{AtLine, AtPath, AtStart}
 use Rattle.cg_snap.specs.Snap.{SnapText, records}
 use Rattle.cg_snap.specs.declared.present.Present.{Present}
 use Rattle.cg_snap.proofs.Refusals.{line_start, records_start}

@@ -1,8 +1,8 @@
 -- The present entry ends.
-use Rattle.std.proofs.Common.{◌≡◌, ◌≢◌, ℕ, Some, None, List, [], ◌∷◌, ◌++◌, refl, sym, ap, subst, ◌∙◌}
+use Rattle.std.proofs.Common.{◌≡◌, ◌≢◌, ℕ, Some, List, [], refl, sym, subst}
 use Rattle.cg_value.specs.Entry.{EntryData, IsPath, ReadsAt}
 use Rattle.cg_value.specs.EntryRefusal.{IsEntryFault}
-use Rattle.cg_value.specs.Files.{Fits, KindFile, KindText, ReadLines}
+use Rattle.cg_value.specs.Files.{KindFile, KindText, ReadLines}
 use Rattle.cg_value.specs.Lines.{unlines}
 use Rattle.cg_value.specs.declared.entry.EntryFault.{EntryFault}
 use Rattle.cg_value.specs.declared.entry.EntryFault.TheVariants.{BadPath, NotReadable, WrongKind, NoLines}
@@ -14,7 +14,7 @@ use Rattle.cg_snap.specs.Snap.{AreEntryLines}
 use Rattle.cg_snap.specs.SnapLaws.{one_form}
 use Rattle.cg_snap.specs.declared.present.Present.{Present}
 use Rattle.cg_snap.proofs.States.{reads_once}
-use Rattle.cg_snap.proofs.Steps.{is_entry, lines_spell, path_ends, printed_some}
+use Rattle.cg_snap.proofs.Steps.{lines_spell, path_ends, printed_some}
 
 -- What makes an entry isn't refused as one.
 no_fault : (profile : Profile) (path : List ℕ) (kind : ReadForm) (v : Value) (lines : List (List ℕ)) (why : EntryFault) → IsPath path → ReadsAt profile path (Some kind) → lines ≢ [] → ReadLines kind v lines → IsEntryFault profile path v why → ⊥

@@ -1,14 +1,11 @@
 -- How many records came before the NUL of a path.
-use Rattle.std.proofs.Common.{◌≡◌, ◌≢◌, ℕ, ◌<◌, ◌≤◌, List, [], ◌∷◌, ◌++◌, length, refl, sym, ap, subst, ◌∙◌, append_assoc, arith, inl, inr, ◌⊎◌, Some, None, Bool, true, false, Option}
-use Rattle.std.specs.List.{AllByRecursion}
-use Rattle.std.proofs.lemmas.List.{append-nil}
-use Rattle.cg_text.specs.Texts.{Lacks, Next}
+use Rattle.std.proofs.Common.{◌≡◌, ◌≢◌, ℕ, ◌<◌, ◌≤◌, List, [], ◌∷◌, ◌++◌, length, refl, sym, ap, subst, ◌∙◌, append_assoc, arith, inl, inr, Some, None, Bool, true, false, Option}
 use Rattle.cg_text.specs.Token.{told}
 use Rattle.cg_value.specs.Entry.{EntryData, IsPath}
 use Rattle.cg_value.specs.declared.profile.Profile.{Profile}
 use Rattle.cg_snap.specs.Decoder.{ManyIs}
-use Rattle.cg_snap.specs.DecoderState.{At, AtLine, AtPath, AtPaths, AtStart, IsBetween, IsLineCount, IsLineFlag}
-use Rattle.cg_snap.specs.Snap.{Snap, SnapText, records}
+use Rattle.cg_snap.specs.DecoderState.{At, AtPath, AtPaths, AtStart, IsBetween, IsLineCount, IsLineFlag}
+use Rattle.cg_snap.specs.Snap.{records}
 use Rattle.cg_snap.specs.SnapStop.{IsManyRecords}
 use Rattle.cg_snap.specs.declared.present.Present.{Present}
 use Rattle.cg_snap.proofs.Closes.{line_begun}

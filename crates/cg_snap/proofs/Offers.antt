@@ -1,9 +1,8 @@
 -- How the set of allowed bytes grows.
-use Rattle.std.proofs.Common.{◌≡◌, ℕ, ◌+◌, ◌<◌, ◌≤◌, ◌⊎◌, inl, inr, ◌↔◌, Bool, true, false, List, [], ◌∷◌, ◌++◌, Option, Some, None, refl, sym, subst, arith}
-use Rattle.std.specs.Bool.{MatchBool}
+use Rattle.std.proofs.Common.{◌≡◌, ℕ, ◌≤◌, inl, inr, ◌↔◌, Bool, false, List, Option, Some, None, sym, subst, arith}
 use Rattle.cg_text.specs.Bytes.{HasByte}
 use Rattle.cg_text.specs.Texts.{Next}
-use Rattle.cg_value.specs.Entry.{EntryData, IsPathByte}
+use Rattle.cg_value.specs.Entry.{EntryData}
 use Rattle.cg_value.specs.declared.profile.Profile.{Profile}
 use Rattle.cg_line.specs.AllowedLaws.{IsAllowedBelow}
 use Rattle.cg_snap.specs.DecoderState.{At, IsBetween}

@@ -1,9 +1,8 @@
 -- Which bytes stop a stream, and which don't.
-use Rattle.std.proofs.Common.{◌≡◌, ◌≢◌, ℕ, suc, zero, ◌+◌, ◌<◌, ◌≤◌, ◌-◌, List, [], ◌∷◌, ◌++◌, take, drop, length, get_or, refl, sym, ap, subst, ◌∙◌, append_assoc, arith, inl, inr, ◌⊎◌, Some, None, Bool, true, false, Option}
-use Rattle.std.specs.Bool.{MatchBool}
+use Rattle.std.proofs.Common.{◌≡◌, ◌≢◌, ℕ, ◌+◌, ◌<◌, ◌≤◌, List, [], ◌∷◌, ◌++◌, take, drop, length, refl, sym, ap, subst, ◌∙◌, append_assoc, arith, inl, inr, ◌⊎◌}
 use Rattle.std.specs.List.{AllByRecursion}
-use Rattle.std.proofs.lemmas.Bool.{cases_eq, cases_lt}
-use Rattle.std.proofs.lemmas.List.{append-nil, length-append, length_push, take-append-le, take-append-drop, take_all, take_more}
+use Rattle.std.proofs.lemmas.Bool.{cases_lt}
+use Rattle.std.proofs.lemmas.List.{append-nil, length-append, length_push, take-append-le, take-append-drop, take_all}
 use Rattle.cg_text.specs.ListFacts.{push_one}
 use Rattle.cg_text.specs.Texts.{Lacks, Viable, Next}
 use Rattle.cg_text.specs.TextsLaws.{lacks_both, lacks_inside}
@@ -15,8 +14,8 @@ use Rattle.cg_snap.specs.ClosedLaws.{begun_once, closed_once, one_closing}
 use Rattle.cg_snap.specs.Decoder.{IsFree}
 use Rattle.cg_snap.specs.DecoderState.{IsWhyAfter}
 use Rattle.cg_snap.specs.Snap.{Snap, SnapText, records}
-use Rattle.cg_snap.specs.SnapStop.{EndsRecord, IsLongRecord, IsManyRecords, IsSnapUnstopped, IsSnapWhy, SnapStopOf}
-use Rattle.cg_snap.specs.Stop.{IsPassed, StopOf, StopsAt}
+use Rattle.cg_snap.specs.SnapStop.{IsLongRecord, IsManyRecords, IsSnapUnstopped, IsSnapWhy, SnapStopOf}
+use Rattle.cg_snap.specs.Stop.{IsPassed, StopsAt}
 use Rattle.cg_snap.specs.declared.limits.Limits.{Limits}
 use Rattle.cg_snap.specs.declared.stop.Stop.{Stop}
 use Rattle.cg_snap.specs.declared.stop.Stop.TheVariants as stops

@@ -1,7 +1,6 @@
 -- No snapshot goes on with a byte that is refused.
-use Rattle.std.proofs.Common.{◌≡◌, ◌≢◌, ℕ, suc, All, ◌+◌, ◌<◌, Some, List, [], ◌∷◌, ◌++◌, length, refl, sym, ap, subst, ◌∙◌, append_assoc, arith, inl, inr, ◌⊎◌}
+use Rattle.std.proofs.Common.{◌≡◌, ◌≢◌, ℕ, suc, All, Some, List, [], ◌∷◌, ◌++◌, refl, sym, ap, subst, ◌∙◌, append_assoc, arith, inl, inr, ◌⊎◌}
 use Rattle.std.proofs.lemmas.Bool.{cases_eq}
-use Rattle.std.proofs.lemmas.List.{append-nil}
 use Rattle.std.specs.List.{AllByRecursion}
 use Rattle.cg_text.specs.Texts.{Lacks, Viable, Next}
 use Rattle.cg_value.specs.Entry.{EntryData, IsPath, IsPathByte, ReadsAt}

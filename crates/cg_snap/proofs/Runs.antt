@@ -1,24 +1,17 @@
 -- Runs of bytes.
-use Rattle.std.proofs.Common.{◌≡◌, ◌≢◌, ℕ, suc, zero, ◌+◌, ◌<◌, ◌≤◌, List, [], ◌∷◌, ◌++◌, take, length, get_or, refl, sym, ap, subst, ◌∙◌, arith, inl, inr, ◌⊎◌, Option, Some, None, Bool, true, false}
+use Rattle.std.proofs.Common.{◌≡◌, ℕ, suc, zero, ◌<◌, ◌≤◌, List, [], ◌∷◌, ◌++◌, take, length, ap, ◌∙◌, arith, inl, inr, ◌⊎◌, Option, Some, None, Bool, true, false}
 use Rattle.std.specs.Bool.{MatchBool}
 use Rattle.std.specs.Prelude.{slice_index, ◌==◌}
 use Rattle.std.proofs.lemmas.Bool.{eq-eqb}
 use Rattle.std.proofs.lemmas.List.{length-take, take-take}
-use Rattle.cg_text.specs.Texts.{Lacks, Viable}
+use Rattle.cg_text.specs.Texts.{Lacks}
 use Rattle.cg_value.specs.Entry.{EntryData}
 use Rattle.cg_value.specs.declared.profile.Profile.{Profile}
 use Rattle.cg_snap.specs.Closed.{IsBegun}
 use Rattle.cg_snap.specs.ClosedLaws.{begun_once}
-use Rattle.cg_snap.specs.Decoder.{Stands}
 use Rattle.cg_snap.specs.DecoderState.{ArePathBytes, At, AtLine, AtPath, IsRun}
-use Rattle.cg_snap.specs.Snap.{Snap}
-use Rattle.cg_snap.specs.SnapStop.{IsSnapUnstopped}
-use Rattle.cg_snap.specs.declared.decoder.SnapshotDecoder.{SnapshotDecoder}
-use Rattle.cg_snap.specs.declared.limits.Limits.{Limits}
 use Rattle.cg_snap.specs.declared.present.Present.{Present}
 use Rattle.cg_snap.proofs.Closes.{line_begun}
-use Rattle.cg_snap.proofs.Places.{begun_run, unstopped_run}
-use Rattle.cg_snap.proofs.States.{at_viable}
 use Rattle.cg_snap.proofs.Steps.{bytes_no_newline, bytes_no_nul}
 
 pub lacks_take : (n : ℕ) (bytes : List ℕ) → Lacks 10 bytes → Lacks 10 (take n bytes)

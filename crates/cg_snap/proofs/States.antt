@@ -1,8 +1,6 @@
 -- The same of a decoder's state, whatever it is.
-use Rattle.std.proofs.Common.{◌≡◌, ◌≢◌, ℕ, ◌+◌, ◌<◌, ◌≤◌, Bool, true, false, List, [], ◌∷◌, ◌++◌, length, Option, Some, None, refl, sym, ap, subst, ◌∙◌, append_assoc, inl, inr, ◌⊎◌, arith}
+use Rattle.std.proofs.Common.{◌≡◌, ◌≢◌, ℕ, ◌+◌, ◌<◌, Bool, true, false, List, [], ◌∷◌, ◌++◌, Option, Some, None, refl, sym, ap, subst, ◌∙◌, append_assoc, inl, inr, ◌⊎◌, arith}
 use Rattle.std.specs.Bool.{MatchBool}
-use Rattle.std.specs.List.{AllByRecursion}
-use Rattle.std.proofs.lemmas.List.{append-nil}
 use Rattle.std.proofs.lemmas.Bool.{MatchBool-at_true, MatchBool-at_false}
 use Rattle.cg_text.specs.ListFacts.{push_one}
 use Rattle.cg_text.specs.Texts.{Lacks, Viable, Next}
@@ -18,8 +16,8 @@ use Rattle.cg_line.specs.Place.{AtLineStart, TakesLine}
 use Rattle.cg_line.specs.Reads.{Reads}
 use Rattle.cg_snap.specs.Closed.{Closed, IsBegun}
 use Rattle.cg_snap.specs.DecoderState.{ArePathBytes, AtLine, AtPath, AtPaths, AtStart, At, CanEndLine, IsBetween, IsLineFlag, IsOfKind, IsWhyAfter}
-use Rattle.cg_snap.specs.Snap.{Snap, SnapText, records}
-use Rattle.cg_snap.specs.SnapLaws.{cut, one_name}
+use Rattle.cg_snap.specs.Snap.{Snap}
+use Rattle.cg_snap.specs.SnapLaws.{one_name}
 use Rattle.cg_snap.specs.SnapStop.{IsNameless}
 use Rattle.cg_snap.specs.declared.present.Present.{Present}
 use Rattle.cg_snap.specs.declared.stop.Why.TheVariants as whys

@@ -1,11 +1,11 @@
 -- What a decoder stands for after one more byte, and that each state can be completed.
-use Rattle.std.proofs.Common.{◌≡◌, ◌≢◌, ℕ, suc, zero, ◌+◌, ◌<◌, Some, List, [], ◌∷◌, ◌++◌, length, All, refl, sym, ap, subst, ◌∙◌, append_assoc, arith, inl, inr, ◌⊎◌}
+use Rattle.std.proofs.Common.{◌≡◌, ◌≢◌, ℕ, suc, zero, ◌+◌, Some, List, [], ◌∷◌, ◌++◌, length, All, refl, sym, ap, subst, ◌∙◌, append_assoc, arith, inl, inr, ◌⊎◌}
 use Rattle.std.specs.List.{AllByRecursion}
 use Rattle.std.proofs.lemmas.List.{append-nil, length_push}
 use Rattle.std.proofs.lemmas.Bool.{cases_eq}
 use Rattle.cg_text.specs.ListFacts.{push_one}
-use Rattle.cg_text.specs.Texts.{Lacks, Viable, Next}
-use Rattle.cg_text.specs.TextsLaws.{lacks_both, lacks_push}
+use Rattle.cg_text.specs.Texts.{Lacks, Viable}
+use Rattle.cg_text.specs.TextsLaws.{lacks_both}
 use Rattle.cg_text.specs.Token.{told}
 use Rattle.cg_value.specs.Entry.{EntryData, IsEntry, IsPath, IsPathByte, ReadsAt}
 use Rattle.cg_value.specs.Files.{KindFile, KindText, ReadLines}
@@ -28,9 +28,8 @@ use Rattle.cg_line.specs.Reads.{Reads, reads_viable}
 use Rattle.cg_snap.specs.Closed.{EndsOther}
 use Rattle.cg_snap.specs.DecoderState.{ArePathBytes, AtLine, AtPath, AtStart, CanEndLine}
 use Rattle.cg_snap.specs.Snap.{AreEntryLines, Snap, SnapText, records}
-use Rattle.cg_snap.specs.SnapLaws.{cut}
 use Rattle.cg_snap.specs.declared.present.Present.{Present}
-use Rattle.cg_snap.proofs.Joins.{ends_push, lines_first, one_lines, push_at, records-append, snap_append, snap_push, unlines-append, unlines-push}
+use Rattle.cg_snap.proofs.Joins.{ends_push, lines_first, one_lines, push_at, records-append, snap_append, unlines-push}
 
 -- ---- Lists
 

@@ -5,7 +5,7 @@ use Rattle.cg_value.specs.Entry.{EntryData}
 use Rattle.cg_value.specs.declared.profile.Profile.{Profile}
 use Rattle.cg_line.specs.Reads as reader
 use Rattle.cg_snap.specs.Closed.{Closed, IsBegun}
-use Rattle.cg_snap.specs.DecoderState.{ArePathBytes, At}
+use Rattle.cg_snap.specs.DecoderState.{At}
 use Rattle.cg_snap.specs.Snap.{Snap, SnapText}
 use Rattle.cg_snap.specs.SnapStop.{IsLongRecord, IsManyRecords, IsSnapUnstopped, SnapStopOf}
 use Rattle.cg_snap.specs.declared.decoder.Moved.{Moved}

@@ -1,12 +1,11 @@
 -- What a decoder's state stands for: the bytes that it consumed, and the entries that it gave.
-use Rattle.std.specs.Prelude.{◌≡◌, ◌≢◌, ℕ, ◌≤◌, ◌⊎◌, List, [], ◌∷◌, ◌++◌, length, Option, Some, None, Bool, false}
+use Rattle.std.specs.Prelude.{◌≡◌, ◌≢◌, ℕ, List, [], ◌∷◌, ◌++◌, length, Option, Some, None, Bool, false}
 use Rattle.std.specs.Bool.{MatchBool}
 use Rattle.std.specs.List.{AllByRecursion}
 use Rattle.cg_text.specs.Texts.{Lacks, Next, Viable}
 use Rattle.cg_text.specs.Token.{told}
 use Rattle.cg_value.specs.Entry.{EntryData, IsPath, IsPathByte, ReadsAt}
 use Rattle.cg_value.specs.Files.{KindFile}
-use Rattle.cg_value.specs.Kind.{IsReadForm}
 use Rattle.cg_value.specs.Lines.{unlines}
 use Rattle.cg_value.specs.declared.kind.ReadForm.{ReadForm}
 use Rattle.cg_value.specs.declared.profile.Profile.{Profile}

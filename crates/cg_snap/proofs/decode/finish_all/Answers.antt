@@ -1,4 +1,4 @@
-use Rattle.std.proofs.Common.{◌≡◌, ◌++◌, ◌∷◌, [], List, refl, sym, subst, ◌∙◌, inr}
+use Rattle.std.proofs.Common.{◌++◌, ◌∷◌, [], sym, subst, inr}
 use Rattle.cg_value.specs.Entry.{EntryData}
 use Rattle.cg_snap.specs.Decode.{IsDecoded}
 use Rattle.cg_snap.proofs.Wholes.{ended_err, ended_none, ended_some, unstopped_whole}

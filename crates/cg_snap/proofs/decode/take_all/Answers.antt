@@ -1,4 +1,4 @@
-use Rattle.std.proofs.Common.{◌≡◌, ◌≤◌, ◌<◌, ◌+◌, ◌++◌, ◌∷◌, [], ℕ, List, take, length, sym, subst, ◌∙◌, arith}
+use Rattle.std.proofs.Common.{◌≡◌, ◌<◌, ◌+◌, ◌++◌, ◌∷◌, [], take, length, sym, subst, ◌∙◌, arith}
 use Rattle.cg_value.specs.Entry.{EntryData}
 use Rattle.cg_snap.specs.Decoder.{Stands}
 use Rattle.cg_snap.proofs.Wholes.{left, on, starved_at, starved_before, stopped_at, unstopped_on, whole}

@@ -1,5 +1,4 @@
-use Rattle.std.proofs.Common.{◌≡◌, ◌≤◌, ◌-◌, ℕ, List, take, None, length}
-use Rattle.cg_value.specs.Entry.{EntryData}
+use Rattle.std.proofs.Common.{◌≡◌, ◌≤◌, ◌-◌, take, None, length}
 use Rattle.cg_snap.specs.Decoder.{Stands}
 use Rattle.cg_snap.proofs.decode.take_all.Given as goal
 

@@ -1,9 +1,9 @@
-use Rattle.std.proofs.Common.{refl, ap, sym, ◌∙◌, arith, ◌≡◌, Some, None}
+use Rattle.std.proofs.Common.{refl, sym, ◌∙◌, ◌≡◌, Some}
 use Rattle.cg_value.specs.Lines.{unlines}
 use Rattle.std.proofs.lemmas.Bool.{iff_false, both_ways}
 use Rattle.std.proofs.lemmas.Slice.Eq.{slice_eq-Decides}
 use Rattle.std.proofs.lemmas.Bool.Decides.{Decides-eqb}
-use Rattle.cg_snap.specs.DecoderState.{AtLine, AtPath, At}
+use Rattle.cg_snap.specs.DecoderState.{AtLine, AtPath}
 use Rattle.cg_snap.proofs.States.{at_some, at_none, no_more, at_false, named_path, takes_more}
 use Rattle.cg_snap.proofs.Steps.{start_path, same_path, next_path}
 use Rattle.cg_snap.proofs.present.end_path.Goals as goal

@@ -1,4 +1,3 @@
-use Rattle.std.proofs.Common.{◌≡◌, refl, sym, ap, ◌∙◌, subst}
 use Rattle.cg_value.specs.Lines.{unlines}
 use Rattle.cg_snap.proofs.Ends.{ends_as, never_cut, never_refused}
 use Rattle.cg_snap.proofs.present.ended.Goals as goal

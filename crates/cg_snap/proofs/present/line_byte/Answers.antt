@@ -1,6 +1,4 @@
-use Rattle.std.proofs.Common.{◌≡◌, ◌∷◌, [], refl, ap, arith}
-use Rattle.cg_text.specs.Token.{told}
-use Rattle.cg_value.specs.Files.{KindFile}
+use Rattle.std.proofs.Common.{◌∷◌, [], refl}
 use Rattle.cg_snap.proofs.Allowed.{line_allowed}
 use Rattle.cg_snap.proofs.States.{line_ended, line_refused, line_same, line_state, line_taken}
 use Rattle.cg_snap.proofs.present.line_byte.Goals as goal

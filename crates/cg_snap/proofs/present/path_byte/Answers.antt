@@ -1,5 +1,4 @@
-use Rattle.std.proofs.Common.{refl, ap, sym, ◌∷◌, [], ◌∙◌, subst, arith}
-use Rattle.cg_snap.specs.DecoderState.{IsClass}
+use Rattle.std.proofs.Common.{◌∷◌, [], arith}
 use Rattle.cg_snap.proofs.States.{newline_refused, no_name_refused, not_readable_refused, path_byte_allowed, paths_taken}
 use Rattle.cg_snap.proofs.present.path_byte.Goals as goal
 

@@ -1,4 +1,4 @@
-use Rattle.std.proofs.Common.{◌≡◌, true, refl, ap}
+use Rattle.std.proofs.Common.{◌≡◌, true}
 use Rattle.cg_snap.proofs.States.{line_state, line_refused}
 use Rattle.cg_snap.proofs.Allowed.{line_allowed}
 use Rattle.cg_snap.proofs.refusal.line_refusal.Goals as goal

@@ -1,5 +1,4 @@
-use Rattle.std.proofs.Common.{arith, length, take}
-use Rattle.cg_text.specs.Texts.{Lacks}
+use Rattle.std.proofs.Common.{arith, length}
 use Rattle.cg_snap.proofs.Runs.{line_searched}
 use Rattle.cg_snap.proofs.run.line_length.Goals as goal
 use Rattle.cg_snap.proofs.run.line_length.Goals.{in-Some, in-None}

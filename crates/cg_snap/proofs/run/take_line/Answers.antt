@@ -1,5 +1,4 @@
-use Rattle.std.proofs.Common.{◌≡◌, ◌≤◌, ◌++◌, ℕ, List, take, length, ap, refl, sym, ◌∙◌, subst, arith}
-use Rattle.std.proofs.lemmas.List.{length-take}
+use Rattle.std.proofs.Common.{◌++◌, ℕ, List, take, refl, subst}
 use Rattle.cg_line.specs.Reads.{Reads}
 use Rattle.cg_text.specs.Texts.{Lacks}
 use Rattle.cg_snap.proofs.Runs.{lacks_take, take_front}

@@ -1,4 +1,4 @@
-use Rattle.std.proofs.Common.{◌≡◌, ◌+◌, ◌++◌, ◌∷◌, [], ◌<◌, ◌⊎◌, inl, inr, List, ℕ, length, refl, sym, ◌∙◌, arith}
+use Rattle.std.proofs.Common.{◌++◌, ◌∷◌, [], inl, inr, arith}
 use Rattle.cg_snap.proofs.Moves.{NextBegun, moved, next_begun}
 use Rattle.cg_snap.proofs.Places.{stop_refused, unstopped_push}
 use Rattle.cg_snap.proofs.States.{at_closed}

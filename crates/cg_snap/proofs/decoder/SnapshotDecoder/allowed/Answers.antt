@@ -1,4 +1,4 @@
-use Rattle.std.proofs.Common.{◌≡◌, ◌≤◌, Option, true, sym, subst, arith}
+use Rattle.std.proofs.Common.{◌≤◌, Option, subst, arith}
 use Rattle.cg_snap.specs.DecoderState.{At, IsBetween}
 use Rattle.cg_snap.specs.Snap.{Snap}
 use Rattle.cg_snap.specs.declared.present.Present.{Present}

@@ -1,4 +1,4 @@
-use Rattle.std.proofs.Common.{◌≤◌, ◌+◌, ℕ, length, ap, arith}
+use Rattle.std.proofs.Common.{ap, arith}
 use Rattle.cg_line.specs.Reads as reader
 use Rattle.cg_snap.specs.Decoder.{held_by, held_in}
 use Rattle.cg_snap.proofs.Holds.{none_held, some_held}

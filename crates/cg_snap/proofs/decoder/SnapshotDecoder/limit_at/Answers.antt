@@ -1,6 +1,4 @@
-use Rattle.std.proofs.Common.{◌≡◌, ◌≢◌, ◌∷◌, ◌++◌, [], ℕ, ◌<◌, List, length, refl, sym, ap, ◌∙◌, subst, arith}
-use Rattle.cg_value.specs.Entry.{EntryData}
-use Rattle.cg_snap.specs.Decoder.{Stands}
+use Rattle.std.proofs.Common.{◌∷◌, ◌++◌, [], ◌<◌, length, arith}
 use Rattle.cg_snap.specs.SnapStop.{IsManyRecords}
 use Rattle.cg_snap.proofs.Places.{is_long, not_long, not_many, stop_long, stop_much}
 use Rattle.cg_snap.proofs.Limiting.{few_zero, free_after, stop_full}

@@ -1,4 +1,4 @@
-use Rattle.std.proofs.Common.{◌+◌, ◌<◌, refl, ◌++◌, ◌∷◌, [], take, ◌∙◌, length, subst, List, ℕ, arith}
+use Rattle.std.proofs.Common.{◌+◌, refl, ◌++◌, ◌∷◌, [], take, ◌∙◌, subst, List, ℕ, arith}
 use Rattle.cg_snap.specs.Decoder.{Stands}
 use Rattle.cg_snap.proofs.Moves.{given_step, skipped_on, stop_in_piece, taken_more, unstopped_in_piece}
 use Rattle.cg_snap.proofs.decoder.SnapshotDecoder.next.Goals as goal

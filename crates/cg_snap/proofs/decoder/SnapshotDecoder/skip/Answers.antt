@@ -1,4 +1,4 @@
-use Rattle.std.proofs.Common.{refl, sym, arith, length, take}
+use Rattle.std.proofs.Common.{refl, sym, arith, take}
 use Rattle.std.proofs.lemmas.List.{length-take-le}
 use Rattle.cg_snap.proofs.Moves.{ran}
 use Rattle.cg_snap.proofs.decoder.SnapshotDecoder.skip.Goals as goal
