@@ -65,9 +65,10 @@ with_options names = with_rule (with_rule (with_rule (with_rule start_app
 
 -- the program's command: its options and its subcommands
 abbrev pub cgfile_app : Lent → App
-cgfile_app names = with_subcommand (with_subcommand (with_subcommand (with_options names)
+cgfile_app names = with_subcommand (with_subcommand (with_subcommand (with_subcommand (with_options names)
     (named_app (codes "file")).top)
     (named_app (codes "setting")).top)
+    (new_app (codes "show")).top)
     (new_app (codes "kinds")).top
 
 -- ---- what is made of the matches

@@ -92,5 +92,6 @@ pub(crate) fn command_line<'a>(
     optioned(alloc, profiles)?
         .subcommand(named(alloc, "file")?)?
         .subcommand(named(alloc, "setting")?)?
+        .subcommand(plain(alloc, "show"))?
         .subcommand(plain(alloc, "kinds"))
 }

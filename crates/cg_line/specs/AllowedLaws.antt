@@ -1,9 +1,8 @@
 -- How the set of allowed bytes grows.
-use Rattle.std.proofs.Common.{◌≡◌, cond, zero, suc, true, false, refl, ℕ, ◌+◌, ◌<◌, ◌≤◌, ◌⊎◌, inl, inr, ◌↔◌, Bool, List, [], ◌∷◌, arith, append_assoc}
-use Rattle.std.proofs.lemmas.List.Sums.{sum_by-cons}
+use Rattle.std.proofs.Common.{◌≡◌, ℕ, ◌+◌, ◌<◌, ◌≤◌, ◌⊎◌, inl, inr, ◌↔◌, Bool, List, [], ◌∷◌, arith, append_assoc}
 use native.Mathlib.Decide.{dec_lt}
 use Prim.{yes, no}
-use Rattle.cg_text.specs.Bytes.{HasByte, count_of}
+use Rattle.cg_text.specs.Bytes.{HasByte}
 use Rattle.cg_text.specs.Texts.{Next}
 use Rattle.cg_text.specs.Token.{AreBytes}
 use Rattle.cg_text.specs.TokenLaws.{bytes_inside}
@@ -38,18 +37,3 @@ module _ (L : List ℕ → Type 0) (taken : List ℕ) where
 
   pub allowed_all : ((text : List ℕ) → L text → AreBytes text) → (set : List Bool) (n : ℕ) → 256 ≤ n → IsAllowedBelow set L taken n → (b : ℕ) → HasByte set b ↔ Next L taken b
   allowed_all bytes set n all h b = (λ k. ((h b).0 k).1, λ next. (h b).1 (omega (arith, next_is_byte bytes b next), next))
-
--- A set of some bytes has one.
-pub some_marked : (marks : List Bool) → 0 < count_of marks → (b : ℕ) × HasByte marks b
-some_marked [] h = absurd (omega (arith, h))
-some_marked (true ∷ marks) h = (0, refl)
-some_marked (false ∷ marks) h = let more = some_marked marks h in (suc more.0, more.1)
-
-false_not_true : false ≡ true → ⊥
-false_not_true e = cc
-
-pub marked_counts : (marks : List Bool) (b : ℕ) → HasByte marks b → 0 < count_of marks
-marked_counts [] b h = absurd (false_not_true h)
-marked_counts (true ∷ marks) b h = omega (arith, sum_by-cons (λ (mark : Bool). cond mark 1 0) true marks)
-marked_counts (false ∷ marks) zero h = absurd (false_not_true h)
-marked_counts (false ∷ marks) (suc b) h = marked_counts marks b h

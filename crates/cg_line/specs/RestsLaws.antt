@@ -1,5 +1,5 @@
 -- What holds of the rests that complete a text.
-use Rattle.std.proofs.Common.{◌≡◌, ℕ, ◌<◌, ◌↔◌, List, [], ◌∷◌, ◌++◌, refl, sym, ◌∙◌, append_assoc, append-nil, Result, Ok, Err, IsTrue}
+use Rattle.std.proofs.Common.{◌≡◌, ℕ, ◌↔◌, List, [], ◌∷◌, ◌++◌, append_assoc, append-nil, Result, Ok, Err}
 use Rattle.cg_text.specs.Token.{Spells, Completes}
 use Rattle.cg_text.specs.Texts.{Viable, TextOf}
 use Rattle.cg_line.specs.Rests.{Goes, SameRests, NoRest, Pushes, IsRead, Pushed}

@@ -9,6 +9,7 @@ ghost use Rattle.cg_value.specs.Held.{held_of_lines};
 ghost use Rattle.cg_value.specs.declared.value.Value.{Value};
 ghost use Rattle.cg_value.specs.declared.kind.ReadForm.{ReadForm};
 ghost use Rattle.cg_line.specs.Place.{TakesLine};
+ghost use Rattle.cg_line.specs.PlaceLaws.{SomeNext};
 
 use crate::place::Place;
 use crate::push::{PushFault, push_to};
@@ -126,7 +127,19 @@ impl ValueReader {
         if self.place.is_in_line() {
             return false;
         }
-        self.allowed().len() > 0
+        self.goes_on()
+    }
+
+    /// Whether any byte may come next.
+    fn goes_on(&self) -> bool
+        ensures { (kind : ReadForm) (taken : List ℕ) → Reads self.now kind taken → (IsTrue result ↔ SomeNext kind taken) }
+    {
+        for number in 0..256u16 {
+            if self.text.allows(number as u8) {
+                return true;
+            }
+        }
+        false
     }
 
     /// Whether the bytes so far are a whole file. It takes no memory.

@@ -1,21 +1,36 @@
 -- The texts of values in terms of what joins them.
-use Rattle.std.proofs.Common.{◌≡◌, ℕ, List, [], ◌∷◌, ◌++◌, map, refl, sym, ap, append_assoc, append-nil}
+use Rattle.std.proofs.Common.{◌≡◌, ℕ, List, [], ◌∷◌, ◌++◌, map, refl, ap, append_assoc, append-nil}
 use Rattle.std.specs.List.{flat_map}
 use Rattle.cg_value.specs.Lines.{unlines}
 use Rattle.cg_value.specs.Print.{print_led, print_range, print_set}
 use Rattle.cg_value.specs.ReadLine.{words_line}
+use Rattle.cg_value.specs.Records.{records}
 use Rattle.cg_value.specs.WriteLine.{sign_of, toggles_line}
 use Rattle.cg_value.specs.declared.setting.Toggle.{Toggle}
+use Rattle.cg_print.specs.Headed.{headed, shown}
 use Rattle.cg_print.specs.Joined.{led, joined}
 
--- Lines.
-pub lines_mapped : {X : Type 0} (f : X → List ℕ) (xs : List X) → unlines (map f xs) ≡ flat_map (λ x. f x ++ 10 ∷ []) xs
-lines_mapped f [] = refl
-lines_mapped f (x ∷ xs) = rw (lines_mapped f xs) (sym (append_assoc (f x) (10 ∷ []) (flat_map (λ y. f y ++ 10 ∷ []) xs)))
+-- Lines after a head.
+pub headed_mapped : {X : Type 0} (head : List ℕ) (f : X → List ℕ) (xs : List X) → headed head (map f xs) ≡ flat_map (λ x. headed head (f x ∷ [])) xs
+headed_mapped head f [] = refl
+headed_mapped head f (x ∷ xs) = rw (headed_mapped head f xs, append_assoc head (f x ++ 10 ∷ []) (flat_map (λ y. headed head (f y ∷ [])) xs), append_assoc (f x) (10 ∷ []) (flat_map (λ y. headed head (f y ∷ [])) xs)) refl
 
-pub lines_append : (xs ys : List (List ℕ)) → unlines (xs ++ ys) ≡ unlines xs ++ unlines ys
-lines_append [] ys = refl
-lines_append (x ∷ xs) ys = rw (lines_append xs ys) (sym (append_assoc x (10 ∷ unlines xs) (unlines ys)))
+pub headed_append : (head : List ℕ) (xs ys : List (List ℕ)) → headed head (xs ++ ys) ≡ headed head xs ++ headed head ys
+headed_append head [] ys = refl
+headed_append head (x ∷ xs) ys = rw (headed_append head xs ys, append_assoc head (x ++ 10 ∷ headed head xs) (headed head ys), append_assoc x (10 ∷ headed head xs) (headed head ys)) refl
+
+-- A file's text has no heads, and a record's head is the path and a NUL.
+pub headed_none : (lines : List (List ℕ)) → headed [] lines ≡ unlines lines
+headed_none [] = refl
+headed_none (line ∷ lines) = ap (λ t. line ++ 10 ∷ t) (headed_none lines)
+
+pub headed_path : (path : List ℕ) (lines : List (List ℕ)) → headed (path ++ 0 ∷ []) lines ≡ records path lines
+headed_path path [] = refl
+headed_path path (line ∷ lines) = rw (headed_path path lines, append_assoc path (0 ∷ []) (line ++ 10 ∷ records path lines)) refl
+
+pub headed_shown : (path : List ℕ) (lines : List (List ℕ)) → headed (path ++ 58 ∷ 32 ∷ []) lines ≡ shown path lines
+headed_shown path [] = refl
+headed_shown path (line ∷ lines) = rw (headed_shown path lines, append_assoc path (58 ∷ 32 ∷ []) (line ++ 10 ∷ shown path lines)) refl
 
 -- Pairs after a space each.
 pub led_is : {X : Type 0} (f : X → List ℕ) (xs : List X) → led 32 f xs ≡ print_led f xs

@@ -1,3 +1,5 @@
+pub mod Entry
+pub mod Headed
 pub mod Joined
 pub mod JoinedLaws
 pub mod Sink

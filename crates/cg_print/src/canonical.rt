@@ -1,8 +1,8 @@
 //! Canonical texts, one after another.
-ghost use Rattle.std.specs.Prelude.{◌≡◌, ◌++◌, ◌∷◌, ℕ, List, [], Option, OnOk, map};
-ghost use Rattle.cg_value.specs.Lines.{unlines};
+ghost use Rattle.std.specs.Prelude.{◌≡◌, ◌++◌, ◌∷◌, ℕ, List, [], Option, OnOk, OnErr, map};
 ghost use Rattle.cg_value.specs.Print.{print_given, print_led};
 ghost use Rattle.cg_print.specs.Joined.{led, joined};
+ghost use Rattle.cg_print.specs.Headed.{headed};
 
 use cg_text::OutOfMemory;
 
@@ -18,7 +18,8 @@ pub(crate) trait Canonical {
 
 /// Adds bytes.
 pub(crate) fn append_bytes(out: &mut Vec<u8>, bytes: &[u8]) -> Result<(), OutOfMemory>
-    ensures { OnOk result (out.new.items ≡ out.old.items ++ bytes.now) }
+    ensures added { OnOk result (out.new.items ≡ out.old.items ++ bytes.now) }
+    ensures kept { OnErr result (out.new.items ≡ out.old.items) }
 {
     out.extend_from_slice(bytes)?;
     Ok(())
@@ -58,20 +59,28 @@ pub(crate) fn append_newline(out: &mut Vec<u8>) -> Result<(), OutOfMemory>
     Ok(())
 }
 
-/// Adds a line, with its newline.
-pub(crate) fn append_line<T: Canonical>(out: &mut Vec<u8>, line: &T) -> Result<(), OutOfMemory>
-    ensures { OnOk result (out.new.items ≡ out.old.items ++ T.printed line.now ++ 10 ∷ []) }
+/// Adds a line after the head, with its newline.
+pub(crate) fn append_line<T: Canonical>(
+    out: &mut Vec<u8>,
+    head: &[u8],
+    line: &T,
+) -> Result<(), OutOfMemory>
+    ensures { OnOk result (out.new.items ≡ out.old.items ++ headed head.now (T.printed line.now ∷ [])) }
 {
-    line.append_to(out)?;
+    append_labelled(out, head, line)?;
     append_newline(out)
 }
 
-/// Adds lines, each with its newline.
-pub(crate) fn append_lines<T: Canonical>(out: &mut Vec<u8>, lines: &[T]) -> Result<(), OutOfMemory>
-    ensures { OnOk result (out.new.items ≡ out.old.items ++ unlines (map T.printed lines.now)) }
+/// Adds lines, each after the head and with its newline.
+pub(crate) fn append_lines<T: Canonical>(
+    out: &mut Vec<u8>,
+    head: &[u8],
+    lines: &[T],
+) -> Result<(), OutOfMemory>
+    ensures { OnOk result (out.new.items ≡ out.old.items ++ headed head.now (map T.printed lines.now)) }
 {
     for line in lines {
-        append_line(out, line)?;
+        append_line(out, head, line)?;
     }
     Ok(())
 }

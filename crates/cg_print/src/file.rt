@@ -2,9 +2,9 @@
 ghost use Rattle.std.specs.Prelude.{◌≡◌, ◌++◌, ◌∷◌, [], IfOk, OnOk, decimal, map, codes};
 ghost use Rattle.cg_value.specs.Kind.{IsReadForm};
 ghost use Rattle.cg_value.specs.Files.{Fits, KindText};
-ghost use Rattle.cg_value.specs.Lines.{unlines};
-ghost use Rattle.cg_value.specs.Print.{print_limit, print_default_line, print_weight_line, print_partition, print_pressure_line, print_of};
+ghost use Rattle.cg_value.specs.Print.{print_limit, print_default_line, print_weight_line, print_partition, print_pressure_line, print_lines, print_of};
 ghost use Rattle.cg_value.specs.declared.kind.ReadForm.{ReadForm};
+ghost use Rattle.cg_print.specs.Headed.{headed};
 
 use crate::canonical::{
     Canonical, append_bytes, append_labelled, append_line, append_lines, append_newline,
@@ -21,71 +21,92 @@ pub fn print_file(alloc: Global, value: &Value) -> Result<Vec<u8>, OutOfMemory>
         IsReadForm kind → Fits kind value.now → KindText kind value.now text.items) }
 {
     let mut text = Vec::new(alloc);
-    append_value(&mut text, value)?;
+    append_value(&mut text, b"", value)?;
     Ok(text)
 }
 
-/// Adds the canonical text of a value.
-fn append_value(text: &mut Vec<u8>, value: &Value) -> Result<(), OutOfMemory>
-    ensures { OnOk result (text.new.items ≡ text.old.items ++ print_of value.now) }
+/// Adds the canonical lines of a value, each after the head.
+pub(crate) fn append_value(
+    text: &mut Vec<u8>,
+    head: &[u8],
+    value: &Value,
+) -> Result<(), OutOfMemory>
+    ensures { OnOk result (text.new.items ≡ text.old.items ++ headed head.now (print_lines value.now)) }
 {
     match value {
-        Value::Number(number) => append_line(text, number),
-        Value::Signed(number) => append_line(text, number),
-        Value::Limit(limit) => append_line(text, limit),
-        Value::Mode(mode) => append_line(text, mode),
-        Value::CpuMax { quota, period } => append_cpu_max(text, *quota, *period),
-        Value::Clamp(clamp) => append_line(text, clamp),
-        Value::Numbers(numbers) => append_lines(text, numbers.as_slice()),
-        Value::Words(words) => append_line(text, words),
-        Value::Flat(flat) => append_lines(text, flat.pairs()),
-        Value::DeviceStats(lines) => append_lines(text, lines.as_slice()),
-        Value::DeviceLimits(lines) => append_lines(text, lines.as_slice()),
-        Value::DeviceWeights { default, lines } => append_weights(text, *default, lines.as_slice()),
-        Value::DeviceTargets(lines) => append_lines(text, lines.as_slice()),
-        Value::Set(set) => append_line(text, set),
+        Value::Number(number) => append_line(text, head, number),
+        Value::Signed(number) => append_line(text, head, number),
+        Value::Limit(limit) => append_line(text, head, limit),
+        Value::Mode(mode) => append_line(text, head, mode),
+        Value::CpuMax { quota, period } => append_cpu_max(text, head, *quota, *period),
+        Value::Clamp(clamp) => append_line(text, head, clamp),
+        Value::Numbers(numbers) => append_lines(text, head, numbers.as_slice()),
+        Value::Words(words) => append_line(text, head, words),
+        Value::Flat(flat) => append_lines(text, head, flat.pairs()),
+        Value::DeviceStats(lines) => append_lines(text, head, lines.as_slice()),
+        Value::DeviceLimits(lines) => append_lines(text, head, lines.as_slice()),
+        Value::DeviceWeights { default, lines } => append_weights(
+            text,
+            head,
+            *default,
+            lines.as_slice(),
+        ),
+        Value::DeviceTargets(lines) => append_lines(text, head, lines.as_slice()),
+        Value::Set(set) => append_line(text, head, set),
         Value::Partition {
             role,
             valid,
             reason,
-        } => append_partition(text, *role, *valid, reason),
-        Value::Pressure { some, full } => append_pressure(text, *some, *full),
-        Value::Nested(lines) => append_lines(text, lines.as_slice()),
-        Value::Raw(lines) => append_lines(text, lines.as_slice()),
+        } => append_partition(text, head, *role, *valid, reason),
+        Value::Pressure { some, full } => append_pressure(text, head, *some, *full),
+        Value::Nested(lines) => append_lines(text, head, lines.as_slice()),
+        Value::Raw(lines) => append_lines(text, head, lines.as_slice()),
     }
 }
 
 /// Adds the line of a quota and a period, as `max 100000`.
-fn append_cpu_max(text: &mut Vec<u8>, quota: Limit, period: u64) -> Result<(), OutOfMemory>
+fn append_cpu_max(
+    text: &mut Vec<u8>,
+    head: &[u8],
+    quota: Limit,
+    period: u64,
+) -> Result<(), OutOfMemory>
     ensures { OnOk result
-        (text.new.items ≡ text.old.items ++ unlines ((print_limit quota ++ 32 ∷ decimal period) ∷ [])) }
+        (text.new.items ≡ text.old.items ++ headed head.now ((print_limit quota ++ 32 ∷ decimal period) ∷ [])) }
 {
-    quota.append_to(text)?;
+    append_labelled(text, head, &quota)?;
     append_labelled(text, b" ", &period)?;
     append_newline(text)
 }
 
 /// Adds the line of the default weight and those of the devices.
-fn append_weights(text: &mut Vec<u8>, default: u64, lines: &[WeightLine]) -> Result<(), OutOfMemory>
+fn append_weights(
+    text: &mut Vec<u8>,
+    head: &[u8],
+    default: u64,
+    lines: &[WeightLine],
+) -> Result<(), OutOfMemory>
     ensures { OnOk result (text.new.items ≡ text.old.items
-        ++ unlines (print_default_line default ∷ map print_weight_line lines.now)) }
+        ++ headed head.now (print_default_line default ∷ map print_weight_line lines.now)) }
 {
+    append_bytes(text, head)?;
     append_labelled(text, b"default ", &default)?;
     append_newline(text)?;
-    append_lines(text, lines)
+    append_lines(text, head, lines)
 }
 
 /// Adds the line of a partition, as `root` or `root invalid (Parent is not a partition root)`.
 fn append_partition(
     text: &mut Vec<u8>,
+    head: &[u8],
     role: Role,
     valid: bool,
     reason: &Option<Items<u8>>,
 ) -> Result<(), OutOfMemory>
     ensures { OnOk result (text.new.items ≡ text.old.items
-        ++ unlines (print_partition role valid reason.now ∷ [])) }
+        ++ headed head.now (print_partition role valid reason.now ∷ [])) }
 {
-    role.append_to(text)?;
+    append_labelled(text, head, &role)?;
     if !valid {
         append_bytes(text, b" invalid")?;
         if let Some(reason) = reason {
@@ -99,28 +120,31 @@ fn append_partition(
 /// Adds the line of `some` and that of `full`, where they are given.
 fn append_pressure(
     text: &mut Vec<u8>,
+    head: &[u8],
     some: Option<Averages>,
     full: Option<Averages>,
 ) -> Result<(), OutOfMemory>
     ensures { OnOk result (text.new.items ≡ text.old.items
-        ++ unlines (print_pressure_line (codes "some") some
+        ++ headed head.now (print_pressure_line (codes "some") some
         ++ print_pressure_line (codes "full") full)) }
 {
-    append_pressure_line(text, b"some", some)?;
-    append_pressure_line(text, b"full", full)
+    append_pressure_line(text, head, b"some", some)?;
+    append_pressure_line(text, head, b"full", full)
 }
 
 /// Adds the line of a word and its averages, where they are given.
 fn append_pressure_line(
     text: &mut Vec<u8>,
+    head: &[u8],
     word: &[u8],
     averages: Option<Averages>,
 ) -> Result<(), OutOfMemory>
     ensures { OnOk result (text.new.items ≡ text.old.items
-        ++ unlines (print_pressure_line word.now averages)) }
+        ++ headed head.now (print_pressure_line word.now averages)) }
 {
     match averages {
         Some(averages) => {
+            append_bytes(text, head)?;
             append_labelled(text, word, &averages)?;
             append_newline(text)
         }

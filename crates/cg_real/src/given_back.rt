@@ -1,4 +1,5 @@
 //! Files that are read and written back.
+use crate::shown;
 use cg_line::{FileFault, decode_file};
 use cg_print::print_file;
 use cg_value::Profile;
@@ -70,7 +71,12 @@ pub(crate) fn give_all_back(rt: &HostRuntime) -> io::Result<()> {
         let copy = line?;
         for profile in [Profile::One, Profile::Two] {
             all = all.saturating_add(1);
-            if is_given_back(rt, profile, copy.as_str())? {
+            let is_same = if copy.ends_with(".snap") {
+                shown::is_given_back(rt, profile, copy.as_str())?
+            } else {
+                is_given_back(rt, profile, copy.as_str())?
+            };
+            if is_same {
                 same = same.saturating_add(1);
             }
         }

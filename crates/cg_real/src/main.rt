@@ -4,6 +4,9 @@
 //! It runs in the folder `data`. The names of its files come on standard input, one a line: `NAME.N` holds the whole
 //! content of one file of the name NAME, and N only tells several contents apart.
 //!
+//! A name that ends in `.snap` is that of a snapshot, as `grep -rZ '' DIR` made it. It is read in pieces of three lengths; what is
+//! written back are its entries' records, and what is shown of them is compared too.
+//!
 //! With words it only measures: it reads the text of a file many times, or prints its value many times, and prints how many
 //! bytes went through. The words are `read` or `print`, the file's name, the profile and how often; the text comes on
 //! standard input.
@@ -11,6 +14,7 @@
 
 mod given_back;
 mod rate;
+mod shown;
 
 use std::io;
 use std::process::ExitCode;

@@ -2,7 +2,7 @@
 use cg_command::{Command, UsageFault};
 use cg_join::{Found, LimitText, read};
 use cg_line::{FileFault, PushFault, SettingFault};
-use cg_print::{CutSink, Failed, PlainWriter, Sink, WriteStopped, write_text};
+use cg_print::{CutSink, EntryWriteFault, Failed, PlainWriter, Sink, WriteStopped, write_text};
 use cg_run::{CutSource, Outcome, PlainReader, Source, run};
 use cg_snap::Limits;
 use cg_text::{DecimalText, KeyFault, OutOfMemory, SignedText, Token};
@@ -150,7 +150,6 @@ fn ended(alloc: Global, command: &Command) -> Option<Outcome> {
 #[test]
 fn commands_that_are_not_built(rt: HostRuntime) {
     let unread = Some(Outcome::NotReadable);
-    assert_eq!(rt; ended(rt.alloc(), &Command::Show), unread);
     assert_eq!(rt; ended(rt.alloc(), &Command::Json), unread);
     assert_eq!(rt; ended(rt.alloc(), &Command::Check), unread);
     assert_eq!(rt;
@@ -230,6 +229,14 @@ fn faults_are_told(rt: HostRuntime) {
     assert!(rt; is_told(alloc, FileFault::Refused { at: 5 }, "refused at 5"));
     assert!(rt; is_told(alloc, SettingFault::Cut { at: 6 }, "cut at 6"));
     assert!(rt; is_told(alloc, WriteStopped { written: 7 }, "stopped after 7 bytes"));
+    assert!(rt;
+        is_told(
+            alloc,
+            EntryWriteFault::Device { written: 5 },
+            "stopped after 5 bytes"
+        )
+    );
+    assert!(rt; is_told(alloc, EntryWriteFault::OutOfMemory, "out of memory"));
     assert!(rt; is_told(alloc, Failed, "failed"));
     assert!(rt; is_told(alloc, UsageFault::Bad, "bad command line"));
 }

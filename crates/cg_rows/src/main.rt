@@ -31,6 +31,8 @@ mod joined;
 mod readers;
 mod row;
 #[cfg(test)]
+mod snapshots;
+#[cfg(test)]
 mod starved;
 mod trial;
 #[cfg(test)]

@@ -104,13 +104,14 @@ fn words_of(alloc: Global, field: &str) -> Result<Vec<String>, RowFault> {
 
 /// The place of the byte that stops a run, which its last line names.
 fn stop_of(output: &str) -> Option<usize> {
-    let place = match output.strip_prefix("cgfile: refused at ") {
-        Some(rest) => rest.strip_suffix(": line$")?,
-        None => output
-            .strip_prefix("cgfile: stream too long at ")?
-            .strip_suffix('$')?,
-    };
-    place.parse::<usize>().ok()
+    let (_, line) = output.split_once("cgfile: ")?;
+    let (what, rest) = line.split_once(" at ")?;
+    if what == "cut" {
+        return None;
+    }
+    let place = rest.strip_suffix('$')?;
+    let digits = place.split(':').next()?;
+    digits.parse::<usize>().ok()
 }
 
 /// What settles an answer.

@@ -2,15 +2,23 @@
 //! again. Each answer is want of memory, or the answer with ample memory.
 ghost use Rattle.std.specs.Prelude.{◌≤◌};
 
+use crate::snapshots::{
+    LINE_TOO_MANY, RAW_AND_REASON, TWO_FILES, UNBOUNDED, are_same, decoder, ending, idle, is_entry,
+    last_entry, memory_bound, raw_and_reason,
+};
 use cg_command::{Command, parse_words};
 use cg_line::{
     FileFault, PushFault, SettingFault, SettingReader, ValueReader, decode_file, decode_setting,
 };
-use cg_print::{CutSink, print_file, print_setting};
+use cg_print::{
+    CutSink, EntryWriteFault, append_entry, append_item, print_file, print_setting, write_entry,
+};
 use cg_run::{CutSource, Outcome, run, status};
-use cg_snap::Limits;
+use cg_snap::{Limits, Pulled, SnapshotDecoder, Stop, StreamFault, What, Why, decode_snapshot};
 use cg_text::{Items, Key, KeyFault, NumberSet, OutOfMemory, StrictListText, Token};
-use cg_value::{Entry, Flat, FlatRefused, Profile, Setting, Value, read_kind, write_kind};
+use cg_value::{
+    Entry, Flat, FlatRefused, PlanItem, Profile, Setting, Value, read_kind, write_kind,
+};
 use std::alloc::{AllocError, Global};
 use std::test::Fail;
 
@@ -44,6 +52,8 @@ enum Call {
     MakeKey,
     PrintFile,
     PrintSetting,
+    WriteEntry,
+    DecodeSnapshot,
     CopyEntry,
     CopySet,
     CopyFlat,
@@ -63,6 +73,7 @@ struct Case {
 #[derive(Drop)]
 struct Given {
     entry: Entry,
+    entries: Vec<Entry>,
     setting: Setting,
     set: NumberSet,
     flat: Flat,
@@ -102,6 +113,25 @@ fn is_printed(printed: Result<Vec<u8>, OutOfMemory>, wanted: &[u8]) -> Option<bo
     match printed {
         Ok(text) => Some(text.as_slice() == wanted),
         Err(OutOfMemory) => None,
+    }
+}
+
+/// Whether the records of an entry are written, and without memory nothing is.
+fn writes_entry(alloc: Global, entry: &Entry) -> Option<bool> {
+    let mut sink = CutSink::new(usize::MAX, 4096);
+    match write_entry(alloc, entry, &mut sink) {
+        Ok(()) => Some(sink.bytes() == b"cpu.idle\01\n".as_slice()),
+        Err(EntryWriteFault::OutOfMemory) if sink.bytes().is_empty() => None,
+        Err(_fault) => Some(false),
+    }
+}
+
+/// Whether a snapshot has these entries.
+fn decodes_snapshot(alloc: Global, wanted: &[Entry]) -> Option<bool> {
+    match decode_snapshot(alloc, Profile::One, Limits::DEFAULT, RAW_AND_REASON) {
+        Ok(entries) => Some(are_same(entries.as_slice(), wanted)),
+        Err(StreamFault::OutOfMemory) => None,
+        Err(StreamFault::Stopped(_stop)) => Some(false),
     }
 }
 
@@ -146,6 +176,21 @@ fn parses_words(alloc: Global, words: &[String]) -> Option<bool> {
     }
 }
 
+/// The last line of a run for which no memory was left.
+const WANT_OF_MEMORY: &[u8] = b"cgfile: out of memory\n";
+
+/// Whether a run for which no memory was left wrote first lines of its output but not all, none where it writes all at the
+/// end, and then its last line.
+fn is_want_told(case: &Case, written: &[u8]) -> bool {
+    let at = written.len().saturating_sub(WANT_OF_MEMORY.len());
+    let (front, line) = written.split_at(at);
+    let is_begun = match case.command {
+        Command::Show => case.output.starts_with(front) && front != case.output,
+        _ => front.is_empty(),
+    };
+    is_begun && (front.is_empty() || front.ends_with(b"\n")) && line == WANT_OF_MEMORY
+}
+
 /// Whether a run writes what it is to write, or that no memory was left.
 fn runs(alloc: Global, case: &Case) -> Option<bool> {
     let mut source = CutSource::new(case.input, usize::MAX, 4096);
@@ -161,7 +206,7 @@ fn runs(alloc: Global, case: &Case) -> Option<bool> {
     if outcome != Outcome::OutOfMemory {
         return Some(sink.bytes() == case.output);
     }
-    let is_told = sink.bytes() == b"cgfile: out of memory\n".as_slice() && status(&outcome) == 4;
+    let is_told = is_want_told(case, sink.bytes()) && status(&outcome) == 4;
     if is_told { None } else { Some(false) }
 }
 
@@ -173,6 +218,8 @@ fn tried(call: Call, alloc: Global, given: &Given) -> Option<bool> {
         Call::MakeKey => makes_key(alloc),
         Call::PrintFile => is_printed(print_file(alloc, &Value::Number(10000)), b"10000\n"),
         Call::PrintSetting => is_printed(print_setting(alloc, &given.setting), b"3-5,9\n"),
+        Call::WriteEntry => writes_entry(alloc, &given.entry),
+        Call::DecodeSnapshot => decodes_snapshot(alloc, given.entries.as_slice()),
         Call::CopyEntry => copies_entry(alloc, &given.entry),
         Call::CopySet => copies_set(alloc, &given.set),
         Call::CopyFlat => copies_flat(alloc, &given.flat),
@@ -238,6 +285,15 @@ fn setting(
     })
 }
 
+/// A run of `show`.
+fn show(input: &'static [u8], output: &'static [u8]) -> Case {
+    Case {
+        command: Command::Show,
+        input,
+        output,
+    }
+}
+
 /// Runs that want memory.
 fn cases(alloc: Global) -> Result<Vec<Case>, AllocError> {
     let number = file(alloc, b"cpu.weight", b"10000\n", b"10000\n")?;
@@ -247,14 +303,16 @@ fn cases(alloc: Global) -> Result<Vec<Case>, AllocError> {
     let lines = file(alloc, b"hugetlb.2MB.max", b"ab\nc\n", b"ab\nc\n")?;
     let set = setting(alloc, b"cpuset.cpus", b"9,3-5,4\n", b"3-5,9\n")?;
     let line = setting(alloc, b"hugetlb.2MB.max", b"ab\n", b"ab\n")?;
-    let cases = vec![in alloc; number, list, numbers, lines, set, line]?;
+    let shown = show(TWO_FILES, b"cpu.max: max 100000\ncpu.max.burst: 0\n");
+    let stopped = show(LINE_TOO_MANY, b"cgfile: refused at 26: no more lines\n");
+    let cases = vec![in alloc; number, list, numbers, lines, set, line, shown, stopped]?;
     Ok(cases)
 }
 
 /// What the calls are made on.
 fn all_given(alloc: Global) -> Result<Given, Fail> {
-    let path = b"a/cpu.idle".to_vec(alloc)?;
-    let entry = Entry::new(Profile::One, path, Value::Number(1))?;
+    let entry = idle(alloc)?;
+    let entries = raw_and_reason(alloc)?;
     let set = three_to_five_and_nine(alloc)?;
     let copy = set.copy(alloc)?;
     let flat = one_pair(alloc)?;
@@ -262,6 +320,7 @@ fn all_given(alloc: Global) -> Result<Given, Fail> {
     let cases = cases(alloc)?;
     Ok(Given {
         entry,
+        entries,
         setting: Setting::Set(copy),
         set,
         flat,
@@ -270,12 +329,8 @@ fn all_given(alloc: Global) -> Result<Given, Fail> {
     })
 }
 
-/// How often a call was refused until it was answered, and whether it was answered right. It is made once with memory, so
-/// that the stack has grown to what it needs: later it couldn't.
+/// How often a call was refused until it was answered, and whether it was answered right.
 fn refusals_of(call: Call, alloc: Global, given: &Given) -> Result<(u64, bool), AllocError> {
-    if tried(call, alloc, given) != Some(true) {
-        return Ok((0, false));
-    }
     let mut held = hog(alloc)?;
     let mut refusals: u64 = 0;
     for _ in 0..5000 {
@@ -288,6 +343,7 @@ fn refusals_of(call: Call, alloc: Global, given: &Given) -> Result<(u64, bool), 
     Ok((refusals, false))
 }
 
+/// Each call is made once before the heap is ever starved, so that the stack has grown to what it needs: later it couldn't.
 #[test]
 fn whole_calls(rt: HostRuntime) -> Result<(), Fail> {
     let given = all_given(rt.alloc())?;
@@ -297,6 +353,8 @@ fn whole_calls(rt: HostRuntime) -> Result<(), Fail> {
         Call::MakeKey,
         Call::PrintFile,
         Call::PrintSetting,
+        Call::WriteEntry,
+        Call::DecodeSnapshot,
         Call::CopyEntry,
         Call::CopySet,
         Call::CopyFlat,
@@ -307,7 +365,12 @@ fn whole_calls(rt: HostRuntime) -> Result<(), Fail> {
         Call::Run(3),
         Call::Run(4),
         Call::Run(5),
+        Call::Run(6),
+        Call::Run(7),
     ];
+    for call in &calls {
+        assert!(rt; tried(*call, rt.alloc(), &given) == Some(true), "{call:?}");
+    }
     for call in calls {
         let (refusals, is_right) = refusals_of(call, rt.alloc(), &given)?;
         assert!(rt; is_right && refusals > 0, "{call:?} {refusals}");
@@ -496,5 +559,144 @@ fn pairs(rt: HostRuntime) -> Result<(), Fail> {
     drop(held);
     assert!(rt; refusals > 0);
     assert_eq!(rt; flat.get(b"anon"), Some(1));
+    Ok(())
+}
+
+/// What is added to bytes.
+#[derive(Drop)]
+enum Added {
+    Entry(Entry),
+    Item(PlanItem),
+}
+
+/// Whether this is added.
+fn is_added(out: &mut Vec<u8>, added: &Added) -> bool {
+    match added {
+        Added::Entry(entry) => append_entry(out, entry).is_ok(),
+        Added::Item(item) => append_item(out, item).is_ok(),
+    }
+}
+
+/// Adds this to `x` once there is memory, of which a block is given back after each refusal. Answers how often memory was
+/// refused, and whether the bytes were as before each time.
+fn add_starved(out: &mut Vec<u8>, held: &mut Blocks, added: &Added) -> (u64, bool) {
+    let mut refusals: u64 = 0;
+    for _ in 0..5000 {
+        if is_added(out, added) {
+            return (refusals, true);
+        }
+        if out.as_slice() != b"x".as_slice() {
+            return (refusals, false);
+        }
+        refusals = refusals.saturating_add(1);
+        let _ = held.pop();
+    }
+    (refusals, false)
+}
+
+/// Whether this is added to `x` with these bytes, also where memory was refused before.
+fn adds(alloc: Global, added: &Added, wanted: &[u8]) -> Result<bool, AllocError> {
+    let mut ample = b"x".to_vec(alloc)?;
+    let is_first = is_added(&mut ample, added);
+    let mut out = b"x".to_vec(alloc)?;
+    let mut held = hog(alloc)?;
+    let (refusals, is_kept) = add_starved(&mut out, &mut held, added);
+    let is_right = ample.as_slice() == wanted && out.as_slice() == wanted;
+    Ok(is_first && is_kept && is_right && refusals > 0)
+}
+
+#[test]
+fn added_records(rt: HostRuntime) -> Result<(), Fail> {
+    let entry = idle(rt.alloc())?;
+    let is_so = adds(rt.alloc(), &Added::Entry(entry), b"xcpu.idle\01\n")?;
+    assert!(rt; is_so);
+    let item = memory_bound(rt.alloc())?;
+    let wanted = b"xmemory.max\017293822569102704640\n";
+    let is_so = adds(rt.alloc(), &Added::Item(item), wanted)?;
+    assert!(rt; is_so);
+    Ok(())
+}
+
+/// What a decoder tells of a piece from this place on, where it's called again with the rest of it after each refusal of
+/// memory, for which a block is given back. With it comes the place up to which bytes were consumed.
+fn next_starved(
+    snapshot: &mut SnapshotDecoder,
+    held: &mut Blocks,
+    piece: &[u8],
+    first: usize,
+) -> Pulled {
+    let mut used = first;
+    for _ in 0..5000 {
+        if used > piece.len() {
+            break;
+        }
+        let (_, rest) = piece.split_at(used);
+        let pulled = snapshot.next(rest);
+        used = used.saturating_add(pulled.used);
+        match pulled.what {
+            What::OutOfMemory => {
+                let _ = held.pop();
+            }
+            what => return Pulled { used, what },
+        }
+    }
+    Pulled {
+        used,
+        what: What::OutOfMemory,
+    }
+}
+
+/// Whether the two entries of a snapshot come where they do.
+fn gives_two(alloc: Global, held: &mut Blocks) -> bool {
+    let mut snapshot = decoder(alloc);
+    let Pulled { used, what } = next_starved(&mut snapshot, held, TWO_FILES, 0);
+    let first = match what {
+        What::Entry(entry) => Some(entry),
+        _ => None,
+    };
+    let rest = next_starved(&mut snapshot, held, TWO_FILES, used);
+    let is_all = rest.used == 35 && matches!(&rest.what, What::NeedMore);
+    let last = last_entry(snapshot);
+    used == 33
+        && is_all
+        && is_entry(&first, b"cpu.max", &UNBOUNDED)
+        && is_entry(&last, b"cpu.max.burst", &Value::Number(0))
+}
+
+/// Whether a snapshot stops where it does.
+fn stops_at_line(alloc: Global, held: &mut Blocks) -> bool {
+    let mut snapshot = decoder(alloc);
+    let refused = Stop::Refused {
+        at: 26,
+        why: Why::NoMoreLines,
+    };
+    let pulled = next_starved(&mut snapshot, held, LINE_TOO_MANY, 0);
+    let is_stopped = match pulled.what {
+        What::Stopped(stop) => stop == refused,
+        _ => false,
+    };
+    let is_here = pulled.used == 26 && snapshot.offset() == 26;
+    is_stopped && is_here && ending(snapshot) == Err(refused)
+}
+
+/// Decoders whose growth was refused go on as with ample memory, with which each is run before.
+#[test]
+fn decoders(rt: HostRuntime) -> Result<(), Fail> {
+    let mut none = Vec::new(rt.alloc());
+    let is_first = gives_two(rt.alloc(), &mut none);
+    let is_second = stops_at_line(rt.alloc(), &mut none);
+    assert!(rt; is_first && is_second);
+    let mut held = hog(rt.alloc())?;
+    let all = held.len();
+    let is_first = gives_two(rt.alloc(), &mut held);
+    let left = held.len();
+    drop(held);
+    assert!(rt; is_first && left < all);
+    let mut held = hog(rt.alloc())?;
+    let all = held.len();
+    let is_second = stops_at_line(rt.alloc(), &mut held);
+    let left = held.len();
+    drop(held);
+    assert!(rt; is_second && left < all);
     Ok(())
 }

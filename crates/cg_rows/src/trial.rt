@@ -69,13 +69,18 @@ fn ran(
     run(alloc, asked.profile, &asked.command, source, sink, limits)
 }
 
+/// Whether these bytes stand somewhere in a text.
+fn has_part(text: &[u8], part: &[u8]) -> bool {
+    part.is_empty() || text.windows(part.len()).any(|it| it == part)
+}
+
 /// Whether a text is written as a row says, with this status.
 fn is_told(told: &Told, text: &[u8], status: u8) -> bool {
     let wanted = told.text.as_slice();
-    let is_text = if told.is_whole || wanted.is_empty() {
+    let is_text = if told.is_whole {
         text == wanted
     } else {
-        text.windows(wanted.len()).any(|part| part == wanted)
+        has_part(text, wanted)
     };
     is_text && status == told.status
 }
@@ -91,6 +96,21 @@ fn is_met_in_pieces(alloc: Global, asked: &Asked, input: &[u8], told: &Told, ste
         _ => asked.limits.max_stream.saturating_add(2),
     };
     source.asks() <= most && is_told(told, sink.bytes(), status(&outcome))
+}
+
+/// What is written last where a read failed.
+const READ_FAULT: &[u8] = b"cgfile: read fault\n";
+
+/// Whether a run that a failed read ended wrote first bytes of the text, none where it writes all at the end, and then its
+/// last line.
+fn is_read_fault(command: &Command, text: &[u8], written: &[u8]) -> bool {
+    let at = written.len().saturating_sub(READ_FAULT.len());
+    let (front, line) = written.split_at(at);
+    let is_begun = match command {
+        Command::Show => text.starts_with(front),
+        _ => front.is_empty(),
+    };
+    is_begun && line == READ_FAULT
 }
 
 /// Whether reading fails where the row isn't settled before the source fails, and where it is, the row is met.
@@ -115,7 +135,7 @@ fn is_met_reading(
     } else {
         outcome == Outcome::ReadFault
             && status(&outcome) == 3
-            && sink.bytes() == b"cgfile: read fault\n".as_slice()
+            && is_read_fault(&asked.command, told.text.as_slice(), sink.bytes())
     }
 }
 
@@ -163,17 +183,17 @@ struct Lines {
 }
 
 fn lines_at(alloc: Global, at: usize) -> Result<Lines, AllocError> {
-    let refused = format!(in alloc; "cgfile: refused at {at}: line\n")?;
+    let refused = format!(in alloc; "cgfile: refused at {at}: ")?;
     let too_long = format!(in alloc; "cgfile: stream too long at {at}\n")?;
     Ok(Lines { refused, too_long })
 }
 
-/// Whether a run over these bytes, within these limits, writes this line.
+/// Whether a run over these bytes, within these limits, writes this in its last line.
 fn writes(alloc: Global, asked: &Asked, limits: Limits, input: &[u8], line: &str) -> bool {
     let mut source = CutSource::new(input, usize::MAX, 4096);
     let mut sink = CutSink::new(usize::MAX, 4096);
     let _ = ran(alloc, asked, limits, &mut source, &mut sink);
-    sink.bytes() == line.as_bytes()
+    has_part(sink.bytes(), line.as_bytes())
 }
 
 /// The way in which a text, whose last byte may follow those before it or not, is answered otherwise.

@@ -1,4 +1,7 @@
 pub mod KindsLemmas
-pub mod Stops
-pub mod Took
 pub mod RunLemmas
+pub mod Showing
+pub mod Stops
+pub mod Streams
+pub mod Took
+pub mod Written

@@ -6,7 +6,8 @@ use Rattle.cg_snap.specs.Stop.{IsTextUnstopped, TextStopOf}
 use Rattle.cg_snap.specs.declared.stop.Stop.{Stop}
 use Rattle.cg_snap.specs.declared.stop.Stop.TheVariants as stop
 use Rattle.cg_run.specs.Outcome.{last_line}
-use Rattle.cg_run.specs.Run.{Reading, IsTextStop, IsTextRight, IsRealFault, Wrote, DidRun}
+use Rattle.cg_run.specs.Input.{Reading}
+use Rattle.cg_run.specs.Run.{IsTextStop, IsTextRight, IsRealFault, Wrote, DidRun}
 use Rattle.cg_run.specs.Ended.{IsEndRight}
 use Rattle.cg_run.specs.declared.outcome.Outcome.{Outcome}
 use Rattle.cg_run.specs.declared.outcome.Outcome.TheVariants as out

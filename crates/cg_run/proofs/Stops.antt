@@ -1,8 +1,8 @@
 -- Stops of one file.
-use Rattle.std.proofs.Common.{◌≡◌, ◌≢◌, ℕ, suc, zero, ◌+◌, ◌<◌, ◌≤◌, List, [], ◌∷◌, ◌++◌, take, drop, length, get_or, refl, sym, ap, ◌∙◌, append_assoc, append-nil, arith, length-append, length-take, take-append-drop, drop-cons}
+use Rattle.std.proofs.Common.{◌≡◌, ℕ, suc, ◌+◌, ◌<◌, ◌≤◌, List, [], ◌∷◌, ◌++◌, take, drop, length, get_or, refl, sym, ap, ◌∙◌, append_assoc, arith, length-append, take-append-drop, drop-cons}
 use Rattle.std.proofs.lemmas.List.{take_all, take-append-le}
 use Rattle.cg_text.specs.Texts.{Viable, Next}
-use Rattle.cg_snap.specs.Stop.{IsTextUnstopped, TextStopOf, IsPassed, StopsAt, is_line, never}
+use Rattle.cg_snap.specs.Stop.{IsTextUnstopped, TextStopOf, StopsAt, is_line, never}
 use Rattle.cg_snap.specs.declared.stop.Stop.{Stop}
 use Rattle.cg_snap.specs.declared.stop.Stop.TheVariants.{Refused, TooLong, TooMany, TooMuch, Cut}
 use Rattle.cg_snap.specs.declared.stop.Why.TheVariants.{Line}

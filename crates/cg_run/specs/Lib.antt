@@ -1,7 +1,11 @@
 pub mod Ended
+pub mod Input
 pub mod Kinds
 pub mod Outcome
 pub mod Reading
 pub mod Run
+pub mod Shown
 pub mod Source
+pub mod Stream
+pub mod Streaming
 pub mod TextReader

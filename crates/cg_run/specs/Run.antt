@@ -1,8 +1,9 @@
 -- What a run wrote for what it read.
-use Rattle.std.specs.Prelude.{◌≡◌, ℕ, ◌+◌, ◌<◌, ◌≤◌, ◌⊎◌, Bool, true, false, List, [], ◌∷◌, ◌++◌, length, take, Option, Some, None}
-use Rattle.std.specs.Io.KnownBytes.{Appends, Consumes, IsAtEnd}
+use Rattle.std.specs.Prelude.{◌≡◌, ℕ, ◌+◌, ◌<◌, ◌≤◌, ◌⊎◌, Bool, true, List, [], ◌∷◌, ◌++◌, length, take, Option, Some, None}
+use Rattle.std.specs.Io.KnownBytes.{Appends, Consumes}
 use Rattle.cg_text.specs.Texts.{TextOf}
 use Rattle.cg_text.specs.Token.{told}
+use Rattle.cg_value.specs.Entry.{EntryData}
 use Rattle.cg_value.specs.Files.{KindText}
 use Rattle.cg_value.specs.Print.{print_of, print_setting_of}
 use Rattle.cg_value.specs.Settings.{WriteText}
@@ -10,12 +11,17 @@ use Rattle.cg_value.specs.Table.{read_form_of, write_form_of}
 use Rattle.cg_value.specs.declared.kind.ReadForm.{ReadForm}
 use Rattle.cg_value.specs.declared.kind.WriteForm.{WriteForm}
 use Rattle.cg_value.specs.declared.profile.Profile.{Profile}
+use Rattle.cg_snap.specs.Closed.{Closed}
+use Rattle.cg_snap.specs.Snap.{SnapText}
+use Rattle.cg_snap.specs.SnapStop.{IsSnapUnstopped, SnapStopOf}
 use Rattle.cg_snap.specs.Stop.{IsTextUnstopped, TextStopOf}
 use Rattle.cg_snap.specs.declared.limits.Limits.{Limits}
 use Rattle.cg_snap.specs.declared.stop.Stop.{Stop}
 use Rattle.cg_snap.specs.declared.stop.Stop.TheVariants as stop
+use Rattle.cg_run.specs.Input.{Reading, IsEnded}
 use Rattle.cg_run.specs.Kinds.{kinds_lines}
 use Rattle.cg_run.specs.Outcome.{last_line}
+use Rattle.cg_run.specs.Stream.{IsStreamRight, PartsOf, shown_part}
 use Rattle.cg_run.specs.declared.outcome.Outcome.{Outcome}
 use Rattle.cg_run.specs.declared.outcome.Outcome.TheVariants as out
 use Rattle.cg_command.specs.declared.words.Command.{Command}
@@ -26,16 +32,6 @@ pub record IsTextStarved (L : List ℕ → Type 0) (max : ℕ) (text : List ℕ)
   pub at : ℕ
   pub within : at < length text
   pub unstopped : IsTextUnstopped L max (take (at + 1) text)
-
--- The bytes that were read, and how reading ended: what the source has left, and whether it has failed.
-pub record Reading : Type 0 where
-  pub bytes : List ℕ
-  pub left : Option (List ℕ)
-  pub failed : Bool
-
--- The source has nothing to come and hasn't failed.
-abbrev pub IsEnded : Reading → Type 0
-IsEnded r = IsAtEnd r.left × (r.failed ≡ false)
 
 -- The texts are a relation to the values that they spell, and a value's canonical text is printed.
 module _ {V : Type 0} (Text : List ℕ → V → Type 0) (print : V → List ℕ) (max : ℕ) where
@@ -114,6 +110,12 @@ pub record IsListRight (profile : Profile) (r : Reading) (o : Outcome) (parts : 
   pub unread : r.bytes ≡ []
   pub lines : parts ≡ kinds_lines profile
 
+-- A snapshot: a part for each entry that the bytes close, and at the end for each of the whole.
+abbrev pub IsSnapshotRight : (EntryData → List ℕ) → Profile → Limits → Reading → Outcome → List (List ℕ) → Type 0
+IsSnapshotRight part profile limits = IsStreamRight
+    (PartsOf part (λ bytes es. SnapText profile es bytes)) (PartsOf part (λ bytes es. Closed profile bytes es))
+    (IsSnapUnstopped profile limits) (SnapStopOf profile limits)
+
 -- The outcome of a command that isn't built yet: there is nothing that it could read or write.
 abbrev pub unbuilt : Command → Outcome
 unbuilt command.Plan = out.NotWritable
@@ -124,6 +126,7 @@ abbrev pub IsRight : Profile → Command → Limits → Reading → Outcome → 
 IsRight profile (command.File name) limits r o parts = IsFileRight (read_form_of profile name.items) limits.max_stream r o parts
 IsRight profile (command.Setting name) limits r o parts = IsWriteRight (write_form_of profile name.items) limits.max_stream r o parts
 IsRight profile command.Kinds limits r o parts = IsListRight profile r o parts
+IsRight profile command.Show limits r o parts = IsSnapshotRight shown_part profile limits r o parts
 IsRight profile c limits r o parts = IsIdleRight (unbuilt c) r o parts
 
 abbrev pub joined : List (List ℕ) → List ℕ
@@ -160,4 +163,5 @@ Ran profile c limits = DidRun (IsRight profile c limits)
 abbrev pub IsIdle : Profile → Command → Type 0
 IsIdle profile (command.File name) = read_form_of profile name.items ≡ None
 IsIdle profile (command.Setting name) = write_form_of profile name.items ≡ None
+IsIdle profile command.Show = ⊥
 IsIdle profile c = Unit {0}

@@ -9,7 +9,10 @@ pub mod plain;
 mod reading;
 pub mod running;
 pub mod source;
+mod stream_reader;
+mod streaming;
 mod text_reader;
+mod told;
 
 pub use cut::CutSource;
 pub use outcome::{Outcome, status};

@@ -1,8 +1,7 @@
 //! The program's run.
 ghost use Rattle.std.specs.Prelude.{◌≡◌, ◌≢◌, ◌≤◌, ◌+◌, ℕ, List, [], false, None, length};
 ghost use Rattle.cg_value.specs.Table.{read_form_of, write_form_of};
-ghost use Rattle.cg_run.specs.Outcome.{last_line, is_write_fault};
-ghost use Rattle.cg_run.specs.Run.{Ran, DidRun, Wrote, IsIdle, IsTextRight, IsFileRight, IsWriteRight, IsRealFault};
+ghost use Rattle.cg_run.specs.Run.{Ran, DidRun, IsIdle, IsTextRight, IsFileRight, IsWriteRight, IsRealFault};
 ghost use Rattle.cg_run.specs.Ended.{HasEnded};
 
 use crate::kinds::told_kinds;
@@ -10,36 +9,19 @@ use crate::line::last_line_of;
 use crate::outcome::Outcome;
 use crate::reading::{Ending, read_all};
 use crate::source::Source;
+use crate::stream_reader::ShownReader;
+use crate::streaming::run_stream;
 use crate::text_reader::TextReader;
+use crate::told::{told, told_line};
 use cg_command::Command;
 use cg_line::{SettingReader, ValueReader};
-use cg_print::{Sink, WriteStopped, write_text};
+use cg_print::Sink;
 use cg_snap::{Limits, Stop};
 use cg_value::{Profile, read_kind, write_kind};
 use std::alloc::Global;
 
 /// How many bytes are read at once.
-const PIECE: usize = 65536;
-
-/// Writes the text of an outcome, and answers the outcome, or how much of the text was taken.
-fn told<W: Sink>(writer: &mut W, text: &[u8], outcome: Outcome) -> Outcome
-    requires { is_write_fault outcome ≡ false }
-    ensures { Wrote (W.taken writer.old) (W.taken writer.new) (W.has_failed writer.new) text.now outcome result }
-{
-    match write_text(writer, text) {
-        Ok(()) => outcome,
-        Err(WriteStopped { written }) => Outcome::WriteFault { written },
-    }
-}
-
-/// Writes the last line of an outcome.
-fn told_line<W: Sink>(writer: &mut W, outcome: Outcome) -> Outcome
-    requires { is_write_fault outcome ≡ false }
-    ensures { Wrote (W.taken writer.old) (W.taken writer.new) (W.has_failed writer.new) (last_line outcome) outcome result }
-{
-    let line = last_line_of(outcome);
-    told(writer, line.bytes(), outcome)
-}
+pub(crate) const PIECE: usize = 65536;
 
 /// What is written of what a whole text spells.
 #[tactic(auto, using(crate::proofs::RunLemmas::wrote_real))]
@@ -171,7 +153,14 @@ pub fn run<R: Source, W: Sink>(
         }
         Command::Kinds => told_kinds(profile, writer),
         Command::Plan => told_line(writer, Outcome::NotWritable),
-        Command::Show => told_line(writer, Outcome::NotReadable),
+        Command::Show => {
+            run_stream(
+                ShownReader::new(alloc, profile, limits),
+                reader,
+                writer,
+                max,
+            )
+        }
         Command::Json => told_line(writer, Outcome::NotReadable),
         Command::Check => told_line(writer, Outcome::NotReadable),
     }

@@ -7,10 +7,11 @@ use Rattle.cg_text.specs.TextsLaws.{lacks_push}
 use Rattle.cg_value.specs.Entry.{EntryData}
 use Rattle.cg_value.specs.Files.{KindFile}
 use Rattle.cg_value.specs.Lines.{unlines}
+use Rattle.cg_value.specs.Records.{records}
 use Rattle.cg_value.specs.declared.kind.ReadForm.{ReadForm}
 use Rattle.cg_value.specs.declared.profile.Profile.{Profile}
 use Rattle.cg_snap.specs.DecoderState.{AtLine, AtPath, AtStart, CanEndLine, IsOfKind}
-use Rattle.cg_snap.specs.Snap.{Snap, SnapText, records}
+use Rattle.cg_snap.specs.Snap.{Snap, SnapText}
 use Rattle.cg_snap.specs.declared.present.Present.{Present}
 use Rattle.cg_snap.proofs.Joins.{ends_push, push_at, records-append, snap_append, unlines-push}
 use Rattle.cg_snap.proofs.States.{named_path}

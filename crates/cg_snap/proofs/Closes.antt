@@ -6,10 +6,11 @@ use Rattle.cg_text.specs.Texts.{Lacks}
 use Rattle.cg_text.specs.TextsLaws.{lacks_both}
 use Rattle.cg_value.specs.Entry.{EntryData, IsPath}
 use Rattle.cg_value.specs.PathLaws.{path_lacks_newline}
+use Rattle.cg_value.specs.Records.{records}
 use Rattle.cg_value.specs.declared.profile.Profile.{Profile}
 use Rattle.cg_snap.specs.Closed.{Closed, EndsOther, IsBegun, IsRecordEnd}
 use Rattle.cg_snap.specs.DecoderState.{AtLine, AtPath, AtStart}
-use Rattle.cg_snap.specs.Snap.{SnapText, records}
+use Rattle.cg_snap.specs.Snap.{SnapText}
 use Rattle.cg_snap.specs.declared.present.Present.{Present}
 use Rattle.cg_snap.proofs.Refusals.{line_start, records_start}
 use Rattle.cg_snap.proofs.Steps.{bytes_no_newline, bytes_no_nul, other_path}

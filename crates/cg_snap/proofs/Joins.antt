@@ -8,11 +8,12 @@ use Rattle.cg_value.specs.EntryLaws.{entry_path}
 use Rattle.cg_value.specs.Files.{ReadLines}
 use Rattle.cg_value.specs.Lines.{unlines}
 use Rattle.cg_value.specs.PathLaws.{path_lacks_nul}
+use Rattle.cg_value.specs.Records.{records}
 use Rattle.cg_value.specs.declared.kind.ReadForm.{ReadForm}
 use Rattle.cg_value.specs.declared.profile.Profile.{Profile}
 use Rattle.cg_file.specs.WeightFileLaws.{not_empty}
 use Rattle.cg_snap.specs.Closed.{EndsOther}
-use Rattle.cg_snap.specs.Snap.{AreEntryLines, SnapText, StartsOther, records}
+use Rattle.cg_snap.specs.Snap.{AreEntryLines, SnapText, StartsOther}
 use Rattle.cg_snap.specs.SnapLaws.{NotOf, cut, entry_starts, first_path, heads, lines_plain, not_of, one_form, record_then, records_first, rest_not_of}
 
 -- ---- Lines and records, one after another

@@ -1,6 +1,6 @@
 -- What a decoder stands for after a byte, and after a run of bytes.
-use Rattle.std.proofs.Common.{◌≡◌, ℕ, ◌+◌, ◌<◌, ◌≤◌, ◌-◌, List, [], ◌∷◌, ◌++◌, length, take, drop, get_or, sym, ap, subst, ◌∙◌, append_assoc, arith, inl, inr, ◌⊎◌}
-use Rattle.std.proofs.lemmas.List.{append-nil, drop-take, length-append, length_push, take_more, take-take, take-append-drop}
+use Rattle.std.proofs.Common.{◌≡◌, ℕ, ◌+◌, ◌<◌, ◌≤◌, ◌-◌, List, [], ◌∷◌, ◌++◌, length, take, drop, get_or, refl, sym, ap, subst, ◌∙◌, append_assoc, arith, inl, inr, ◌⊎◌, None}
+use Rattle.std.proofs.lemmas.List.{append-nil, drop-take, length-append, length-take, length_push, take_more, take-take, take-append-drop}
 use Rattle.cg_text.specs.Texts.{Viable}
 use Rattle.cg_value.specs.Entry.{EntryData}
 use Rattle.cg_value.specs.declared.profile.Profile.{Profile}
@@ -9,12 +9,13 @@ use Rattle.cg_snap.specs.Decoder.{IsFree, Stands}
 use Rattle.cg_snap.specs.DecoderState.{At, IsRun}
 use Rattle.cg_snap.specs.Snap.{Snap}
 use Rattle.cg_snap.specs.SnapStop.{IsSnapUnstopped, SnapStopOf}
+use Rattle.cg_snap.specs.Stop.{place_of}
 use Rattle.cg_snap.specs.declared.decoder.SnapshotDecoder.{SnapshotDecoder}
 use Rattle.cg_snap.specs.declared.limits.Limits.{Limits}
 use Rattle.cg_snap.specs.declared.stop.Stop.{Stop}
-use Rattle.cg_snap.proofs.Places.{begun_newline, begun_push, begun_run, stop_longer, unstopped_push, unstopped_run}
+use Rattle.cg_snap.proofs.Places.{begun_newline, begun_push, begun_run, stop_longer, stop_place, unstopped_push, unstopped_run}
 use Rattle.cg_snap.proofs.Runs.{RunWhy, run_why}
-use Rattle.cg_snap.proofs.States.{at_viable}
+use Rattle.cg_snap.proofs.States.{at_closed, at_viable}
 
 -- The record's length after a byte.
 pub record NextBegun (p : List ℕ) (b m : ℕ) : Type 0 where
@@ -37,7 +38,23 @@ moved d p es b a o w n u f = record {
   begins = n.begins;
   length_is = n.length_is;
   unstopped = unstopped_push d.profile d.limits p b u (at_viable d.profile d.begun.items d.present (p ++ b ∷ []) es a) f;
+  closed = at_closed d.profile d.begun.items d.present (p ++ b ∷ []) es a;
 }
+
+-- A decoder that took nothing.
+pub fresh : (d : SnapshotDecoder) → d.begun.items ≡ [] → d.present ≡ None → d.offset ≡ 0 → d.record_len ≡ 0 → Stands d [] []
+fresh d b o z l =
+    let a : At d.profile d.begun.items d.present [] [] = rw o (record { none = refl; bytes = sym b; begun_path = rw b tt }) in
+    record {
+      state = a;
+      offset = z;
+      within = omega arith;
+      now_begun = [];
+      begins = record { front = []; split = refl; ended = inl refl; plain = tt };
+      length_is = l;
+      unstopped = λ k within. absurd (omega (arith, within));
+      closed = at_closed d.profile d.begun.items d.present [] [] a;
+    }
 
 unstopped_ran : (profile : Profile) (limits : Limits) (p r q : List ℕ) (n at : ℕ) → IsSnapUnstopped profile limits p → Viable (Snap profile) (p ++ q) → IsBegun p r → RunWhy r q → n ≡ length r → at ≡ length p → length q ≤ limits.max_record - n → length q ≤ limits.max_stream - at →
     IsSnapUnstopped profile limits (p ++ q)
@@ -59,6 +76,7 @@ ran old new p q es n h e run a pr li o r far long =
       begins = begun_run p h.now_begun q why.0 h.begins;
       length_is = omega (arith, r, e, h.length_is, length-append h.now_begun q);
       unstopped = rw (pr, li) u;
+      closed = rw pr (at_closed old.profile new.begun.items new.present (p ++ q) es a);
     }
 
 -- ---- A piece, byte by byte
@@ -90,3 +108,9 @@ stop_in_piece profile limits p piece used stop lt s =
 
 pub unstopped_in_piece : (profile : Profile) (limits : Limits) (p piece : List ℕ) (used : ℕ) → used < length piece → IsSnapUnstopped profile limits ((p ++ take used piece) ++ get_or piece used 0 ∷ []) → IsSnapUnstopped profile limits (p ++ take (used + 1) piece)
 unstopped_in_piece profile limits p piece used lt u = subst (IsSnapUnstopped profile limits) (taken_more p piece used lt) u
+
+pub stop_after : (d : SnapshotDecoder) (p piece : List ℕ) (es : List EntryData) (used : ℕ) (stop : Stop) → used < length piece → SnapStopOf d.profile d.limits ((p ++ take used piece) ++ get_or piece used 0 ∷ []) stop → Stands d (p ++ take used piece) es →
+    place_of stop ≡ length p + used
+stop_after d p piece es used stop lt s h =
+    let at : place_of stop ≡ length (p ++ take used piece) = stop_place d.profile d.limits (p ++ take used piece) (get_or piece used 0) stop h.unstopped s in
+    omega (arith, at, lt, length-append p (take used piece), length-take used piece)

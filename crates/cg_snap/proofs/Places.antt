@@ -8,14 +8,15 @@ use Rattle.cg_text.specs.Texts.{Lacks, Viable, Next}
 use Rattle.cg_text.specs.TextsLaws.{lacks_both, lacks_inside}
 use Rattle.cg_value.specs.Entry.{EntryData, IsPath}
 use Rattle.cg_value.specs.PathLaws.{path_lacks_newline, path_lacks_nul}
+use Rattle.cg_value.specs.Records.{records}
 use Rattle.cg_value.specs.declared.profile.Profile.{Profile}
 use Rattle.cg_snap.specs.Closed.{Closed, EndsOther, IsBegun}
 use Rattle.cg_snap.specs.ClosedLaws.{begun_once, closed_once, one_closing}
 use Rattle.cg_snap.specs.Decoder.{IsFree}
 use Rattle.cg_snap.specs.DecoderState.{IsWhyAfter}
-use Rattle.cg_snap.specs.Snap.{Snap, SnapText, records}
+use Rattle.cg_snap.specs.Snap.{Snap, SnapText}
 use Rattle.cg_snap.specs.SnapStop.{IsLongRecord, IsManyRecords, IsSnapUnstopped, IsSnapWhy, SnapStopOf}
-use Rattle.cg_snap.specs.Stop.{IsPassed, StopsAt}
+use Rattle.cg_snap.specs.Stop.{IsPassed, StopsAt, place_of}
 use Rattle.cg_snap.specs.declared.limits.Limits.{Limits}
 use Rattle.cg_snap.specs.declared.stop.Stop.{Stop}
 use Rattle.cg_snap.specs.declared.stop.Stop.TheVariants as stops
@@ -198,3 +199,28 @@ module _ (profile : Profile) where
           unstopped = rw front h.unstopped;
           stops = stops_along text more h.place stop next h.stops;
         }
+
+    -- A byte that doesn't stop the stream is no place of a stop.
+    not_passed : (text : List ℕ) (k : ℕ) (stop : Stop) → Passed text k →
+        StopsAt (Snap profile) (IsSnapWhy profile) (IsLongRecord limits.max_record) (IsManyRecords profile limits.max_lines) limits.max_stream text k stop → ⊥
+    not_passed text k (stops.Refused at why) p h = h.1 p.viable
+    not_passed text k (stops.TooLong at) p h = p.short h.2
+    not_passed text k (stops.TooMany at) p h = p.few h.3
+    not_passed text k (stops.TooMuch at) p h = p.before h.4
+    not_passed text k (stops.Cut at) p h = h
+
+    told_place : (text : List ℕ) (k : ℕ) (stop : Stop) →
+        StopsAt (Snap profile) (IsSnapWhy profile) (IsLongRecord limits.max_record) (IsManyRecords profile limits.max_lines) limits.max_stream text k stop → place_of stop ≡ k
+    told_place text k (stops.Refused at why) h = h.0
+    told_place text k (stops.TooLong at) h = h.0
+    told_place text k (stops.TooMany at) h = h.0
+    told_place text k (stops.TooMuch at) h = h.0
+    told_place text k (stops.Cut at) h = absurd h
+
+    -- The stop that comes with the byte after some that stop nothing has that byte's place.
+    pub stop_place : (p : List ℕ) (b : ℕ) (stop : Stop) → IsSnapUnstopped profile limits p → SnapStopOf profile limits (p ++ b ∷ []) stop → place_of stop ≡ length p
+    stop_place p b stop u h =
+        elim (cases_lt h.place (length p)) [
+          | inl lt ↦ absurd (not_passed (p ++ b ∷ []) h.place stop (passed_at p (p ++ b ∷ []) h.place (take-append-le {A = ℕ} (h.place + 1) p (b ∷ []) (omega (arith, lt))) (u h.place lt)) h.stops)
+          | inr ge ↦ told_place (p ++ b ∷ []) h.place stop h.stops ∙ omega (arith, ge, h.within, length_push p b)
+        ]

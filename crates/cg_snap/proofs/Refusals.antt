@@ -8,12 +8,13 @@ use Rattle.cg_value.specs.EntryLaws.{entry_path}
 use Rattle.cg_value.specs.Files.{KindFile, ReadLines}
 use Rattle.cg_value.specs.Lines.{unlines}
 use Rattle.cg_value.specs.PathLaws.{path_lacks_nul}
+use Rattle.cg_value.specs.Records.{records}
 use Rattle.cg_value.specs.declared.kind.ReadForm.{ReadForm}
 use Rattle.cg_value.specs.declared.profile.Profile.{Profile}
 use Rattle.cg_value.specs.declared.value.Value.{Value}
 use Rattle.cg_file.specs.WeightFileLaws.{not_empty}
 use Rattle.cg_snap.specs.DecoderState.{ArePathBytes, AtLine, AtPath, AtStart, CanEndLine}
-use Rattle.cg_snap.specs.Snap.{Snap, SnapText, StartsOther, records}
+use Rattle.cg_snap.specs.Snap.{Snap, SnapText, StartsOther}
 use Rattle.cg_snap.specs.SnapLaws.{cut, entry_starts, not_of, record_then}
 use Rattle.cg_snap.specs.declared.present.Present.{Present}
 use Rattle.cg_snap.proofs.Joins.{Inner, inner, unlines-append}

@@ -15,6 +15,7 @@ use Rattle.cg_value.specs.Lines.{unlines}
 use Rattle.cg_value.specs.Path.{IsNameOf}
 use Rattle.cg_value.specs.Print.{print_lines}
 use Rattle.cg_value.specs.PrintLaws.{one_text}
+use Rattle.cg_value.specs.Records.{records}
 use Rattle.cg_value.specs.Table.{read_form_of}
 use Rattle.cg_value.specs.TableLaws.{read_form_ok}
 use Rattle.cg_value.specs.WholeLinesLaws.{can_end}
@@ -27,7 +28,7 @@ use Rattle.cg_file.specs.WeightFileLaws.{not_empty}
 use Rattle.cg_line.specs.Reads.{Reads, reads_viable}
 use Rattle.cg_snap.specs.Closed.{EndsOther}
 use Rattle.cg_snap.specs.DecoderState.{ArePathBytes, AtLine, AtPath, AtStart, CanEndLine}
-use Rattle.cg_snap.specs.Snap.{AreEntryLines, Snap, SnapText, records}
+use Rattle.cg_snap.specs.Snap.{AreEntryLines, Snap, SnapText}
 use Rattle.cg_snap.specs.declared.present.Present.{Present}
 use Rattle.cg_snap.proofs.Joins.{ends_push, lines_first, one_lines, push_at, records-append, snap_append, unlines-push}
 

@@ -5,10 +5,11 @@ use Rattle.cg_text.specs.Texts.{Lacks}
 use Rattle.cg_value.specs.Entry.{EntryData, IsPath, ReadsAt}
 use Rattle.cg_value.specs.Files.{ReadLines}
 use Rattle.cg_value.specs.Held.{held_of_lines}
+use Rattle.cg_value.specs.Records.{records}
 use Rattle.cg_value.specs.declared.kind.ReadForm.{ReadForm}
 use Rattle.cg_value.specs.declared.profile.Profile.{Profile}
 use Rattle.cg_value.specs.declared.value.Value.{Value}
-use Rattle.cg_snap.specs.Snap.{SnapText, records}
+use Rattle.cg_snap.specs.Snap.{SnapText}
 
 -- The text is empty or ends with a newline.
 abbrev pub IsRecordEnd : List ℕ → Type 0

@@ -8,6 +8,7 @@ use Rattle.cg_snap.specs.Closed.{Closed, IsBegun}
 use Rattle.cg_snap.specs.DecoderState.{At}
 use Rattle.cg_snap.specs.Snap.{Snap, SnapText}
 use Rattle.cg_snap.specs.SnapStop.{IsLongRecord, IsManyRecords, IsSnapUnstopped, SnapStopOf}
+use Rattle.cg_snap.specs.Stop.{place_of}
 use Rattle.cg_snap.specs.declared.decoder.Moved.{Moved}
 use Rattle.cg_snap.specs.declared.decoder.Moved.TheVariants as moves
 use Rattle.cg_snap.specs.declared.decoder.Pulled.{Pulled}
@@ -24,6 +25,10 @@ profile_of d = d.profile
 
 abbrev pub limits_of : SnapshotDecoder → Limits
 limits_of d = d.limits
+
+-- How many bytes were consumed.
+abbrev pub offset_of : SnapshotDecoder → ℕ
+offset_of d = d.offset
 
 -- The stop that came, if one did.
 abbrev pub stop_of : SnapshotDecoder → Option Stop
@@ -46,6 +51,7 @@ pub record Stands (d : SnapshotDecoder) (p : List ℕ) (es : List EntryData) : T
   pub begins : IsBegun p now_begun
   pub length_is : d.record_len ≡ length now_begun
   pub unstopped : IsSnapUnstopped d.profile d.limits p
+  pub closed : Closed d.profile p es
 
 -- What a decoder consumed closes what it gave, can be gone on from, and has no byte that stops it.
 abbrev pub PulledIsClosed : Type 0
@@ -76,22 +82,23 @@ MovedIs new p es byte (moves.Stopped stop) = SnapStopOf new.profile new.limits (
 MovedIs new p es byte moves.OutOfMemory = IsSnapUnstopped new.profile new.limits (p ++ byte ∷ []) × Stands new p es
 
 -- What a call of next leaves that consumed so many bytes of the piece. An entry comes with the byte that closes it; the stop
--- is that of the stream; and where memory was refused, no rule and no limit stops the byte.
+-- is that of the stream, at the first byte that isn't consumed; and where memory was refused, no rule and no limit stops the byte.
 abbrev pub WhatIs : SnapshotDecoder → List ℕ → List EntryData → List ℕ → ℕ → What → Type 0
 WhatIs new p es piece used whats.NeedMore = (stop_of new ≡ None) × (used ≡ length piece) × Stands new (p ++ take used piece) es
 WhatIs new p es piece used (whats.Entry e) =
     (stop_of new ≡ None) × (0 < used) × Closed (profile_of new) (p ++ take (used - 1) piece) es × Stands new (p ++ take used piece) (es ++ e ∷ [])
 WhatIs new p es piece used (whats.Stopped stop) =
     (stop_of new ≡ Some stop) × (used < length piece) × SnapStopOf (profile_of new) (limits_of new) (p ++ piece) stop × Stands new (p ++ take used piece) es
+    × (place_of stop ≡ length p + used)
 WhatIs new p es piece used whats.OutOfMemory =
     (stop_of new ≡ None) × (used < length piece) × IsSnapUnstopped (profile_of new) (limits_of new) (p ++ take (used + 1) piece) × Stands new (p ++ take used piece) es
 
--- An entry comes with a byte.
-abbrev pub IsProgress : ℕ → What → Type 0
-IsProgress used whats.NeedMore = Unit {0}
-IsProgress used (whats.Entry e) = 0 < used
-IsProgress used (whats.Stopped stop) = Unit {0}
-IsProgress used whats.OutOfMemory = Unit {0}
+-- Where nothing comes the whole piece, which is so long, was consumed; and an entry comes with a byte.
+abbrev pub IsProgress : ℕ → ℕ → What → Type 0
+IsProgress whole used whats.NeedMore = used ≡ whole
+IsProgress whole used (whats.Entry e) = 0 < used
+IsProgress whole used (whats.Stopped stop) = Unit {0}
+IsProgress whole used whats.OutOfMemory = Unit {0}
 
 -- What a decoder that stopped answers, whatever comes.
 abbrev pub IsStuck : SnapshotDecoder → SnapshotDecoder → Pulled → Stop → Type 0

@@ -7,11 +7,12 @@ use Rattle.cg_text.specs.Token.{told}
 use Rattle.cg_value.specs.Entry.{EntryData, IsPath, IsPathByte, ReadsAt}
 use Rattle.cg_value.specs.Files.{KindFile}
 use Rattle.cg_value.specs.Lines.{unlines}
+use Rattle.cg_value.specs.Records.{records}
 use Rattle.cg_value.specs.declared.kind.ReadForm.{ReadForm}
 use Rattle.cg_value.specs.declared.profile.Profile.{Profile}
 use Rattle.cg_line.specs.Reads.{Reads}
 use Rattle.cg_snap.specs.Closed.{EndsOther, IsBegun}
-use Rattle.cg_snap.specs.Snap.{Snap, SnapText, records}
+use Rattle.cg_snap.specs.Snap.{Snap, SnapText}
 use Rattle.cg_snap.specs.SnapStop.{IsNameless, IsRecordWhy}
 use Rattle.cg_snap.specs.declared.class.PathClass.{PathClass}
 use Rattle.cg_snap.specs.declared.class.PathClass.TheVariants.{NoName, NotReadable, Readable}

@@ -5,13 +5,14 @@ use Rattle.cg_value.specs.Entry.{EntryData, IsItem, ItemData}
 use Rattle.cg_value.specs.Files.{ReadLines}
 use Rattle.cg_value.specs.Path.{IsNameOf}
 use Rattle.cg_value.specs.Print.{print_lines, print_setting_of}
+use Rattle.cg_value.specs.Records.{records}
 use Rattle.cg_value.specs.declared.kind.ReadForm.TheVariants.{Nested}
 use Rattle.cg_value.specs.declared.profile.Profile.{Profile}
 use Rattle.cg_value.specs.declared.profile.Profile.TheVariants.{One, Two}
 use Rattle.cg_value.specs.declared.value.Value.TheVariants.{Raw}
 use Rattle.cg_snap.specs.Closed.{Closed, IsBegun}
 use Rattle.cg_snap.specs.Plan.{ClosedPlan, PlanText}
-use Rattle.cg_snap.specs.Snap.{SnapText, records}
+use Rattle.cg_snap.specs.Snap.{SnapText}
 
 -- The records of the entries' canonical lines.
 abbrev pub print_entries : List EntryData → List ℕ

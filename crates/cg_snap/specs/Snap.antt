@@ -4,13 +4,9 @@ use Rattle.std.specs.Prelude.{◌≡◌, ◌≢◌, ℕ, List, [], ◌∷◌, �
 use Rattle.cg_text.specs.Texts.{TextOf}
 use Rattle.cg_value.specs.Entry.{EntryData, ReadsAt}
 use Rattle.cg_value.specs.Files.{ReadLines}
+use Rattle.cg_value.specs.Records.{records}
 use Rattle.cg_value.specs.declared.kind.ReadForm.{ReadForm}
 use Rattle.cg_value.specs.declared.profile.Profile.{Profile}
-
--- A record for each line: the path, a NUL, the line and a newline.
-abbrev pub records : List ℕ → List (List ℕ) → List ℕ
-records path [] = []
-records path (line ∷ lines) = path ++ 0 ∷ (line ++ 10 ∷ records path lines)
 
 -- The lines, at least one, spell the entry's value as a file at the entry's path. (The path of an entry is good.)
 pub record AreEntryLines (profile : Profile) (e : EntryData) (lines : List (List ℕ)) : Type 0 where

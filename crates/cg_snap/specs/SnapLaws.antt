@@ -13,6 +13,7 @@ use Rattle.cg_value.specs.Path.{IsNameOf}
 use Rattle.cg_value.specs.PathLaws.{path_lacks_nul}
 use Rattle.cg_value.specs.Print.{print_lines}
 use Rattle.cg_value.specs.PrintLaws.{one_text}
+use Rattle.cg_value.specs.Records.{records}
 use Rattle.cg_value.specs.Table.{read_form_of}
 use Rattle.cg_value.specs.TableLaws.{read_form_ok}
 use Rattle.cg_value.specs.declared.kind.ReadForm.{ReadForm}
@@ -20,7 +21,7 @@ use Rattle.cg_value.specs.declared.profile.Profile.{Profile}
 use Rattle.cg_file.specs.OneValueLaws.{one_value}
 use Rattle.cg_file.specs.WeightFileLaws.{not_empty}
 use Rattle.cg_snap.specs.Laws.{print_entries}
-use Rattle.cg_snap.specs.Snap.{AreEntryLines, SnapText, StartsOther, records}
+use Rattle.cg_snap.specs.Snap.{AreEntryLines, SnapText, StartsOther}
 
 -- ---- Texts and their separators
 

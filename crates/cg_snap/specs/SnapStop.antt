@@ -3,10 +3,11 @@ use Rattle.std.specs.Prelude.{◌≡◌, ℕ, ◌≤◌, ◌⊎◌, List, [], �
 use Rattle.std.specs.List.{AllByRecursion}
 use Rattle.cg_text.specs.Texts.{Lacks}
 use Rattle.cg_value.specs.Entry.{EntryData, IsPath, ReadsAt}
+use Rattle.cg_value.specs.Records.{records}
 use Rattle.cg_value.specs.declared.kind.ReadForm.{ReadForm}
 use Rattle.cg_value.specs.declared.profile.Profile.{Profile}
 use Rattle.cg_snap.specs.Closed.{EndsOther, IsBegun}
-use Rattle.cg_snap.specs.Snap.{Snap, SnapText, records}
+use Rattle.cg_snap.specs.Snap.{Snap, SnapText}
 use Rattle.cg_snap.specs.Stop.{IsUnstopped, StopOf}
 use Rattle.cg_snap.specs.declared.limits.Limits.{Limits}
 use Rattle.cg_snap.specs.declared.stop.Stop.{Stop}

@@ -39,6 +39,14 @@ module _ (L : List ℕ → Type 0) (IsWhy : List ℕ → ℕ → Why → Type 0)
     pub unstopped : IsUnstopped (take place text)
     pub stops : StopsAt text place stop
 
+-- The place that a stop tells.
+abbrev pub place_of : Stop → ℕ
+place_of (Refused at why) = at
+place_of (TooLong at) = at
+place_of (TooMany at) = at
+place_of (TooMuch at) = at
+place_of (Cut at) = at
+
 -- One file or one setting has no records: only its grammar and the limit of the whole can stop it.
 abbrev pub is_line : List ℕ → ℕ → Why → Type 0
 is_line text k why = why ≡ Line

@@ -164,7 +164,7 @@ impl SnapshotDecoder {
     pub fn next(&mut self, piece: &[u8]) -> Pulled
         ensures pulled { (p : List ℕ) (es : List EntryData) → stop_of self.old ≡ None → Stands self.old p es → WhatIs self.new p es piece.now result.used result.what }
         ensures used { result.used ≤ length piece.now }
-        ensures progress { IsProgress result.used result.what }
+        ensures progress { IsProgress (length piece.now) result.used result.what }
         ensures stuck { (s : Stop) → stop_of self.old ≡ Some s → IsStuck self.old self.new result s }
         ensures profile { profile_of self.new ≡ profile_of self.old }
         ensures limits { limits_of self.new ≡ limits_of self.old }

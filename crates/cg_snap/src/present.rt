@@ -47,13 +47,8 @@ pub(crate) fn line_count(begun: &Vec<u8>, present: &Option<Present>) -> u64
 {
     match present {
         None => 0,
-        Some(x) => {
-            if x.path.as_slice() == begun.as_slice() {
-                x.lines
-            } else {
-                0
-            }
-        }
+        Some(x) if x.path.as_slice() == begun.as_slice() => x.lines,
+        Some(_) => 0,
     }
 }
 

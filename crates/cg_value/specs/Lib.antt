@@ -24,6 +24,7 @@ pub mod PrintSettingLaws
 pub mod PrintTokenLaws
 pub mod RawLinesLaws
 pub mod ReadLine
+pub mod Records
 pub mod RefusedPairLaws
 pub mod RefusedRowLaws
 pub mod RefusedWriteLaws

@@ -13,8 +13,15 @@ returns-in-Plan-clause-ran g c fresh =
 
 pub returns-in-Show-clause-ran : goal.returns-in-Show-clause-ran
 returns-in-Show-clause-ran g c fresh =
-    idle_ran (IsRight c.args.profile c.args.command.now c.args.limits) _ _ _ _ _ out.NotReadable c.told_line-in-Show.result
-    (rw c.in-Show.is (record { outcome = refl; unread = refl; none = refl })) c.told_line-in-Show.ensures
+    let h = c.run_stream.ensures.ran (c.args.profile, c.args.limits) c.new.ensures fresh in
+    record {
+      read = h.read;
+      consumed = h.consumed;
+      wanted = h.wanted;
+      parts = h.parts;
+      right = rw c.in-Show.is h.right;
+      wrote = h.wrote;
+    }
 
 pub returns-in-Json-clause-ran : goal.returns-in-Json-clause-ran
 returns-in-Json-clause-ran g c fresh =

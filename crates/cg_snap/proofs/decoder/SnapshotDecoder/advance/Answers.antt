@@ -33,7 +33,7 @@ returns-in-Refused-clause-moved c = λ p es h.
     let d = c.args.self.now in
     let r = c.in-Refused.ensures p es h.state in (
       stop_refused d.profile d.limits p c.args.byte d.offset c.in-Refused.why h.offset h.unstopped r.1 r.2,
-      record { state = r.0; offset = h.offset; within = h.within; now_begun = h.now_begun; begins = h.begins; length_is = h.length_is; unstopped = h.unstopped },
+      record { state = r.0; offset = h.offset; within = h.within; now_begun = h.now_begun; begins = h.begins; length_is = h.length_is; unstopped = h.unstopped; closed = h.closed },
     )
 
 pub returns-in-OutOfMemory-clause-moved : goal.returns-in-OutOfMemory-clause-moved
@@ -41,5 +41,5 @@ returns-in-OutOfMemory-clause-moved c = λ p es h.
     let d = c.args.self.now in
     let r = c.in-OutOfMemory.ensures p es h.state in (
       unstopped_push d.profile d.limits p c.args.byte h.unstopped r.1 (c.in_default.ensures.limit p es h),
-      record { state = r.0; offset = h.offset; within = h.within; now_begun = h.now_begun; begins = h.begins; length_is = h.length_is; unstopped = h.unstopped },
+      record { state = r.0; offset = h.offset; within = h.within; now_begun = h.now_begun; begins = h.begins; length_is = h.length_is; unstopped = h.unstopped; closed = h.closed },
     )

@@ -1,6 +1,6 @@
 use Rattle.std.proofs.Common.{◌+◌, refl, ◌++◌, ◌∷◌, [], take, ◌∙◌, subst, List, ℕ, arith}
 use Rattle.cg_snap.specs.Decoder.{Stands}
-use Rattle.cg_snap.proofs.Moves.{given_step, skipped_on, stop_in_piece, taken_more, unstopped_in_piece}
+use Rattle.cg_snap.proofs.Moves.{given_step, skipped_on, stop_after, stop_in_piece, taken_more, unstopped_in_piece}
 use Rattle.cg_snap.proofs.decoder.SnapshotDecoder.next.Goals as goal
 
 pub loop-used-preserved-in-Taken : goal.loop-used-preserved-in-Taken
@@ -35,7 +35,8 @@ returns-in-Stopped-clause-pulled c = λ p es n h.
       refl,
       c.if-used-piece.true,
       stop_in_piece c.advance.new.self.profile c.advance.new.self.limits p piece at c.in-Stopped.stop c.if-used-piece.true m.0,
-      record { state = m.1.state; offset = m.1.offset; within = m.1.within; now_begun = m.1.now_begun; begins = m.1.begins; length_is = m.1.length_is; unstopped = m.1.unstopped },
+      record { state = m.1.state; offset = m.1.offset; within = m.1.within; now_begun = m.1.now_begun; begins = m.1.begins; length_is = m.1.length_is; unstopped = m.1.unstopped; closed = m.1.closed },
+      stop_after c.advance.new.self p piece es at c.in-Stopped.stop c.if-used-piece.true m.0 m.1,
     )
 
 pub returns-in-OutOfMemory-clause-pulled : goal.returns-in-OutOfMemory-clause-pulled

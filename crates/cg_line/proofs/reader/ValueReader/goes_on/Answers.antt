@@ -1,0 +1,31 @@
+use Rattle.std.proofs.Common.{◌≡◌, ◌≤◌, true, refl, arith}
+use native.Mathlib.Decide.{dec_lt}
+use Prim.{yes, no}
+use Rattle.cg_value.specs.Files.{KindFile}
+use Rattle.cg_value.specs.LineLaws.{file_bytes}
+use Rattle.cg_line.specs.AllowedLaws.{next_is_byte}
+use Rattle.cg_line.specs.ReadsLaws.{next_byte_is}
+use Rattle.cg_line.proofs.reader.ValueReader.goes_on.Goals as goal
+
+pub returns-then-allows : goal.returns-then-allows
+returns-then-allows c kind taken h =
+    let next = next_byte_is c.args.self.now kind taken c.loop-number.number h in
+    (λ e. record { byte = c.loop-number.number; next = next.0 (c.allows.ensures.0 c.if-allows.true) }, λ some. refl)
+
+pub loop-number-preserved : goal.loop-number-preserved
+loop-number-preserved c kind taken h byte lt goes =
+    elim (dec_lt byte c.loop-number.number) [
+      | yes less ↦ c.loop-number.invariant kind taken h byte less goes
+      | no more ↦ (
+          let same : byte ≡ c.loop-number.number = omega (arith, more, lt) in
+          let allowed : c.allows.result ≡ true = c.allows.ensures.1 ((next_byte_is c.args.self.now kind taken c.loop-number.number h).1 (rw same at goes)) in
+          let refused = c.if-allows.false in
+          cc)
+    ]
+
+pub returns : goal.returns
+returns c kind taken h = (
+  λ e. absurd (cc),
+  λ some. absurd (let done : 256 ≤ c.loop-number.number = omega arith in
+      c.loop-number.invariant kind taken h some.byte (omega (arith, done, next_is_byte (KindFile kind) taken (file_bytes kind) some.byte some.next)) some.next),
+)

@@ -1,0 +1,138 @@
+-- What is right for a run over a stream.
+use Rattle.std.proofs.Common.{◌≡◌, ◌≢◌, ℕ, ◌+◌, ◌<◌, ◌≤◌, ◌⊎◌, Bool, true, false, List, [], ◌∷◌, ◌++◌, length, take, drop, Option, refl, sym, ap, subst, ◌∙◌, append_assoc, append-nil, arith, inl, inr, length-append, length-drop, length-take, take-append-drop}
+use Rattle.std.proofs.Math.Seq.{take-add}
+use Rattle.std.specs.Io.KnownBytes.{IsAtEnd}
+use Rattle.cg_snap.specs.Stop.{place_of}
+use Rattle.cg_snap.specs.declared.stop.Stop.{Stop}
+use Rattle.cg_snap.specs.declared.stop.Stop.TheVariants as stops
+use Rattle.cg_run.specs.Input.{Reading}
+use Rattle.cg_run.specs.Outcome.{last_line}
+use Rattle.cg_run.specs.Run.{Wrote, joined}
+use Rattle.cg_run.specs.Stream.{IsStreamRight, IsStreamStarved, IsStreamStop}
+use Rattle.cg_run.specs.Streaming.{EndsSo, HasWritten, IsByteStop, IsCutAt, WantsMemory}
+use Rattle.cg_run.specs.declared.outcome.Outcome.{Outcome}
+use Rattle.cg_run.specs.declared.outcome.Outcome.TheVariants as out
+use Rattle.cg_run.proofs.Written.{take_past}
+
+-- A part of a piece, and then a part of what is left of it.
+pub text_on : (read piece rest : List ℕ) (at n : ℕ) → rest ≡ drop at piece → (read ++ take at piece) ++ take n rest ≡ read ++ take (at + n) piece
+text_on read piece rest at n e =
+    ap (λ (r : List ℕ). (read ++ take at piece) ++ take n r) e ∙ append_assoc read (take at piece) (take n (drop at piece)) ∙ ap (λ (t : List ℕ). read ++ t) (sym (take-add at n piece))
+
+pub text_all : (read piece rest : List ℕ) (at : ℕ) → rest ≡ drop at piece → (read ++ take at piece) ++ rest ≡ read ++ piece
+text_all read piece rest at e = ap (λ (r : List ℕ). (read ++ take at piece) ++ r) e ∙ append_assoc read (take at piece) (drop at piece) ∙ ap (λ (t : List ℕ). read ++ t) (take-append-drop at piece)
+
+some_part : (parts : List (List ℕ)) (part : List ℕ) → parts ++ part ∷ [] ≢ []
+some_part [] part = λ e. cc
+some_part (first ∷ parts) part = λ e. cc
+
+module _ (Took Whole Closes : List ℕ → List (List ℕ) → Type 0) (Unstopped : List ℕ → Type 0) (StopsBy : List ℕ → Stop → Type 0)
+    (closed : (p : List ℕ) (parts : List (List ℕ)) → Took p parts → Closes p parts) (passed : (p : List ℕ) (parts : List (List ℕ)) → Took p parts → Unstopped p) where
+  abbrev Right : Reading → Outcome → List (List ℕ) → Type 0
+  Right = IsStreamRight Whole Closes Unstopped StopsBy
+
+  -- ---- A piece, of which at bytes were taken, and then n of the rest
+
+  module _ (read piece rest : List ℕ) (at n : ℕ) (rest_is : rest ≡ drop at piece) (less : at ≤ length piece) (within : n ≤ length rest) (left : Option (List ℕ)) (failed : Bool) where
+    abbrev r : Reading
+    r = record { bytes = read ++ piece; left = left; failed = failed }
+
+    far : at + n ≤ length piece
+    far = omega (arith, less, within, ap length rest_is, length-drop at piece)
+
+    front : (m : ℕ) → take (length read + m) (read ++ piece) ≡ read ++ take m piece
+    front m = take_past m read piece
+
+    -- Memory was refused after these bytes, for the next or for a part.
+    starved : (parts more : List (List ℕ)) → Took ((read ++ take at piece) ++ take n rest) (parts ++ more) → (((length read + (at + n)) < length (read ++ piece)) × Unstopped (take (length read + (at + n) + 1) (read ++ piece))) ⊎ (parts ++ more ≢ []) →
+        IsStreamStarved Whole Closes Unstopped StopsBy r parts
+    starved parts more h w =
+        let took : Took (read ++ take (at + n) piece) (parts ++ more) = subst (λ (t : List ℕ). Took t (parts ++ more)) (text_on read piece rest at n rest_is) h in
+        record {
+          at = length read + (at + n);
+          within = omega (arith, far, length-append read piece);
+          unstopped = rw (front (at + n)) (passed (read ++ take (at + n) piece) (parts ++ more) took);
+          more = more;
+          has = inl (rw (front (at + n)) (closed (read ++ take (at + n) piece) (parts ++ more) took));
+          wants = w;
+        }
+
+    pub fault_ends : (first now : Option (List ℕ)) (write_failed : Bool) (parts : List (List ℕ)) (part : List ℕ) (o : Outcome) → Took ((read ++ take at piece) ++ take n rest) (parts ++ part ∷ []) →
+        ((rest : List ℕ) (wanted : Outcome) → Wrote first now write_failed (joined (parts ++ part ∷ []) ++ rest) wanted o) → EndsSo Right (read ++ piece) left failed first now write_failed o
+    fault_ends first now write_failed parts part o h w = record {
+      wanted = out.OutOfMemory;
+      parts = parts ++ part ∷ [];
+      right = starved (parts ++ part ∷ []) [] (subst (λ (ps : List (List ℕ)). Took ((read ++ take at piece) ++ take n rest) ps) (sym (append-nil (parts ++ part ∷ []))) h) (inr (rw (append-nil (parts ++ part ∷ [])) (some_part parts part)));
+      wrote = w (last_line out.OutOfMemory) out.OutOfMemory;
+    }
+
+    stop_right : (parts : List (List ℕ)) (s : Stop) → IsByteStop s → StopsBy (read ++ piece) s → Closes (take (place_of s) (read ++ piece)) parts → IsStreamStop Whole Closes Unstopped StopsBy r s parts
+    stop_right parts (stops.Refused place why) b x c = record { stops = x; closed = c }
+    stop_right parts (stops.TooLong place) b x c = record { stops = x; closed = c }
+    stop_right parts (stops.TooMany place) b x c = record { stops = x; closed = c }
+    stop_right parts (stops.TooMuch place) b x c = record { stops = x; closed = c }
+    stop_right parts (stops.Cut place) b x c = absurd b
+
+    pub stop_ends : (first now : Option (List ℕ)) (write_failed : Bool) (parts : List (List ℕ)) (s : Stop) (o : Outcome) → IsByteStop s → StopsBy ((read ++ take at piece) ++ rest) s → place_of s ≡ length (read ++ take at piece) + n →
+        Closes ((read ++ take at piece) ++ take n rest) parts → Wrote first now write_failed (joined parts ++ last_line (out.Stopped s)) (out.Stopped s) o → EndsSo Right (read ++ piece) left failed first now write_failed o
+    stop_ends first now write_failed parts s o b x e c w =
+        let place : place_of s ≡ length read + (at + n) = omega (arith, e, less, length-append read (take at piece), length-take at piece) in
+        record {
+          wanted = out.Stopped s;
+          parts = parts;
+          right = stop_right parts s b (subst (λ (t : List ℕ). StopsBy t s) (text_all read piece rest at rest_is) x)
+              (rw (place, front (at + n)) (subst (λ (t : List ℕ). Closes t parts) (text_on read piece rest at n rest_is) c));
+          wrote = w;
+        }
+
+    memory_right : (parts : List (List ℕ)) → WantsMemory Took Unstopped (read ++ take at piece) parts rest n → IsStreamStarved Whole Closes Unstopped StopsBy r parts
+    memory_right parts (inl h) =
+        let next : length read + (at + n) + 1 ≡ length read + (at + (n + 1)) = omega arith in
+        let u : Unstopped (take (length read + (at + n) + 1) (read ++ piece)) = rw (next, front (at + (n + 1))) (subst Unstopped (text_on read piece rest at (n + 1) rest_is) h.1) in
+        starved parts [] (rw (append-nil parts) h.2) (inl (omega (arith, h.0, less, ap length rest_is, length-drop at piece, length-append read piece), u))
+    memory_right parts (inr h) = starved parts (h.0 ∷ []) h.1 (inr (some_part parts h.0))
+
+    pub memory_ends : (first now : Option (List ℕ)) (write_failed : Bool) (parts : List (List ℕ)) (o : Outcome) → WantsMemory Took Unstopped (read ++ take at piece) parts rest n →
+        Wrote first now write_failed (joined parts ++ last_line out.OutOfMemory) out.OutOfMemory o → EndsSo Right (read ++ piece) left failed first now write_failed o
+    memory_ends first now write_failed parts o h w = record { wanted = out.OutOfMemory; parts = parts; right = memory_right parts h; wrote = w }
+
+  -- ---- The end of the input
+
+  module _ (read : List ℕ) (left : Option (List ℕ)) (failed : Bool) (first now : Option (List ℕ)) (write_failed : Bool) (parts : List (List ℕ)) (took : Took read parts) where
+    pub read_fault_ends : (o : Outcome) → failed ≡ true → Wrote first now write_failed (joined parts ++ last_line out.ReadFault) out.ReadFault o → EndsSo Right read left failed first now write_failed o
+    read_fault_ends o f w = record { wanted = out.ReadFault; parts = parts; right = record { unstopped = passed read parts took; failed = f; closed = closed read parts took }; wrote = w }
+
+    module _ (ended : IsAtEnd left) (works : failed ≡ false) where
+      -- All parts were written, and no line is.
+      pub done_ends : (all : List (List ℕ)) (written : ℕ) → Whole read all → HasWritten first now all written → EndsSo Right read left failed first now write_failed out.Done
+      done_ends all written whole h = record { wanted = out.Done; parts = all; right = record { ended = (ended, works); unstopped = passed read parts took; whole = whole }; wrote = (refl, rw (append-nil (joined all)) h.0) }
+
+      pub last_fault_ends : (all : List (List ℕ)) (o : Outcome) → Whole read all → Wrote first now write_failed (joined all ++ []) out.Done o → EndsSo Right read left failed first now write_failed o
+      last_fault_ends all o whole w = record { wanted = out.Done; parts = all; right = record { ended = (ended, works); unstopped = passed read parts took; whole = whole }; wrote = w }
+
+      cut_right : (s : Stop) → IsCutAt Whole read s → IsStreamStop Whole Closes Unstopped StopsBy (record { bytes = read; left = left; failed = failed }) s parts
+      cut_right (stops.Refused place why) h = absurd h
+      cut_right (stops.TooLong place) h = absurd h
+      cut_right (stops.TooMany place) h = absurd h
+      cut_right (stops.TooMuch place) h = absurd h
+      cut_right (stops.Cut place) h = record { ended = (ended, works); unstopped = passed read parts took; not_whole = h.1; at_end = h.0; closed = closed read parts took }
+
+      pub cut_ends : (s : Stop) (o : Outcome) → IsCutAt Whole read s → Wrote first now write_failed (joined parts ++ last_line (out.Stopped s)) (out.Stopped s) o → EndsSo Right read left failed first now write_failed o
+      cut_ends s o h w = record { wanted = out.Stopped s; parts = parts; right = cut_right s h; wrote = w }
+
+      pub last_memory_ends : (part : List ℕ) (o : Outcome) → Whole read (parts ++ part ∷ []) → Wrote first now write_failed (joined parts ++ last_line out.OutOfMemory) out.OutOfMemory o → EndsSo Right read left failed first now write_failed o
+      last_memory_ends part o whole w =
+          let all : take (length read) read ≡ read = ap (λ (t : List ℕ). take (length read) t) (sym (append-nil read)) ∙ ap (λ (m : ℕ). take m (read ++ [])) (omega arith) ∙ take_past 0 read [] ∙ append-nil read in
+          record {
+            wanted = out.OutOfMemory;
+            parts = parts;
+            right = record {
+              at = length read;
+              within = omega arith;
+              unstopped = rw all (passed read parts took);
+              more = part ∷ [];
+              has = inr (record { ended = (ended, works); unstopped = passed read parts took; whole = whole });
+              wants = inr (some_part parts part);
+            };
+            wrote = w;
+          }

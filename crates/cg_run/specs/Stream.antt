@@ -1,0 +1,72 @@
+-- What a run over a stream writes: parts, one for each entry or item of the stream, each as soon as the bytes close it.
+use Rattle.std.specs.Prelude.{◌≡◌, ◌≢◌, ℕ, ◌+◌, ◌<◌, ◌≤◌, ◌⊎◌, true, List, [], ◌++◌, length, map, take}
+use Rattle.cg_value.specs.Entry.{EntryData}
+use Rattle.cg_value.specs.Print.{print_lines}
+use Rattle.cg_print.specs.Headed.{shown}
+use Rattle.cg_snap.specs.Stop.{place_of}
+use Rattle.cg_snap.specs.declared.stop.Stop.{Stop}
+use Rattle.cg_snap.specs.declared.stop.Stop.TheVariants as stop
+use Rattle.cg_run.specs.Input.{Reading, IsEnded}
+use Rattle.cg_run.specs.declared.outcome.Outcome.{Outcome}
+use Rattle.cg_run.specs.declared.outcome.Outcome.TheVariants as out
+
+-- The part of an entry that is shown.
+abbrev pub shown_part : EntryData → List ℕ
+shown_part e = shown e.path (print_lines e.value)
+
+-- The parts of the entries or items that some bytes have by a relation.
+abbrev pub PartsOf : {E : Type 0} → (E → List ℕ) → (List ℕ → List E → Type 0) → List ℕ → List (List ℕ) → Type 0
+PartsOf {E} part Has bytes parts = (es : List E) × Has bytes es × (parts ≡ map part es)
+
+-- Whole says of a whole stream which parts it has, and Closes of the first bytes of one which parts they close; Unstopped says
+-- of bytes that none of them stops the stream, and StopsBy by which stop the first does that stops it.
+module _ (Whole Closes : List ℕ → List (List ℕ) → Type 0) (Unstopped : List ℕ → Type 0) (StopsBy : List ℕ → Stop → Type 0) where
+  -- A whole stream was read.
+  pub record IsStreamDone (r : Reading) (parts : List (List ℕ)) : Type 0 where
+    pub ended : IsEnded r
+    pub unstopped : Unstopped r.bytes
+    pub whole : Whole r.bytes parts
+
+  -- The input ended before a stream did.
+  pub record IsStreamCut (r : Reading) (at : ℕ) (parts : List (List ℕ)) : Type 0 where
+    pub ended : IsEnded r
+    pub unstopped : Unstopped r.bytes
+    pub not_whole : (all : List (List ℕ)) → Whole r.bytes all → ⊥
+    pub at_end : at ≡ length r.bytes
+    pub closed : Closes r.bytes parts
+
+  -- A byte stopped the stream. The parts are those that the bytes before it close.
+  pub record IsStreamStopped (r : Reading) (s : Stop) (parts : List (List ℕ)) : Type 0 where
+    pub stops : StopsBy r.bytes s
+    pub closed : Closes (take (place_of s) r.bytes) parts
+
+  -- A read failed, and no byte before it stopped the stream.
+  pub record IsStreamFault (r : Reading) (parts : List (List ℕ)) : Type 0 where
+    pub unstopped : Unstopped r.bytes
+    pub failed : r.failed ≡ true
+    pub closed : Closes r.bytes parts
+
+  -- Memory was refused after some first bytes, of which none stops the stream: for the next byte, which doesn't stop it
+  -- either, or for a part. The parts are first ones of those that these bytes close, or of the whole stream at its end.
+  pub record IsStreamStarved (r : Reading) (parts : List (List ℕ)) : Type 0 where
+    pub at : ℕ
+    pub within : at ≤ length r.bytes
+    pub unstopped : Unstopped (take at r.bytes)
+    pub more : List (List ℕ)
+    pub has : Closes (take at r.bytes) (parts ++ more) ⊎ IsStreamDone r (parts ++ more)
+    pub wants : ((at < length r.bytes) × Unstopped (take (at + 1) r.bytes)) ⊎ (parts ++ more ≢ [])
+
+  abbrev pub IsStreamStop : Reading → Stop → List (List ℕ) → Type 0
+  IsStreamStop r (stop.Cut at) parts = IsStreamCut r at parts
+  IsStreamStop r s parts = IsStreamStopped r s parts
+
+  -- The outcome that is right, with the parts that are written before the last line.
+  abbrev pub IsStreamRight : Reading → Outcome → List (List ℕ) → Type 0
+  IsStreamRight r out.Done parts = IsStreamDone r parts
+  IsStreamRight r (out.Findings n) parts = ⊥
+  IsStreamRight r (out.Stopped s) parts = IsStreamStop r s parts
+  IsStreamRight r out.NotReadable parts = ⊥
+  IsStreamRight r out.NotWritable parts = ⊥
+  IsStreamRight r out.ReadFault parts = IsStreamFault r parts
+  IsStreamRight r (out.WriteFault n) parts = ⊥
+  IsStreamRight r out.OutOfMemory parts = IsStreamStarved r parts

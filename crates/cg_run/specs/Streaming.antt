@@ -1,0 +1,80 @@
+-- What the steps of a run over a stream do.
+use Rattle.std.specs.Prelude.{◌≡◌, ℕ, ◌+◌, ◌<◌, ◌⊎◌, Bool, false, List, [], ◌∷◌, ◌++◌, length, take, Option}
+use Rattle.std.specs.Io.KnownBytes.{Appends, Consumes}
+use Rattle.cg_text.specs.Token.{told}
+use Rattle.cg_snap.specs.Stop.{place_of}
+use Rattle.cg_snap.specs.declared.stop.Stop.{Stop}
+use Rattle.cg_snap.specs.declared.stop.Stop.TheVariants as stop
+use Rattle.cg_run.specs.Input.{Reading}
+use Rattle.cg_run.specs.Outcome.{last_line}
+use Rattle.cg_run.specs.Run.{Wrote, joined}
+use Rattle.cg_run.specs.declared.outcome.Outcome.{Outcome}
+use Rattle.cg_run.specs.declared.stream_reader.Found.{Found}
+use Rattle.cg_run.specs.declared.stream_reader.Found.TheVariants as found
+use Rattle.cg_run.specs.declared.stream_reader.StreamEnd.{StreamEnd}
+use Rattle.cg_run.specs.declared.stream_reader.StreamEnd.TheVariants as ends
+
+-- A byte is at fault, and not the end.
+abbrev pub IsByteStop : Stop → Type 0
+IsByteStop (stop.Cut at) = ⊥
+IsByteStop s = Unit {0}
+
+-- Took says that the reader consumed some bytes and gave some parts.
+module _ (Took : List ℕ → List (List ℕ) → Type 0) where
+  -- Memory was refused for the first byte of the piece that isn't consumed, which doesn't stop the stream; or for a part.
+  abbrev pub WantsMemory : (List ℕ → Type 0) → List ℕ → List (List ℕ) → List ℕ → ℕ → Type 0
+  WantsMemory Unstopped p parts piece used =
+      ((used < length piece) × Unstopped (p ++ take (used + 1) piece) × Took (p ++ take used piece) parts)
+      ⊎ ((part : List ℕ) × Took (p ++ take used piece) (parts ++ part ∷ []))
+
+  -- What a call of next found that consumed so many bytes of the piece.
+  abbrev pub FoundIs : (List ℕ → List (List ℕ) → Type 0) → (List ℕ → Type 0) → (List ℕ → Stop → Type 0) → List ℕ → List (List ℕ) → List ℕ → ℕ → Found → Type 0
+  FoundIs Closes Unstopped StopsBy p parts piece used found.NeedMore = (used ≡ length piece) × Took (p ++ take used piece) parts
+  FoundIs Closes Unstopped StopsBy p parts piece used (found.Part text) = Took (p ++ take used piece) (parts ++ text.items ∷ [])
+  FoundIs Closes Unstopped StopsBy p parts piece used (found.Stopped s) = IsByteStop s × StopsBy (p ++ piece) s × (place_of s ≡ length p + used) × Closes (p ++ take used piece) parts
+  FoundIs Closes Unstopped StopsBy p parts piece used found.OutOfMemory = WantsMemory Unstopped p parts piece used
+
+-- Where nothing is found the whole piece, which is so long, was consumed; and a part comes with a byte.
+abbrev pub IsFoundBy : ℕ → ℕ → Found → Type 0
+IsFoundBy whole used found.NeedMore = used ≡ whole
+IsFoundBy whole used (found.Part text) = 0 < used
+IsFoundBy whole used (found.Stopped s) = Unit {0}
+IsFoundBy whole used found.OutOfMemory = Unit {0}
+
+-- The bytes are no whole stream, and the stop tells where they end.
+abbrev pub IsCutAt : (List ℕ → List (List ℕ) → Type 0) → List ℕ → Stop → Type 0
+IsCutAt Whole p (stop.Cut at) = (at ≡ length p) × ((all : List (List ℕ)) → Whole p all → ⊥)
+IsCutAt Whole p s = ⊥
+
+-- What the end of the bytes leaves, by what a whole stream of them has: no part, one more, or they are no stream.
+abbrev pub EndIs : (List ℕ → List (List ℕ) → Type 0) → List ℕ → List (List ℕ) → StreamEnd → Type 0
+EndIs Whole p parts ends.Nothing = Whole p parts
+EndIs Whole p parts (ends.Part text) = Whole p (parts ++ text.items ∷ [])
+EndIs Whole p parts (ends.Stopped s) = IsCutAt Whole p s
+EndIs Whole p parts ends.OutOfMemory = (part : List ℕ) × Whole p (parts ++ part ∷ [])
+
+-- The writer took these parts since it had taken first, and so many bytes are told of them.
+abbrev pub HasWritten : Option (List ℕ) → Option (List ℕ) → List (List ℕ) → ℕ → Type 0
+HasWritten first now parts written = Appends first now (joined parts) × (written ≡ told (length (joined parts)))
+
+-- A run that ends after these bytes were read, however much the source has left: the outcome that is right, its parts, and
+-- what was written.
+pub record EndsSo (Right : Reading → Outcome → List (List ℕ) → Type 0) (read : List ℕ) (left : Option (List ℕ)) (read_failed : Bool)
+    (first now : Option (List ℕ)) (write_failed : Bool) (o : Outcome) : Type 0 where
+  pub wanted : Outcome
+  pub parts : List (List ℕ)
+  pub right : Right (record { bytes = read; left = left; failed = read_failed }) wanted parts
+  pub wrote : Wrote first now write_failed (joined parts ++ last_line wanted) wanted o
+
+-- What was read and written before a piece.
+pub record Before (Took : List ℕ → List (List ℕ) → Type 0) (first now : Option (List ℕ)) (written : ℕ) (read : List ℕ) : Type 0 where
+  pub parts : List (List ℕ)
+  pub took : Took read parts
+  pub wrote : HasWritten first now parts written
+
+-- What the loop of reads has done so far.
+pub record StreamedSoFar (Took : List ℕ → List (List ℕ) → Type 0) (coming left : Option (List ℕ)) (first now : Option (List ℕ)) (written : ℕ) (failed : Bool) : Type 0 where
+  pub read : List ℕ
+  pub consumed : Consumes coming left read
+  pub before : Before Took first now written read
+  pub works : failed ≡ false

@@ -1,0 +1,101 @@
+//! A run over a stream: each part is written once it is there, and nothing is held but the present one.
+ghost use Rattle.std.specs.Prelude.{◌≡◌, ◌≤◌, ◌+◌, ℕ, Bool, false, List, [], ◌++◌, Option, MatchOption, IfSome};
+ghost use Rattle.std.specs.Io.KnownBytes.{IsAtEnd};
+ghost use Rattle.cg_run.specs.Run.{DidRun, IsRealFault};
+ghost use Rattle.cg_run.specs.Stream.{IsStreamRight};
+ghost use Rattle.cg_run.specs.Streaming.{Before, EndsSo};
+
+use crate::outcome::Outcome;
+use crate::running::PIECE;
+use crate::source::Source;
+use crate::stream_reader::{Found, StreamEnd, StreamReader};
+use crate::told::{told_after, told_part};
+use cg_print::{Failed, Sink};
+
+/// Hands a piece to the reader, and writes each part that it gives. The answer is how the run ended, if it did.
+fn take_parts<S: StreamReader, W: Sink>(
+    stream: &mut S,
+    piece: &[u8],
+    writer: &mut W,
+    written: &mut u64,
+) -> Option<Outcome>
+    ensures took { (form : S.Form) (first : Option (List ℕ)) (read : List ℕ) → Before (S.took stream.old form) first (W.taken writer.old) written.old read →
+        MatchOption result (Before (S.took stream.new form) first (W.taken writer.new) written.new (read ++ piece.now))
+        (λ o. (left : Option (List ℕ)) (failed : Bool) → EndsSo (IsStreamRight (S.whole form) (S.closes form) (S.unstopped form) (S.stops form))
+        (read ++ piece.now) left failed first (W.taken writer.new) (W.has_failed writer.new) o) }
+    ensures real { IfSome result (λ o. IsRealFault o (W.has_failed writer.new)) }
+{
+    let mut used = 0;
+    while used < piece.len() {
+        let (_, rest) = piece.split_at(used);
+        let next = stream.next(rest);
+        used += next.used;
+        match next.found {
+            Found::NeedMore => {}
+            Found::Part(text) => match told_part(writer, text.as_slice(), written) {
+                None => {}
+                Some(fault) => return Some(fault),
+            },
+            Found::Stopped(stop) => {
+                return Some(told_after(writer, *written, Outcome::Stopped(stop)));
+            }
+            Found::OutOfMemory => {
+                return Some(told_after(writer, *written, Outcome::OutOfMemory));
+            }
+        }
+    }
+    None
+}
+
+/// Writes what the end of the input leaves.
+fn told_stream_end<S: StreamReader, W: Sink>(stream: S, writer: &mut W, written: u64) -> Outcome
+    ensures ended { (form : S.Form) (first : Option (List ℕ)) (read : List ℕ) → Before (S.took stream form) first (W.taken writer.old) written read →
+        (left : Option (List ℕ)) (failed : Bool) → IsAtEnd left → failed ≡ false →
+        EndsSo (IsStreamRight (S.whole form) (S.closes form) (S.unstopped form) (S.stops form))
+        read left failed first (W.taken writer.new) (W.has_failed writer.new) result }
+    ensures real { IsRealFault result (W.has_failed writer.new) }
+{
+    let mut all = written;
+    match stream.finish() {
+        StreamEnd::Nothing => Outcome::Done,
+        StreamEnd::Part(text) => match told_part(writer, text.as_slice(), &mut all) {
+            None => Outcome::Done,
+            Some(fault) => fault,
+        },
+        StreamEnd::Stopped(stop) => told_after(writer, written, Outcome::Stopped(stop)),
+        StreamEnd::OutOfMemory => told_after(writer, written, Outcome::OutOfMemory),
+    }
+}
+
+/// Reads a stream to the end of its source, or until something stops it, and writes its parts.
+pub(crate) fn run_stream<S: StreamReader, R: Source, W: Sink>(
+    mut stream: S,
+    reader: &mut R,
+    writer: &mut W,
+    max: u64,
+) -> Outcome
+    requires { (form : S.Form) × S.took stream form [] [] × (S.limit form ≡ max) }
+    ensures ran { (form : S.Form) → S.took stream form [] [] → R.has_failed reader.old ≡ false →
+        DidRun (IsStreamRight (S.whole form) (S.closes form) (S.unstopped form) (S.stops form))
+        (R.coming reader.old) (R.coming reader.new) (R.has_failed reader.new)
+        (W.taken writer.old) (W.taken writer.new) (W.has_failed writer.new) result }
+    ensures real { IsRealFault result (W.has_failed writer.new) }
+    ensures asks { R.asks reader.new ≤ R.asks reader.old + max + 1 }
+{
+    let mut buffer = [0; PIECE];
+    let mut written = 0;
+    'reads: loop {
+        let count = match reader.pull(&mut buffer) {
+            Ok(count) => count,
+            Err(Failed) => return told_after(writer, written, Outcome::ReadFault),
+        };
+        if count == 0 {
+            return told_stream_end(stream, writer, written);
+        }
+        let (piece, _) = buffer.split_at(count);
+        match take_parts(&mut stream, piece, writer, &mut written) {
+            None => {}
+            Some(outcome) => return outcome,
+        }
+    }
+}

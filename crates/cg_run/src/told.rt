@@ -1,0 +1,64 @@
+//! What a run writes: texts, and its last line.
+ghost use Rattle.std.specs.Prelude.{◌≡◌, List, ℕ, [], ◌∷◌, ◌++◌, false, Option, MatchOption, IfSome};
+ghost use Rattle.cg_run.specs.Outcome.{last_line, is_write_fault};
+ghost use Rattle.cg_run.specs.Run.{Wrote, IsRealFault, joined};
+ghost use Rattle.cg_run.specs.Streaming.{HasWritten};
+ghost use Rattle.cg_run.specs.declared.outcome.Outcome.{Outcome};
+
+use crate::line::last_line_of;
+use crate::outcome::Outcome;
+use cg_print::{Sink, WriteStopped, write_text};
+
+/// Writes the text of an outcome, and answers the outcome, or how much of the text was taken.
+pub(crate) fn told<W: Sink>(writer: &mut W, text: &[u8], outcome: Outcome) -> Outcome
+    requires { is_write_fault outcome ≡ false }
+    ensures { Wrote (W.taken writer.old) (W.taken writer.new) (W.has_failed writer.new) text.now outcome result }
+{
+    match write_text(writer, text) {
+        Ok(()) => outcome,
+        Err(WriteStopped { written }) => Outcome::WriteFault { written },
+    }
+}
+
+/// Writes the last line of an outcome.
+pub(crate) fn told_line<W: Sink>(writer: &mut W, outcome: Outcome) -> Outcome
+    requires { is_write_fault outcome ≡ false }
+    ensures { Wrote (W.taken writer.old) (W.taken writer.new) (W.has_failed writer.new) (last_line outcome) outcome result }
+{
+    let line = last_line_of(outcome);
+    told(writer, line.bytes(), outcome)
+}
+
+/// Writes the last line of an outcome, where so many bytes were written before it.
+#[tactic(auto, using(crate::proofs::RunLemmas::wrote_real))]
+pub(crate) fn told_after<W: Sink>(writer: &mut W, written: u64, outcome: Outcome) -> Outcome
+    requires { is_write_fault outcome ≡ false }
+    ensures wrote { (first : Option (List ℕ)) (parts : List (List ℕ)) → HasWritten first (W.taken writer.old) parts written →
+        Wrote first (W.taken writer.new) (W.has_failed writer.new) (joined parts ++ last_line outcome) outcome result }
+    ensures real { IsRealFault result (W.has_failed writer.new) }
+{
+    match told_line(writer, outcome) {
+        Outcome::WriteFault { written: more } => Outcome::WriteFault {
+            written: written.saturating_add(more),
+        },
+        other => other,
+    }
+}
+
+/// Writes a part, and counts its bytes. The answer is the writer's fault, if it failed.
+pub(crate) fn told_part<W: Sink>(writer: &mut W, part: &[u8], written: &mut u64) -> Option<Outcome>
+    ensures wrote { (first : Option (List ℕ)) (parts : List (List ℕ)) → HasWritten first (W.taken writer.old) parts written.old →
+        MatchOption result (HasWritten first (W.taken writer.new) (parts ++ part.now ∷ []) written.new)
+        (λ fault. (rest : List ℕ) (wanted : Outcome) → Wrote first (W.taken writer.new) (W.has_failed writer.new) (joined (parts ++ part.now ∷ []) ++ rest) wanted fault) }
+    ensures real { IfSome result (λ fault. IsRealFault fault (W.has_failed writer.new)) }
+{
+    match write_text(writer, part) {
+        Ok(()) => {
+            *written = written.saturating_add(part.len() as u64);
+            None
+        }
+        Err(WriteStopped { written: more }) => Some(Outcome::WriteFault {
+            written: written.saturating_add(more),
+        }),
+    }
+}
