@@ -1,8 +1,11 @@
-# cgfile: `make` proves and builds the program and shows its first run; `make check` runs all tests.
+# cgfile: `make` proves and builds the program and shows its first run; `make check` runs all tests; `make install` installs
+# the program, its manual page and the completions of three shells below $(DESTDIR)$(PREFIX).
 
 PREFIX ?= /usr/local
+BINDIR = $(DESTDIR)$(PREFIX)/bin
+SHAREDIR = $(DESTDIR)$(PREFIX)/share
 
-.PHONY: all check install clean
+.PHONY: all check version install uninstall clean
 
 all: build/cgfile
 	printf '10000\n' | build/cgfile file cpu.weight
@@ -11,17 +14,30 @@ all: build/cgfile
 # program over them, which proves again what has changed.
 LIBRARIES = $(filter-out cgfile cg_bench cg_rows cg_real, $(shell sed -n 's/^\([a-z_]*\):.*/\1/p' crates.txt))
 
-build/cgfile: crates.txt $(shell find crates -path '*/out' -prune -o -type f -print)
+build/cgfile: crates.txt $(shell find crates -path '*/out' -prune -o -type f -print) | version
 	for library in $(LIBRARIES); do (cd crates/$$library && { [ -e out/rlib/stamp ] || rt lib --jobs $(shell nproc); }) || exit 1; done
 	cd crates/cgfile && rt run < stdin -- file cpu.weight
 	mkdir -p build
 	install -m 755 crates/cgfile/out/cgfile build/cgfile
 
-check:
+# The kit that proves the program is the one that `--version` and the README name.
+version:
+	@for file in crates/cg_command/src/version.rt README.md; do grep -qF "$$(rt version)" $$file \
+	    || { echo "$$file names another kit than $$(rt version)" >&2; exit 1; }; done
+
+check: version
 	rt ci
 
 install: build/cgfile
-	install -D -m 755 build/cgfile $(DESTDIR)$(PREFIX)/bin/cgfile
+	install -D -m 755 build/cgfile $(BINDIR)/cgfile
+	install -D -m 644 man/cgfile.1 $(SHAREDIR)/man/man1/cgfile.1
+	install -D -m 644 completions/cgfile.bash $(SHAREDIR)/bash-completion/completions/cgfile
+	install -D -m 644 completions/_cgfile $(SHAREDIR)/zsh/site-functions/_cgfile
+	install -D -m 644 completions/cgfile.fish $(SHAREDIR)/fish/vendor_completions.d/cgfile.fish
+
+uninstall:
+	rm -f $(BINDIR)/cgfile $(SHAREDIR)/man/man1/cgfile.1 $(SHAREDIR)/bash-completion/completions/cgfile \
+	    $(SHAREDIR)/zsh/site-functions/_cgfile $(SHAREDIR)/fish/vendor_completions.d/cgfile.fish
 
 clean:
 	rm -rf build

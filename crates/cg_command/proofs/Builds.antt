@@ -8,7 +8,7 @@ use Rattle.clap.specs.Words.{App, Rule, Text, AddsArg, AddsSubcommand, app_of, r
 use Rattle.clap.specs.declared.builder.command.Command.{Command}
 use Rattle.clap.specs.declared.builder.arg.Arg.{Arg}
 use Rattle.clap.specs.declared.builder.command.Command.TheViews.{out-Command}
-use Rattle.cg_command.specs.CommandLine.{number_in, number_or}
+use Rattle.cg_command.specs.Words.{number_in, number_or}
 
 pub arg_app : (old new : Command) (a : Arg) (x : App) (r : Rule) → AddsArg old a new → app_of old ≡ x → rule_of a ≡ r → a.global ≡ false → app_of new ≡ with_rule x r
 arg_app old new a x r h e f g = h.shape g ∙ ap₂ with_rule e f
@@ -16,11 +16,11 @@ arg_app old new a x r h e f g = h.shape g ∙ ap₂ with_rule e f
 pub arg_local : (old new : Command) (a : Arg) → AddsArg old a new → (out-Command old).has_globals ≡ false → a.global ≡ false → (out-Command new).has_globals ≡ false
 arg_local old new a h e g = h.globals ∙ ap₂ (λ x y. x || y) e g
 
-pub sub_app : (old new sub : Command) (x y : App) → AddsSubcommand old sub new → app_of old ≡ x → app_of sub ≡ y → (out-Command sub).has_globals ≡ false → app_of new ≡ with_subcommand x y.top
-sub_app old new sub x y h e f g = h.shape g ∙ ap₂ with_subcommand e (ap (λ (a : App). a.top) f)
+pub adds_app : (old new sub : Command) (x y : App) → AddsSubcommand old sub new → app_of old ≡ x → app_of sub ≡ y → (out-Command sub).has_globals ≡ false → app_of new ≡ with_subcommand x y.top
+adds_app old new sub x y h e f g = h.shape g ∙ ap₂ with_subcommand e (ap (λ (a : App). a.top) f)
 
-pub sub_local : (old new sub : Command) → AddsSubcommand old sub new → (out-Command old).has_globals ≡ false → (out-Command sub).has_globals ≡ false → (out-Command new).has_globals ≡ false
-sub_local old new sub h e g = h.globals ∙ ap₂ (λ x y. x || y) e g
+pub adds_local : (old new sub : Command) → AddsSubcommand old sub new → (out-Command old).has_globals ≡ false → (out-Command sub).has_globals ≡ false → (out-Command new).has_globals ≡ false
+adds_local old new sub h e g = h.globals ∙ ap₂ (λ x y. x || y) e g
 
 digits_pass : (ds : List ℕ) → AllDigits 10 ds → list_all (λ d. nat_lt (digit_value d) 10) ds ≡ true
 digits_pass [] h = refl

@@ -1,4 +1,8 @@
+pub mod AmongNames
 pub mod Builds
-pub mod Known
-pub mod Made
+pub mod Commands
+pub mod Entered
+pub mod Flags
 pub mod Profiles
+pub mod Told
+pub mod WrittenOut

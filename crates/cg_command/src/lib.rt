@@ -2,6 +2,10 @@
 #![tactic(auto)]
 
 mod command_line;
+mod help;
+pub mod rows;
+mod table_names;
+mod version;
 mod words;
 
 pub use words::{Command, UsageFault, parse_words};

@@ -1,9 +1,11 @@
 //! What the words of a command line ask for.
-ghost use Rattle.std.specs.Prelude.{◌≡◌, IfOk, IfErr, IfSome, is_some, string_bytes, true, map, []};
-ghost use Rattle.clap.specs.Words.{one_of, rows_of, found_of, takes, kind_of, subcommand_rows_of};
-ghost use Rattle.cg_command.specs.CommandLine.{cgfile_app, number_or, profile_of, name_in, IsCommand, is_known, is_plain_name, is_met, IsMadeFrom, IsMadeOf, Answers};
+ghost use Rattle.std.specs.Prelude.{◌≡◌, ◌⊎◌, IfOk, IfErr, IfSome, Some, codes, false, is_some, string_bytes, true, map, []};
+ghost use Rattle.clap.specs.Words.{one_of, rows_of, found_of, first_of, takes, fault_of, kind_of, matches_of, subcommand_of, subcommand_rows_of};
+ghost use Rattle.cg_command.specs.CommandLine.{cgfile_app};
+ghost use Rattle.cg_command.specs.Words.{Answers, IsCommand, IsMade, IsRefusal, IsTold, IsToldOf, is_met, is_plain_word, is_welcome, is_word, limits_of, name_in, number_or, number_of, profile_named, profile_of, wants_known};
 
 use crate::command_line::command_line;
+use crate::table_names::is_in_table;
 use cg_snap::Limits;
 use cg_value::Profile;
 use clap::ArgMatches;
@@ -33,7 +35,7 @@ pub enum Command {
 /// Why the words of a command line give no command.
 #[derive(Debug, Drop, Error)]
 pub enum UsageFault {
-    /// They ask for help: its text.
+    /// They ask for help, or for the version: the text.
     #[error("{0}")]
     Help(String),
     /// They are no command line of this program.
@@ -54,29 +56,54 @@ impl From<AllocError> for UsageFault {
     }
 }
 
-/// The bytes of NAME.
-fn name_given(alloc: Global, matches: &ArgMatches) -> Result<Vec<u8>, AllocError>
-    ensures { IfOk result (λ v. v.items ≡ name_in (rows_of (found_of matches.now))) }
+/// The bytes of NAME, which `clap` requires.
+fn name_given<'a>(matches: &ArgMatches<'a>) -> &'a [u8]
+    ensures { result.now ≡ name_in (rows_of (found_of matches.now)) }
 {
     match matches.get_str("NAME") {
-        Some(name) => Vec::from_slice(alloc, name.as_bytes()),
-        None => Ok(Vec::new(alloc)),
+        Some(name) => name.as_bytes(),
+        None => &[],
     }
+}
+
+/// Whether `--known` is used.
+fn wants_known(matches: &ArgMatches) -> bool
+    ensures { result ≡ wants_known (rows_of (found_of matches.now)) }
+{
+    match matches.get_one::<bool>("known") {
+        Some(known) => known,
+        None => false,
+    }
+}
+
+/// The bytes of NAME, if it may stand there: with `--known` only a name of the file table may.
+fn welcome_name(alloc: Global, matches: &ArgMatches) -> Result<Vec<u8>, UsageFault>
+    ensures name { IfOk result (λ v. (v.items ≡ name_in (rows_of (found_of matches.now)))
+        × (is_welcome (rows_of (found_of matches.now)) ≡ true)) }
+    ensures fault { IfErr result (λ e. (e ≡ UsageFault.OutOfMemory)
+        ⊎ ((e ≡ UsageFault.Bad) × (is_welcome (rows_of (found_of matches.now)) ≡ false))) }
+{
+    let name = name_given(matches);
+    if wants_known(matches) && !is_in_table(name) {
+        return Err(UsageFault::Bad);
+    }
+    Ok(Vec::from_slice(alloc, name)?)
 }
 
 /// The command of a subcommand and its matches.
 fn chosen(alloc: Global, name: &str, inner: &ArgMatches) -> Result<Command, UsageFault>
     ensures made { IfOk result (IsCommand name.now (rows_of (found_of inner.now))) }
-    ensures known { is_known name.now ≡ true → IfErr result (λ e. e ≡ UsageFault.OutOfMemory) }
+    ensures known { is_word name.now ≡ true
+        → IfErr result (IsRefusal (Some (name.now, rows_of (found_of inner.now)))) }
 {
     if name == "file" {
         return Ok(Command::File {
-            name: name_given(alloc, inner)?,
+            name: welcome_name(alloc, inner)?,
         });
     }
     if name == "setting" {
         return Ok(Command::Setting {
-            name: name_given(alloc, inner)?,
+            name: welcome_name(alloc, inner)?,
         });
     }
     plain_command(name).ok_or(UsageFault::Bad)
@@ -85,7 +112,7 @@ fn chosen(alloc: Global, name: &str, inner: &ArgMatches) -> Result<Command, Usag
 /// The command of a subcommand that names no file.
 fn plain_command(name: &str) -> Option<Command>
     ensures made { IfSome result (IsCommand name.now []) }
-    ensures known { is_plain_name name.now ≡ is_some result }
+    ensures known { is_plain_word name.now ≡ is_some result }
 {
     if name == "show" {
         Some(Command::Show)
@@ -102,7 +129,7 @@ fn plain_command(name: &str) -> Option<Command>
     }
 }
 
-/// The number of an option, and `given` where it has none.
+/// The number of an option, and `given` where it isn't used.
 fn number_at(matches: &ArgMatches, id: &str, given: u64) -> u64
     ensures { result ≡ number_or given (one_of id.now (rows_of (found_of matches.now))) }
 {
@@ -112,9 +139,29 @@ fn number_at(matches: &ArgMatches, id: &str, given: u64) -> u64
     }
 }
 
-/// The profile of the option `--profile`.
-fn profile_given(matches: &ArgMatches) -> Profile
-    ensures { result ≡ profile_of (rows_of (found_of matches.now)) }
+/// The number of an option that stands after the command's word, or before it; else `given`.
+fn number_among(before: &ArgMatches, after: &ArgMatches, id: &str, given: u64) -> u64
+    ensures { result ≡ number_of given id.now
+        (rows_of (found_of before.now)) (rows_of (found_of after.now)) }
+{
+    number_at(after, id, number_at(before, id, given))
+}
+
+/// The limits of the options before the command's word and after it.
+fn limits_among(before: &ArgMatches, after: &ArgMatches) -> Limits
+    ensures { result ≡ limits_of (rows_of (found_of before.now)) (rows_of (found_of after.now)) }
+{
+    let default = Limits::DEFAULT;
+    Limits {
+        max_record: number_among(before, after, "max-record", default.max_record),
+        max_lines: number_among(before, after, "max-lines", default.max_lines),
+        max_stream: number_among(before, after, "max-stream", default.max_stream),
+    }
+}
+
+/// The profile of the option `--profile`, and `given` where it isn't used.
+fn profile_at(matches: &ArgMatches, given: Profile) -> Profile
+    ensures { result ≡ profile_named given (first_of (codes "profile") (rows_of (found_of matches.now))) }
 {
     match matches.get_str("profile") {
         Some(name) => {
@@ -124,17 +171,18 @@ fn profile_given(matches: &ArgMatches) -> Profile
                 Profile::One
             }
         }
-        None => Profile::One,
+        None => given,
     }
 }
 
 /// What `clap` refused, as a fault of usage.
 fn refused(alloc: Global, error: clap::Error) -> UsageFault
-    ensures { kind_of error ≡ ErrorKind.OutOfMemory → result ≡ UsageFault.OutOfMemory }
+    ensures memory { kind_of error ≡ ErrorKind.OutOfMemory → result ≡ UsageFault.OutOfMemory }
+    ensures told { IsToldOf (kind_of error) result }
 {
     match error.kind() {
         ErrorKind::OutOfMemory => UsageFault::OutOfMemory,
-        ErrorKind::DisplayHelp => match error.to_string(alloc) {
+        ErrorKind::DisplayHelp | ErrorKind::DisplayVersion => match error.to_string(alloc) {
             Ok(text) => UsageFault::Help(text),
             Err(_) => UsageFault::OutOfMemory,
         },
@@ -145,19 +193,15 @@ fn refused(alloc: Global, error: clap::Error) -> UsageFault
 /// What the matches of a command line ask for.
 fn made(alloc: Global, matches: &ArgMatches) -> Result<(Profile, Command, Limits), UsageFault>
     ensures made { IfOk result
-        (IsMadeFrom (rows_of (found_of matches.now)) (subcommand_rows_of matches.now)) }
+        (IsMade (rows_of (found_of matches.now)) (subcommand_rows_of matches.now)) }
     ensures known { is_met (subcommand_rows_of matches.now) ≡ true
-        → IfErr result (λ e. e ≡ UsageFault.OutOfMemory) }
+        → IfErr result (IsRefusal (subcommand_rows_of matches.now)) }
 {
-    let limits = Limits {
-        max_record: number_at(matches, "max-record", 1048576),
-        max_lines: number_at(matches, "max-lines", 1000000),
-        max_stream: number_at(matches, "max-stream", 1073741824),
-    };
-    let profile = profile_given(matches);
     let Some((name, inner)) = matches.subcommand() else {
         return Err(UsageFault::Bad);
     };
+    let limits = limits_among(matches, inner);
+    let profile = profile_at(inner, profile_at(matches, Profile::One));
     Ok((profile, chosen(alloc, name, inner)?, limits))
 }
 
@@ -168,9 +212,16 @@ fn parse_named<'a>(
     words: &'a [String],
 ) -> Result<(Profile, Command, Limits), UsageFault>
     ensures made { IfOk result
-        (IsMadeOf profiles.entry (map (λ w. string_bytes w) words.entry.now)) }
-    ensures only_memory { takes (cgfile_app profiles.entry) (map (λ w. string_bytes w) words.entry.now) ≡ true
-        → IfErr result (λ e. e ≡ UsageFault.OutOfMemory) }
+        (IsMade (matches_of (cgfile_app profiles.entry) (map (λ w. string_bytes w) words.entry.now))
+        (subcommand_of (cgfile_app profiles.entry) (map (λ w. string_bytes w) words.entry.now))) }
+    ensures right { IfOk result (λ _.
+        fault_of (cgfile_app profiles.entry) (map (λ w. string_bytes w) words.entry.now) ≡ []) }
+    ensures told { IfErr result
+        (IsTold (fault_of (cgfile_app profiles.entry) (map (λ w. string_bytes w) words.entry.now))
+        (subcommand_of (cgfile_app profiles.entry) (map (λ w. string_bytes w) words.entry.now))) }
+    ensures taken { takes (cgfile_app profiles.entry) (map (λ w. string_bytes w) words.entry.now) ≡ true
+        → IfErr result (IsRefusal
+        (subcommand_of (cgfile_app profiles.entry) (map (λ w. string_bytes w) words.entry.now))) }
 {
     let command = command_line(alloc, profiles)?;
     match command.try_get_matches_from(words) {
@@ -181,8 +232,9 @@ fn parse_named<'a>(
 
 /// Reads the words that follow the program's name.
 ///
-/// `Help` has the help text, where they ask for it; `Bad` is answered where they are no command
-/// line of this program.
+/// `Help` has the text that is to be printed, where they ask for help or for the version; `Bad` is
+/// answered where they are no command line of this program, or `--known` goes with a name that the
+/// file table doesn't have.
 pub fn parse_words(
     alloc: Global,
     words: &[String],

@@ -90,7 +90,7 @@ module _ (profile : Profile) (name : List ℕ) (kind : ReadForm) (is : read_form
   same_kind k e = cc
 
   -- The files of the kind are those of the name.
-  kind_files : (text : List ℕ) → KindFile kind text ↔ File profile name text
+  pub kind_files : (text : List ℕ) → KindFile kind text ↔ File profile name text
   kind_files text = (
     λ h. (h.0, record { kind = kind; kind_is = is; spelled = h.1 }),
     λ h. (h.0, (let e = same_kind h.1.kind h.1.kind_is in rw e at h.1.spelled)),

@@ -79,7 +79,7 @@ last_same (x ∷ front) [] b c e = absurd (not_empty front b (cc))
 last_same (x ∷ front) (y ∷ other) b c e = last_same front other b c (cc)
 
 -- Lines end with a newline.
-lines_last : (lines : List (List ℕ)) → (unlines lines ≡ []) ⊎ ((front : List ℕ) × (unlines lines ≡ front ++ 10 ∷ []))
+pub lines_last : (lines : List (List ℕ)) → (unlines lines ≡ []) ⊎ ((front : List ℕ) × (unlines lines ≡ front ++ 10 ∷ []))
 lines_last [] = inl refl
 lines_last (line ∷ lines) = elim (lines_last lines) [
   | inl e ↦ inr (line, ap (λ t. line ++ 10 ∷ t) e)

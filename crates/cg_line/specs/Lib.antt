@@ -4,6 +4,7 @@ pub mod DecodeLaws
 pub mod DecodeWrite
 pub mod DecodeWriteLaws
 pub mod HeldLaws
+pub mod MadeLaws
 pub mod Place
 pub mod PlaceLaws
 pub mod Reads
@@ -12,5 +13,8 @@ pub mod Rests
 pub mod RestsLaws
 pub mod Runs
 pub mod RunsLaws
+pub mod SplitLaws
 pub mod Takes
 pub mod TakesLaws
+pub mod Upgrading
+pub mod UpgradingLaws

@@ -1,4 +1,4 @@
-//! Readers of one file and of one write, which take its text a byte at a time.
+//! Readers of one file and of one write, which take its text a byte at a time; and entries of one profile read in the other.
 #![tactic(auto)]
 
 pub mod decode;
@@ -7,9 +7,11 @@ pub mod place;
 pub mod push;
 pub mod reader;
 pub mod setting_reader;
+pub mod upgrading;
 
 pub use decode::{FileFault, decode_file};
 pub use decode_write::{SettingFault, decode_setting};
 pub use push::PushFault;
 pub use reader::{PushedRun, ReaderCut, ValueReader};
 pub use setting_reader::{SettingCut, SettingReader};
+pub use upgrading::{UpgradeFault, upgrade};

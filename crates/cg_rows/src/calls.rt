@@ -152,10 +152,6 @@ fn commands_that_are_not_built(rt: HostRuntime) {
     let unread = Some(Outcome::NotReadable);
     assert_eq!(rt; ended(rt.alloc(), &Command::Json), unread);
     assert_eq!(rt; ended(rt.alloc(), &Command::Check), unread);
-    assert_eq!(rt;
-        ended(rt.alloc(), &Command::Plan),
-        Some(Outcome::NotWritable)
-    );
 }
 
 /// The value of a whole text, if it is the token's.

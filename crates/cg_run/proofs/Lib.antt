@@ -1,5 +1,7 @@
 pub mod KindsLemmas
 pub mod RunLemmas
+pub mod Parts
+pub mod Planning
 pub mod Showing
 pub mod Stops
 pub mod Streams

@@ -2,6 +2,7 @@ pub mod Ended
 pub mod Input
 pub mod Kinds
 pub mod Outcome
+pub mod Planned
 pub mod Reading
 pub mod Run
 pub mod Shown

@@ -3,7 +3,7 @@ use Rattle.std.specs.Prelude.{◌≡◌, ℕ, ◌+◌, ◌<◌, ◌≤◌, ◌�
 use Rattle.std.specs.Io.KnownBytes.{Appends, Consumes}
 use Rattle.cg_text.specs.Texts.{TextOf}
 use Rattle.cg_text.specs.Token.{told}
-use Rattle.cg_value.specs.Entry.{EntryData}
+use Rattle.cg_value.specs.Entry.{EntryData, ItemData}
 use Rattle.cg_value.specs.Files.{KindText}
 use Rattle.cg_value.specs.Print.{print_of, print_setting_of}
 use Rattle.cg_value.specs.Settings.{WriteText}
@@ -12,6 +12,8 @@ use Rattle.cg_value.specs.declared.kind.ReadForm.{ReadForm}
 use Rattle.cg_value.specs.declared.kind.WriteForm.{WriteForm}
 use Rattle.cg_value.specs.declared.profile.Profile.{Profile}
 use Rattle.cg_snap.specs.Closed.{Closed}
+use Rattle.cg_snap.specs.Plan.{ClosedPlan, PlanText}
+use Rattle.cg_snap.specs.PlanStop.{IsPlanUnstopped, PlanStopOf}
 use Rattle.cg_snap.specs.Snap.{SnapText}
 use Rattle.cg_snap.specs.SnapStop.{IsSnapUnstopped, SnapStopOf}
 use Rattle.cg_snap.specs.Stop.{IsTextUnstopped, TextStopOf}
@@ -21,7 +23,7 @@ use Rattle.cg_snap.specs.declared.stop.Stop.TheVariants as stop
 use Rattle.cg_run.specs.Input.{Reading, IsEnded}
 use Rattle.cg_run.specs.Kinds.{kinds_lines}
 use Rattle.cg_run.specs.Outcome.{last_line}
-use Rattle.cg_run.specs.Stream.{IsStreamRight, PartsOf, shown_part}
+use Rattle.cg_run.specs.Stream.{IsStreamRight, PartsOf, item_part, shown_part}
 use Rattle.cg_run.specs.declared.outcome.Outcome.{Outcome}
 use Rattle.cg_run.specs.declared.outcome.Outcome.TheVariants as out
 use Rattle.cg_command.specs.declared.words.Command.{Command}
@@ -116,10 +118,11 @@ IsSnapshotRight part profile limits = IsStreamRight
     (PartsOf part (λ bytes es. SnapText profile es bytes)) (PartsOf part (λ bytes es. Closed profile bytes es))
     (IsSnapUnstopped profile limits) (SnapStopOf profile limits)
 
--- The outcome of a command that isn't built yet: there is nothing that it could read or write.
-abbrev pub unbuilt : Command → Outcome
-unbuilt command.Plan = out.NotWritable
-unbuilt c = out.NotReadable
+-- A plan: a part for each item, once its record has ended.
+abbrev pub IsPlanRight : (ItemData → List ℕ) → Profile → Limits → Reading → Outcome → List (List ℕ) → Type 0
+IsPlanRight part profile limits = IsStreamRight
+    (PartsOf part (λ bytes items. PlanText profile items bytes)) (PartsOf part (λ bytes items. ClosedPlan profile bytes items))
+    (IsPlanUnstopped profile limits) (PlanStopOf profile limits)
 
 -- The outcome that is right for what was read, with the parts that are written before the last line.
 abbrev pub IsRight : Profile → Command → Limits → Reading → Outcome → List (List ℕ) → Type 0
@@ -127,7 +130,8 @@ IsRight profile (command.File name) limits r o parts = IsFileRight (read_form_of
 IsRight profile (command.Setting name) limits r o parts = IsWriteRight (write_form_of profile name.items) limits.max_stream r o parts
 IsRight profile command.Kinds limits r o parts = IsListRight profile r o parts
 IsRight profile command.Show limits r o parts = IsSnapshotRight shown_part profile limits r o parts
-IsRight profile c limits r o parts = IsIdleRight (unbuilt c) r o parts
+IsRight profile command.Plan limits r o parts = IsPlanRight item_part profile limits r o parts
+IsRight profile c limits r o parts = IsIdleRight out.NotReadable r o parts
 
 abbrev pub joined : List (List ℕ) → List ℕ
 joined [] = []
@@ -164,4 +168,5 @@ abbrev pub IsIdle : Profile → Command → Type 0
 IsIdle profile (command.File name) = read_form_of profile name.items ≡ None
 IsIdle profile (command.Setting name) = write_form_of profile name.items ≡ None
 IsIdle profile command.Show = ⊥
+IsIdle profile command.Plan = ⊥
 IsIdle profile c = Unit {0}

@@ -1,7 +1,7 @@
 -- What a run over a stream writes: parts, one for each entry or item of the stream, each as soon as the bytes close it.
-use Rattle.std.specs.Prelude.{◌≡◌, ◌≢◌, ℕ, ◌+◌, ◌<◌, ◌≤◌, ◌⊎◌, true, List, [], ◌++◌, length, map, take}
-use Rattle.cg_value.specs.Entry.{EntryData}
-use Rattle.cg_value.specs.Print.{print_lines}
+use Rattle.std.specs.Prelude.{◌≡◌, ◌≢◌, ℕ, ◌+◌, ◌<◌, ◌≤◌, ◌⊎◌, true, List, [], ◌∷◌, ◌++◌, length, map, take}
+use Rattle.cg_value.specs.Entry.{EntryData, ItemData}
+use Rattle.cg_value.specs.Print.{print_lines, print_setting_of}
 use Rattle.cg_print.specs.Headed.{shown}
 use Rattle.cg_snap.specs.Stop.{place_of}
 use Rattle.cg_snap.specs.declared.stop.Stop.{Stop}
@@ -13,6 +13,10 @@ use Rattle.cg_run.specs.declared.outcome.Outcome.TheVariants as out
 -- The part of an entry that is shown.
 abbrev pub shown_part : EntryData → List ℕ
 shown_part e = shown e.path (print_lines e.value)
+
+-- The part of an item that is printed: its record in a plan, with the canonical line.
+abbrev pub item_part : ItemData → List ℕ
+item_part item = item.path ++ 0 ∷ print_setting_of item.setting
 
 -- The parts of the entries or items that some bytes have by a relation.
 abbrev pub PartsOf : {E : Type 0} → (E → List ℕ) → (List ℕ → List E → Type 0) → List ℕ → List (List ℕ) → Type 0

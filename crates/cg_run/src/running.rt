@@ -7,9 +7,10 @@ ghost use Rattle.cg_run.specs.Ended.{HasEnded};
 use crate::kinds::told_kinds;
 use crate::line::last_line_of;
 use crate::outcome::Outcome;
+use crate::planned::PlannedReader;
 use crate::reading::{Ending, read_all};
+use crate::shown::ShownReader;
 use crate::source::Source;
-use crate::stream_reader::ShownReader;
 use crate::streaming::run_stream;
 use crate::text_reader::TextReader;
 use crate::told::{told, told_line};
@@ -152,7 +153,14 @@ pub fn run<R: Source, W: Sink>(
             run_setting(alloc, profile, name.as_slice(), reader, writer, max)
         }
         Command::Kinds => told_kinds(profile, writer),
-        Command::Plan => told_line(writer, Outcome::NotWritable),
+        Command::Plan => {
+            run_stream(
+                PlannedReader::new(alloc, profile, limits),
+                reader,
+                writer,
+                max,
+            )
+        }
         Command::Show => {
             run_stream(
                 ShownReader::new(alloc, profile, limits),

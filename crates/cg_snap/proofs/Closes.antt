@@ -8,7 +8,8 @@ use Rattle.cg_value.specs.Entry.{EntryData, IsPath}
 use Rattle.cg_value.specs.PathLaws.{path_lacks_newline}
 use Rattle.cg_value.specs.Records.{records}
 use Rattle.cg_value.specs.declared.profile.Profile.{Profile}
-use Rattle.cg_snap.specs.Closed.{Closed, EndsOther, IsBegun, IsRecordEnd}
+use Rattle.cg_snap.specs.Closed.{Closed, EndsOther}
+use Rattle.cg_snap.specs.Begun.{IsBegun, IsRecordEnd}
 use Rattle.cg_snap.specs.DecoderState.{AtLine, AtPath, AtStart}
 use Rattle.cg_snap.specs.Snap.{SnapText}
 use Rattle.cg_snap.specs.declared.present.Present.{Present}

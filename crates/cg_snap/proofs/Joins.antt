@@ -6,12 +6,12 @@ use Rattle.cg_text.specs.Texts.{Lacks}
 use Rattle.cg_value.specs.Entry.{EntryData, IsPath, ReadsAt}
 use Rattle.cg_value.specs.EntryLaws.{entry_path}
 use Rattle.cg_value.specs.Files.{ReadLines}
-use Rattle.cg_value.specs.Lines.{unlines}
 use Rattle.cg_value.specs.PathLaws.{path_lacks_nul}
 use Rattle.cg_value.specs.Records.{records}
 use Rattle.cg_value.specs.declared.kind.ReadForm.{ReadForm}
 use Rattle.cg_value.specs.declared.profile.Profile.{Profile}
 use Rattle.cg_file.specs.WeightFileLaws.{not_empty}
+pub use Rattle.cg_line.specs.SplitLaws.{lines_first, one_lines, unlines-append, unlines-push}
 use Rattle.cg_snap.specs.Closed.{EndsOther}
 use Rattle.cg_snap.specs.Snap.{AreEntryLines, SnapText, StartsOther}
 use Rattle.cg_snap.specs.SnapLaws.{NotOf, cut, entry_starts, first_path, heads, lines_plain, not_of, one_form, record_then, records_first, rest_not_of}
@@ -21,35 +21,6 @@ use Rattle.cg_snap.specs.SnapLaws.{NotOf, cut, entry_starts, first_path, heads, 
 pub records-append : (q : List ℕ) (ls ms : List (List ℕ)) → records q (ls ++ ms) ≡ records q ls ++ records q ms
 records-append q [] ms = refl
 records-append q (l ∷ ls) ms = ap (λ (t : List ℕ). q ++ 0 ∷ (l ++ 10 ∷ t)) (records-append q ls ms) ∙ sym (record_then q l (records q ls) (records q ms))
-
-pub unlines-append : (ls ms : List (List ℕ)) → unlines (ls ++ ms) ≡ unlines ls ++ unlines ms
-unlines-append [] ms = refl
-unlines-append (l ∷ ls) ms = ap (λ (t : List ℕ). l ++ 10 ∷ t) (unlines-append ls ms) ∙ sym (append_assoc l (10 ∷ unlines ls) (unlines ms))
-
-pub unlines-push : (ls : List (List ℕ)) (l : List ℕ) → unlines (ls ++ l ∷ []) ≡ unlines ls ++ (l ++ 10 ∷ [])
-unlines-push [] l = refl
-unlines-push (m ∷ ls) l = ap (λ (t : List ℕ). m ++ 10 ∷ t) (unlines-push ls l) ∙ sym (append_assoc m (10 ∷ unlines ls) (l ++ 10 ∷ []))
-
--- Whole lines at the front of a text of lines are its first lines.
-pub lines_first : (ks ls : List (List ℕ)) (x : List ℕ) → AllByRecursion (Lacks 10) ks → AllByRecursion (Lacks 10) ls → unlines ks ++ x ≡ unlines ls → (ms : List (List ℕ)) × (ls ≡ ks ++ ms) × (x ≡ unlines ms)
-lines_first [] ls x p q e = (ls, refl, e)
-lines_first (k ∷ ks) [] x p q e = absurd (not_empty k (unlines ks ++ x) 10 (sym (append_assoc k (10 ∷ unlines ks) x) ∙ e))
-lines_first (k ∷ ks) (l ∷ ls) x p q e =
-    let c = cut 10 k l (unlines ks ++ x) (unlines ls) p.0 q.0 (sym (append_assoc k (10 ∷ unlines ks) x) ∙ e) in
-    let r = lines_first ks ls x p.1 q.1 c.1 in
-    let line = c.0 in
-    let lines = r.1 in
-    (r.0, cc, r.2)
-
-unlines_none : (ms : List (List ℕ)) → [] ≡ unlines ms → ms ≡ []
-unlines_none [] e = refl
-unlines_none (m ∷ ms) e = absurd (not_empty m (unlines ms) 10 (sym e))
-
--- A text has one list of lines.
-pub one_lines : (ks ls : List (List ℕ)) → AllByRecursion (Lacks 10) ks → AllByRecursion (Lacks 10) ls → unlines ks ≡ unlines ls → ls ≡ ks
-one_lines ks ls p q e =
-    let r = lines_first ks ls [] p q (append-nil (unlines ks) ∙ e) in
-    r.1 ∙ ap (λ ms. ks ++ ms) (unlines_none r.0 r.2) ∙ append-nil ks
 
 -- ---- Entries after entries
 

@@ -4,8 +4,9 @@ use Rattle.cg_text.specs.Token.{told}
 use Rattle.cg_value.specs.Entry.{EntryData, IsPath}
 use Rattle.cg_value.specs.Records.{records}
 use Rattle.cg_value.specs.declared.profile.Profile.{Profile}
-use Rattle.cg_snap.specs.Decoder.{ManyIs}
+use Rattle.cg_snap.specs.Course.{FullIs}
 use Rattle.cg_snap.specs.DecoderState.{At, AtPath, AtPaths, AtStart, IsBetween, IsLineCount, IsLineFlag}
+use Rattle.cg_snap.specs.Snap.{Snap}
 use Rattle.cg_snap.specs.SnapStop.{IsManyRecords}
 use Rattle.cg_snap.specs.declared.present.Present.{Present}
 use Rattle.cg_snap.proofs.Closes.{line_begun}
@@ -68,7 +69,7 @@ module _ (profile : Profile) where
       ]
 
   -- A NUL that ends a path, by the count.
-  pub full_is : (begun : List ℕ) (o : Option Present) (p : List ℕ) (es : List EntryData) (m max : ℕ) (b : Bool) → max ≤ 18446744073709551615 → IsBetween o → At profile begun o p es → IsLineCount begun o m → (b ≡ true → max ≤ m) → (b ≡ false → m < max) → ManyIs profile max p b
+  pub full_is : (begun : List ℕ) (o : Option Present) (p : List ℕ) (es : List EntryData) (m max : ℕ) (b : Bool) → max ≤ 18446744073709551615 → IsBetween o → At profile begun o p es → IsLineCount begun o m → (b ≡ true → max ≤ m) → (b ≡ false → m < max) → FullIs (Snap profile) (IsManyRecords profile) max p 0 b
   full_is begun o p es m max true u i h c s f = λ v.
       let a = between profile begun o p es i h in
       let n = before_nul begun o p es m a c (paths_nul profile begun o p es a v).0 in

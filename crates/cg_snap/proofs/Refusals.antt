@@ -55,20 +55,34 @@ file_of : (kind : ReadForm) (v : Value) (ls : List (List ℕ)) → ReadLines kin
 file_of kind v ls s = (v, record { lines = ls; spelled = s; text_is = refl })
 
 -- The byte goes on from a line.
-byte_in : (kind : ReadForm) (u line m y rest : List ℕ) (b : ℕ) (z : List ℕ) → Lacks 10 line → Lacks 10 m → KindFile kind (u ++ (m ++ 10 ∷ y)) → line ++ b ∷ rest ≡ m ++ 10 ∷ z → Viable (KindFile kind) ((u ++ line) ++ b ∷ [])
-byte_in kind u line m y rest b z p q f e =
+pub byte_in : (L : List ℕ → Type 0) (u line m y rest : List ℕ) (b : ℕ) (z : List ℕ) → Lacks 10 line → Lacks 10 m → L (u ++ (m ++ 10 ∷ y)) → line ++ b ∷ rest ≡ m ++ 10 ∷ z → Viable L ((u ++ line) ++ b ∷ [])
+byte_in L u line m y rest b z p q f e =
     elim (cases_eq b 10) [
       | inl t ↦
           let c = cut 10 line m rest z p q (subst (λ (d : ℕ). line ++ d ∷ rest ≡ m ++ 10 ∷ z) t e) in
-          record { rest = y; whole = subst (KindFile kind) (ends_text u line m y b t c.0) f }
+          record { rest = y; whole = subst L (ends_text u line m y b t c.0) f }
       | inr n ↦
           let d = before 10 line m rest z b p n e in
-          record { rest = d.0 ++ 10 ∷ y; whole = subst (KindFile kind) (goes_text u line m y d.0 b d.1) f }
+          record { rest = d.0 ++ 10 ∷ y; whole = subst L (goes_text u line m y d.0 b d.1) f }
     ]
 
 byte_inside : (xs : List ℕ) (b : ℕ) (ys : List ℕ) → All IsPathByte (xs ++ b ∷ ys) → IsPathByte b
 byte_inside [] b ys all = all 0 0 (omega arith)
 byte_inside (x ∷ xs) b ys all = byte_inside xs b ys (λ k d h. all (suc k) d (omega (arith, h)))
+
+-- After the front of a path comes a byte of the path, or the NUL.
+pub path_byte_in : (path begun rest more : List ℕ) (b : ℕ) → IsPath path → ArePathBytes begun → begun ++ b ∷ rest ≡ path ++ 0 ∷ more → (b ≡ 0) ⊎ IsPathByte b
+path_byte_in path begun rest more b good p e =
+    elim (cases_eq b 0) [
+      | inl z ↦ inl z
+      | inr n ↦
+          let d = before 0 begun path rest more b (bytes_no_nul begun p) n e in
+          inr (byte_inside begun b d.0 (subst (λ (q : List ℕ). All IsPathByte q) d.1 good.bytes))
+    ]
+
+-- Where it is a NUL, the path is whole.
+pub path_nul_in : (path begun rest more : List ℕ) → IsPath path → ArePathBytes begun → begun ++ 0 ∷ rest ≡ path ++ 0 ∷ more → begun ≡ path
+path_nul_in path begun rest more good p e = (cut 0 begun path rest more (bytes_no_nul begun p) (path_lacks_nul path good) e).0
 
 module _ (profile : Profile) where
   pub snap_head : (fs : List EntryData) (t : List ℕ) → SnapText profile fs t → t ≢ [] → Head profile t
@@ -86,19 +100,13 @@ module _ (profile : Profile) where
 
   -- After the front of a path comes a byte of a path, or the NUL.
   pub head_byte : (begun rest : List ℕ) (b : ℕ) → ArePathBytes begun → Head profile (begun ++ b ∷ rest) → (b ≡ 0) ⊎ IsPathByte b
-  head_byte begun rest b p h =
-      elim (cases_eq b 0) [
-        | inl e ↦ inl e
-        | inr n ↦
-            let d = before 0 begun h.path rest h.rest b (bytes_no_nul begun p) n h.text_is in
-            inr (byte_inside begun b d.0 (subst (λ (path : List ℕ). All IsPathByte path) d.1 h.good.bytes))
-      ]
+  head_byte begun rest b p h = path_byte_in h.path begun rest h.rest b h.good p h.text_is
 
   -- Where it is a NUL, the path can be read.
   pub head_nul : (begun rest : List ℕ) → ArePathBytes begun → Head profile (begun ++ 0 ∷ rest) → IsPath begun × ((k : ReadForm) × ReadsAt profile begun (Some k))
   head_nul begun rest p h =
-      let c = cut 0 begun h.path rest h.rest (bytes_no_nul begun p) (path_lacks_nul h.path h.good) h.text_is in
-      (subst IsPath (sym c.0) h.good, (h.kind, subst (λ (path : List ℕ). ReadsAt profile path (Some h.kind)) (sym c.0) h.reads_at))
+      let same : begun ≡ h.path = path_nul_in h.path begun rest h.rest h.good p h.text_is in
+      (subst IsPath (sym same) h.good, (h.kind, subst (λ (path : List ℕ). ReadsAt profile path (Some h.kind)) (sym same) h.reads_at))
 
   pub path_inner : (begun : List ℕ) (x : Present) (p : List ℕ) (es fs : List EntryData) (rest : List ℕ) (h : AtPath profile begun x p es) → SnapText profile fs (p ++ rest) → Inner profile es fs x.path.items h.kind h.lines (begun ++ rest)
   path_inner begun x p es fs rest h g =
@@ -145,7 +153,7 @@ module _ (profile : Profile) where
   line_in q k ls (m ∷ ms) gs w v line rest b p o h l a f e =
       let nul = path_lacks_nul q p in
       let c = cut 0 q q (line ++ b ∷ rest) (m ++ 10 ∷ (records q ms ++ w)) nul nul (e ∙ record_then q m (records q ms) w) in
-      byte_in k (unlines ls) line m (unlines ms) rest b (records q ms ++ w) l a.0 (subst (KindFile k) (unlines-append ls (m ∷ ms)) (file_of k v (ls ++ m ∷ ms) f)) c.1
+      byte_in (KindFile k) (unlines ls) line m (unlines ms) rest b (records q ms ++ w) l a.0 (subst (KindFile k) (unlines-append ls (m ∷ ms)) (file_of k v (ls ++ m ∷ ms) f)) c.1
 
   -- Where a byte of a line goes on, a file of the kind does.
   pub line_takes : (begun : List ℕ) (x : Present) (p : List ℕ) (es : List EntryData) (b : ℕ) (h : AtLine profile begun x p es) → Next (Snap profile) p b → Next (KindFile h.kind) (unlines h.lines ++ h.line) b

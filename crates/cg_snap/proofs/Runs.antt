@@ -1,5 +1,5 @@
 -- Runs of bytes.
-use Rattle.std.proofs.Common.{◌≡◌, ℕ, suc, zero, ◌<◌, ◌≤◌, List, [], ◌∷◌, ◌++◌, take, length, ap, ◌∙◌, arith, inl, inr, ◌⊎◌, Option, Some, None, Bool, true, false}
+use Rattle.std.proofs.Common.{◌≡◌, ℕ, suc, zero, ◌<◌, ◌≤◌, List, [], ◌∷◌, ◌++◌, take, length, ap, ◌∙◌, append_assoc, arith, inl, inr, ◌⊎◌, Option, Some, None, Bool, true, false}
 use Rattle.std.specs.Bool.{MatchBool}
 use Rattle.std.specs.Prelude.{slice_index, ◌==◌}
 use Rattle.std.proofs.lemmas.Bool.{eq-eqb}
@@ -7,11 +7,16 @@ use Rattle.std.proofs.lemmas.List.{length-take, take-take}
 use Rattle.cg_text.specs.Texts.{Lacks}
 use Rattle.cg_value.specs.Entry.{EntryData}
 use Rattle.cg_value.specs.declared.profile.Profile.{Profile}
-use Rattle.cg_snap.specs.Closed.{IsBegun}
+use Rattle.cg_snap.specs.Begun.{IsBegun}
 use Rattle.cg_snap.specs.ClosedLaws.{begun_once}
 use Rattle.cg_snap.specs.DecoderState.{ArePathBytes, At, AtLine, AtPath, IsRun}
 use Rattle.cg_snap.specs.declared.present.Present.{Present}
+use Rattle.cg_snap.specs.Course.{AreFew}
+use Rattle.cg_snap.specs.SnapStop.{IsManyRecords}
+use Rattle.cg_snap.proofs.Begins.{begun_push}
 use Rattle.cg_snap.proofs.Closes.{line_begun}
+use Rattle.cg_snap.proofs.Places.{not_many, not_many_line}
+use Rattle.cg_snap.proofs.States.{at_begun}
 use Rattle.cg_snap.proofs.Steps.{bytes_no_newline, bytes_no_nul}
 
 pub lacks_take : (n : ℕ) (bytes : List ℕ) → Lacks 10 bytes → Lacks 10 (take n bytes)
@@ -33,14 +38,37 @@ take_front used n piece front e le =
     (ap (λ (t : List ℕ). take used t) e ∙ same, same)
 
 -- Why a run has no NUL that ends a path.
-abbrev pub RunWhy : List ℕ → List ℕ → Type 0
+abbrev RunWhy : List ℕ → List ℕ → Type 0
 RunWhy r q = Lacks 10 q × (Lacks 0 q ⊎ ((path : List ℕ) × (line : List ℕ) × (r ≡ path ++ 0 ∷ line)))
 
+longer_line : (r path line : List ℕ) (b : ℕ) → r ≡ path ++ 0 ∷ line → r ++ b ∷ [] ≡ path ++ 0 ∷ (line ++ b ∷ [])
+longer_line r path line b e = ap (λ (t : List ℕ). t ++ b ∷ []) e ∙ append_assoc path (0 ∷ line) (b ∷ [])
+
 module _ (profile : Profile) where
+  few_run : (p r q : List ℕ) → IsBegun p r → RunWhy r q → AreFew (IsManyRecords profile) p q
+  few_run p r [] h why = tt
+  few_run p r (b ∷ q) h why = (
+    λ max. elim why.1 [ inl w ↦ not_many profile p r b max (length p) h w.0 | inr w ↦ not_many_line profile p r w.0 w.1 b max (length p) h w.2 ],
+    few_run (p ++ b ∷ []) (r ++ b ∷ []) q (begun_push p r b why.0.0 h) (why.0.1, elim why.1 [ inl w ↦ inl w.1 | inr w ↦ inr (w.0, w.1 ++ b ∷ [], longer_line r w.0 w.1 b w.2) ]),
+  )
+
   run_flag : (begun : List ℕ) (x : Present) (p r q : List ℕ) (es : List EntryData) (b : Bool) → MatchBool b (AtLine profile begun x p es) (AtPath profile begun x p es) → IsBegun p r → MatchBool b (Lacks 10 q) (ArePathBytes q) → RunWhy r q
   run_flag begun x p r q es true h g n = (n, inr (x.path.items, h.line, begun_once p r (x.path.items ++ 0 ∷ h.line) g (line_begun profile begun x p es h)))
   run_flag begun x p r q es false h g n = (bytes_no_newline q n, inl (bytes_no_nul q n))
 
-  pub run_why : (begun : List ℕ) (o : Option Present) (p r q : List ℕ) (es : List EntryData) → At profile begun o p es → IsBegun p r → IsRun o q → RunWhy r q
+  run_why : (begun : List ℕ) (o : Option Present) (p r q : List ℕ) (es : List EntryData) → At profile begun o p es → IsBegun p r → IsRun o q → RunWhy r q
   run_why begun None p r q es h g n = (bytes_no_newline q n, inl (bytes_no_nul q n))
   run_why begun (Some x) p r q es h g n = run_flag begun x p r q es x.in_line h g n
+
+  -- A run has no NUL that ends a path.
+  pub run_few : (begun : List ℕ) (o : Option Present) (p q : List ℕ) (es : List EntryData) → At profile begun o p es → IsRun o q → AreFew (IsManyRecords profile) p q
+  run_few begun o p q es h n = let g = at_begun profile begun o p es h in few_run p g.0 q g.1 (run_why begun o p g.0 q es h g.1 n)
+
+plain_flag : (x : Present) (q : List ℕ) (b : Bool) → MatchBool b (Lacks 10 q) (ArePathBytes q) → Lacks 10 q
+plain_flag x q true n = n
+plain_flag x q false n = bytes_no_newline q n
+
+-- Nor a newline.
+pub run_plain : (o : Option Present) (q : List ℕ) → IsRun o q → Lacks 10 q
+run_plain None q n = bytes_no_newline q n
+run_plain (Some x) q n = plain_flag x q x.in_line n

@@ -8,16 +8,16 @@ use Rattle.cg_text.specs.Token.{told}
 use Rattle.cg_value.specs.Entry.{EntryData, IsPath, IsPathByte, ReadsAt}
 use Rattle.cg_value.specs.Files.{KindFile}
 use Rattle.cg_value.specs.Lines.{unlines}
-use Rattle.cg_value.specs.Table.{read_form_of}
 use Rattle.cg_value.specs.declared.kind.ReadForm.{ReadForm}
 use Rattle.cg_value.specs.declared.profile.Profile.{Profile}
 use Rattle.cg_file.specs.WeightFileLaws.{not_empty}
+use Rattle.cg_line.specs.MadeLaws.{reads_once}
 use Rattle.cg_line.specs.Place.{AtLineStart, TakesLine}
 use Rattle.cg_line.specs.Reads.{Reads}
-use Rattle.cg_snap.specs.Closed.{Closed, IsBegun}
+use Rattle.cg_snap.specs.Closed.{Closed}
+use Rattle.cg_snap.specs.Begun.{IsBegun}
 use Rattle.cg_snap.specs.DecoderState.{ArePathBytes, AtLine, AtPath, AtPaths, AtStart, At, CanEndLine, IsBetween, IsLineFlag, IsOfKind, IsWhyAfter}
 use Rattle.cg_snap.specs.Snap.{Snap}
-use Rattle.cg_snap.specs.SnapLaws.{one_name}
 use Rattle.cg_snap.specs.SnapStop.{IsNameless}
 use Rattle.cg_snap.specs.declared.present.Present.{Present}
 use Rattle.cg_snap.specs.declared.stop.Why.TheVariants as whys
@@ -64,14 +64,6 @@ pub named_path : (path : List ℕ) → ArePathBytes path → (IsNameless path �
 named_path path b n =
     let e = ends_by path (λ z. n (inl z)) in
     record { bytes = all_bytes path b; front = e.0; last = e.1; ends = e.2; named = λ z. n (inr (e.0, e.2 ∙ ap (λ (c : ℕ). e.0 ++ c ∷ []) z)) }
-
-none_some : (k : ReadForm) (a : Option ReadForm) → a ≡ None → a ≡ Some k → ⊥
-none_some k a e f = cc
-
--- A path that is read in one way isn't read in no way.
-pub reads_once : (profile : Profile) (path : List ℕ) (k : ReadForm) → ReadsAt profile path None → ReadsAt profile path (Some k) → ⊥
-reads_once profile path k a b =
-    none_some k (read_form_of profile b.name) (ap (λ name. read_form_of profile name) (one_name path b.name a.name b.name_is a.name_is) ∙ a.form_is) b.form_is
 
 -- ---- What a further line is
 
@@ -127,6 +119,11 @@ module _ (profile : Profile) where
   pub at_closed : (begun : List ℕ) (o : Option Present) (p : List ℕ) (es : List EntryData) → At profile begun o p es → Closed profile p es
   at_closed begun None p es h = start_closed profile begun p es h
   at_closed begun (Some x) p es h = by_flag (AtLine profile begun x p es) (AtPath profile begun x p es) (Closed profile p es) x.in_line h (line_closed profile begun x p es) (path_closed profile begun x p es)
+
+  pub at_begun : (begun : List ℕ) (o : Option Present) (p : List ℕ) (es : List EntryData) → At profile begun o p es → (r : List ℕ) × IsBegun p r
+  at_begun begun None p es h = (begun, start_begun begun p es h)
+  at_begun begun (Some x) p es h =
+      by_flag (AtLine profile begun x p es) (AtPath profile begun x p es) ((r : List ℕ) × IsBegun p r) x.in_line h (λ l. (x.path.items ++ 0 ∷ l.line, line_begun profile begun x p es l)) (λ a. (begun, path_begun profile begun x p es a))
 
   -- ---- A byte of a line
 

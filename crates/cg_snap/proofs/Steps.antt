@@ -8,13 +8,11 @@ use Rattle.cg_text.specs.Texts.{Lacks, Viable}
 use Rattle.cg_text.specs.TextsLaws.{lacks_both}
 use Rattle.cg_text.specs.Token.{told}
 use Rattle.cg_value.specs.Entry.{EntryData, IsEntry, IsPath, IsPathByte, ReadsAt}
-use Rattle.cg_value.specs.Files.{KindFile, KindText, ReadLines}
+use Rattle.cg_value.specs.Files.{KindFile, ReadLines}
 use Rattle.cg_value.specs.FirstLineLaws.{first_value}
 use Rattle.cg_value.specs.LineLaws.{plain_lines}
 use Rattle.cg_value.specs.Lines.{unlines}
 use Rattle.cg_value.specs.Path.{IsNameOf}
-use Rattle.cg_value.specs.Print.{print_lines}
-use Rattle.cg_value.specs.PrintLaws.{one_text}
 use Rattle.cg_value.specs.Records.{records}
 use Rattle.cg_value.specs.Table.{read_form_of}
 use Rattle.cg_value.specs.TableLaws.{read_form_ok}
@@ -25,12 +23,14 @@ use Rattle.cg_value.specs.declared.profile.Profile.{Profile}
 use Rattle.cg_value.specs.declared.profile.Profile.TheVariants.{One, Two}
 use Rattle.cg_value.specs.declared.value.Value.{Value}
 use Rattle.cg_file.specs.WeightFileLaws.{not_empty}
+use Rattle.cg_line.specs.MadeLaws.{printed_some}
 use Rattle.cg_line.specs.Reads.{Reads, reads_viable}
+use Rattle.cg_line.specs.SplitLaws.{lines_spell}
 use Rattle.cg_snap.specs.Closed.{EndsOther}
 use Rattle.cg_snap.specs.DecoderState.{ArePathBytes, AtLine, AtPath, AtStart, CanEndLine}
 use Rattle.cg_snap.specs.Snap.{AreEntryLines, Snap, SnapText}
 use Rattle.cg_snap.specs.declared.present.Present.{Present}
-use Rattle.cg_snap.proofs.Joins.{ends_push, lines_first, one_lines, push_at, records-append, snap_append, unlines-push}
+use Rattle.cg_snap.proofs.Joins.{ends_push, lines_first, push_at, records-append, snap_append, unlines-push}
 
 -- ---- Lists
 
@@ -86,10 +86,10 @@ bytes_no_newline (b ∷ p) h = (h.0.2, bytes_no_newline p h.1)
 
 -- ---- A begun path goes on to a path of a file that can be read, another than q
 
-abbrev longer : List ℕ → ℕ → List ℕ
+abbrev pub longer : List ℕ → ℕ → List ℕ
 longer path last = (path ++ 47 ∷ []) ++ last ∷ []
 
-longer_name : (path : List ℕ) (last : ℕ) → last ≢ 47 → IsNameOf (longer path last) (last ∷ [])
+pub longer_name : (path : List ℕ) (last : ℕ) → last ≢ 47 → IsNameOf (longer path last) (last ∷ [])
 longer_name path last n = record { directory = path ++ 47 ∷ []; whole = refl; ends = inr (path, refl); plain = (n, tt) }
 
 raw_120 : (profile : Profile) → read_form_of profile (120 ∷ []) ≡ Some form.Raw
@@ -108,16 +108,20 @@ pub record Goes (profile : Profile) (begun q : List ℕ) : Type 0 where
   pub reads_at : ReadsAt profile (begun ++ rest) (Some form.Raw)
   pub other : begun ++ rest ≢ q
 
+-- It is a path.
+pub longer_good : (begun : List ℕ) (last : ℕ) → ArePathBytes begun → IsPathByte last → last ≢ 47 → IsPath (longer begun last)
+longer_good begun last h b n =
+    let slash : IsPathByte 47 = (omega arith, omega arith, (λ e. omega (arith, e))) in
+    let bytes : ArePathBytes (longer begun last) = all_push IsPathByte (begun ++ 47 ∷ []) last (all_push IsPathByte begun 47 h slash) b in
+    record { bytes = all_bytes (longer begun last) bytes; front = begun ++ 47 ∷ []; last = last; ends = refl; named = n }
+
 goes_by : (profile : Profile) (begun q : List ℕ) (last : ℕ) → ArePathBytes begun → IsPathByte last → last ≢ 47 → read_form_of profile (last ∷ []) ≡ Some form.Raw → longer begun last ≢ q → Goes profile begun q
 goes_by profile begun q last h b n r o =
     let same : longer begun last ≡ begun ++ (47 ∷ last ∷ []) = append_assoc begun (47 ∷ []) (last ∷ []) in
-    let slash : IsPathByte 47 = (omega arith, omega arith, (λ e. omega (arith, e))) in
-    let bytes : ArePathBytes (longer begun last) = all_push IsPathByte (begun ++ 47 ∷ []) last (all_push IsPathByte begun 47 h slash) b in
-    let good : IsPath (longer begun last) = record { bytes = all_bytes (longer begun last) bytes; front = begun ++ 47 ∷ []; last = last; ends = refl; named = n } in
     let reads : ReadsAt profile (longer begun last) (Some form.Raw) = record { name = last ∷ []; name_is = longer_name begun last n; form_is = r } in
     record {
       rest = 47 ∷ last ∷ [];
-      good = subst IsPath same good;
+      good = subst IsPath same (longer_good begun last h b n);
       reads_at = subst (λ path. ReadsAt profile path (Some form.Raw)) same reads;
       other = subst (λ (path : List ℕ). path ≢ q) same o;
     }
@@ -151,9 +155,6 @@ pub record HasEntry (profile : Profile) (path : List ℕ) (v : Value) (lines : L
   pub path_is : entry.path ≡ path
   pub are : AreEntryLines profile entry lines
 
-pub printed_some : (profile : Profile) (path : List ℕ) (kind : ReadForm) (v : Value) (lines : List (List ℕ)) → ReadsAt profile path (Some kind) → lines ≢ [] → ReadLines kind v lines → print_lines v ≢ []
-printed_some profile path kind v lines r some s e = elim (one_text kind v lines (read_form_ok profile r.name kind r.form_is) s) [ inl same ↦ some (same ∙ e) | inr none ↦ some none.no_lines ]
-
 pub is_entry : (profile : Profile) (path : List ℕ) (kind : ReadForm) (v : Value) (lines : List (List ℕ)) → IsPath path → ReadsAt profile path (Some kind) → lines ≢ [] → ReadLines kind v lines → IsEntry profile path v
 is_entry profile path kind v lines good r some s = record { good = good; kind = kind; reads = r; fits = record { lines = lines; spelled = s }; some_line = printed_some profile path kind v lines r some s }
 
@@ -163,10 +164,6 @@ has_entry profile path kind v lines good r some s = record {
   path_is = refl;
   are = record { kind = kind; reads = r; some = some; spelled = s };
 }
-
--- The lines of a text of lines spell what the text spells.
-pub lines_spell : (kind : ReadForm) (v : Value) (lines : List (List ℕ)) → AllByRecursion (Lacks 10) lines → KindText kind v (unlines lines) → ReadLines kind v lines
-lines_spell kind v lines plain t = subst (ReadLines kind v) (one_lines lines t.lines plain (plain_lines kind v t.lines t.spelled) t.text_is) t.spelled
 
 lines_end : (ls : List (List ℕ)) → ls ≢ [] → (front : List ℕ) × (unlines ls ≡ front ++ 10 ∷ [])
 lines_end [] some = absurd (some refl)

@@ -9,18 +9,8 @@ use Rattle.cg_value.specs.Records.{records}
 use Rattle.cg_value.specs.declared.kind.ReadForm.{ReadForm}
 use Rattle.cg_value.specs.declared.profile.Profile.{Profile}
 use Rattle.cg_value.specs.declared.value.Value.{Value}
+use Rattle.cg_snap.specs.Begun.{IsBegun}
 use Rattle.cg_snap.specs.Snap.{SnapText}
-
--- The text is empty or ends with a newline.
-abbrev pub IsRecordEnd : List ℕ → Type 0
-IsRecordEnd text = (text ≡ []) ⊎ ((front : List ℕ) × (text ≡ front ++ 10 ∷ []))
-
--- The record that is begun: the bytes after the last newline, all where there is none.
-pub record IsBegun (bytes begun : List ℕ) : Type 0 where
-  pub front : List ℕ
-  pub split : bytes ≡ front ++ begun
-  pub ended : IsRecordEnd front
-  pub plain : Lacks 10 begun
 
 -- Whole records of one path, and then what came of another record, which has this path where its NUL came.
 pub record AreOfPath (path bytes : List ℕ) : Type 0 where

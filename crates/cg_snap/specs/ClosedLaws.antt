@@ -9,7 +9,8 @@ use Rattle.cg_value.specs.EntryLaws.{entry_path}
 use Rattle.cg_value.specs.PathLaws.{path_lacks_newline, path_lacks_nul}
 use Rattle.cg_value.specs.Records.{records}
 use Rattle.cg_value.specs.declared.profile.Profile.{Profile}
-use Rattle.cg_snap.specs.Closed.{AreOfPath, Closed, EndsOther, IsBegun}
+use Rattle.cg_snap.specs.Closed.{AreOfPath, Closed, EndsOther}
+use Rattle.cg_snap.specs.Begun.{IsBegun}
 use Rattle.cg_snap.specs.Laws.{AreOneClosing}
 use Rattle.cg_snap.specs.Snap.{SnapText}
 use Rattle.cg_snap.specs.SnapLaws.{NotOf, cut, entry_starts, heads, lines_plain, one_back, record_then, rest_not_of, snap_is_print}

@@ -1,21 +1,56 @@
--- What becomes of the bytes of a whole snapshot.
+-- What becomes of the bytes of a whole stream.
 use Rattle.std.specs.Prelude.{◌≡◌, ℕ, ◌+◌, ◌<◌, ◌⊎◌, List, length, take, None}
-use Rattle.cg_value.specs.Entry.{EntryData}
+use Rattle.cg_value.specs.Entry.{EntryData, ItemData}
 use Rattle.cg_value.specs.declared.profile.Profile.{Profile}
 use Rattle.cg_snap.specs.Decoder.{Stands, limits_of, profile_of, stop_of}
+use Rattle.cg_snap.specs.Plan.{Plan, PlanText}
+use Rattle.cg_snap.specs.PlanDecoder.{StandsForPlan, plan_limits_of, plan_profile_of, plan_stop_of}
+use Rattle.cg_snap.specs.PlanStop.{IsItemWhy, IsPlanUnstopped, is_never_many}
 use Rattle.cg_snap.specs.Snap.{Snap, SnapText}
-use Rattle.cg_snap.specs.SnapStop.{IsSnapUnstopped, SnapStopOf}
+use Rattle.cg_snap.specs.SnapStop.{IsManyRecords, IsRecordWhy, IsSnapUnstopped}
+use Rattle.cg_snap.specs.StreamStop.{IsStreamUnstopped, StreamStopOf}
 use Rattle.cg_snap.specs.declared.decode.StreamFault.{StreamFault}
 use Rattle.cg_snap.specs.declared.decode.StreamFault.TheVariants.{Stopped, OutOfMemory}
 use Rattle.cg_snap.specs.declared.decoder.SnapshotDecoder.{SnapshotDecoder}
 use Rattle.cg_snap.specs.declared.limits.Limits.{Limits}
+use Rattle.cg_snap.specs.declared.plan_decoder.PlanDecoder.{PlanDecoder}
 use Rattle.cg_snap.specs.declared.stop.Stop.{Stop}
 use Rattle.cg_snap.specs.declared.stop.Stop.TheVariants.{Refused, TooLong, TooMany, TooMuch, Cut}
+use Rattle.cg_snap.specs.declared.stop.Why.{Why}
+
+-- L, Breaks and Many are those of the stop of a stream.
+module _ (L : List ℕ → Type 0) (Breaks : List ℕ → ℕ → Why → Type 0) (Many : ℕ → List ℕ → ℕ → Type 0) (limits : Limits) where
+  -- No byte stops the stream, and it ends before a text does.
+  pub record IsCutShort (bytes : List ℕ) (at : ℕ) : Type 0 where
+    pub at_end : at ≡ length bytes
+    pub unstopped : IsStreamUnstopped L Breaks Many limits bytes
+    pub not_whole : L bytes → ⊥
+
+  -- The stop of a whole stream: by its first byte that stops it, or at its end.
+  abbrev pub IsStreamStop : List ℕ → Stop → Type 0
+  IsStreamStop bytes (Refused at why) = StreamStopOf L Breaks Many limits bytes (Refused at why)
+  IsStreamStop bytes (TooLong at) = StreamStopOf L Breaks Many limits bytes (TooLong at)
+  IsStreamStop bytes (TooMany at) = StreamStopOf L Breaks Many limits bytes (TooMany at)
+  IsStreamStop bytes (TooMuch at) = StreamStopOf L Breaks Many limits bytes (TooMuch at)
+  IsStreamStop bytes (Cut at) = IsCutShort bytes at
+
+  -- Memory was refused at a byte that nothing stops, nor any before it; or at the end, where no byte stops the stream.
+  abbrev pub IsStarved : List ℕ → Type 0
+  IsStarved bytes = ((at : ℕ) × (at < length bytes) × IsStreamUnstopped L Breaks Many limits (take (at + 1) bytes)) ⊎ IsStreamUnstopped L Breaks Many limits bytes
+
+  abbrev pub IsStreamFault : List ℕ → StreamFault → Type 0
+  IsStreamFault bytes (Stopped stop) = IsStreamStop bytes stop
+  IsStreamFault bytes OutOfMemory = IsStarved bytes
+
+-- ---- Snapshots
 
 -- The bytes are the snapshot of these entries, and none of them stops it.
 pub record IsDecoded (profile : Profile) (limits : Limits) (bytes : List ℕ) (es : List EntryData) : Type 0 where
   pub whole : SnapText profile es bytes
   pub unstopped : IsSnapUnstopped profile limits bytes
+
+abbrev pub IsSnapFault : Profile → Limits → List ℕ → StreamFault → Type 0
+IsSnapFault profile limits = IsStreamFault (Snap profile) (IsRecordWhy profile) (IsManyRecords profile) limits
 
 -- The decoder consumed the bytes and gave these entries; and no stop came.
 pub record HasTaken (d : SnapshotDecoder) (profile : Profile) (limits : Limits) (bytes : List ℕ) (es : List EntryData) : Type 0 where
@@ -24,24 +59,19 @@ pub record HasTaken (d : SnapshotDecoder) (profile : Profile) (limits : Limits) 
   pub profile_is : profile_of d ≡ profile
   pub limits_is : limits_of d ≡ limits
 
--- No byte stops the stream, and it ends before a snapshot does.
-pub record IsCutShort (profile : Profile) (limits : Limits) (bytes : List ℕ) (at : ℕ) : Type 0 where
-  pub at_end : at ≡ length bytes
-  pub unstopped : IsSnapUnstopped profile limits bytes
-  pub not_whole : Snap profile bytes → ⊥
+-- ---- Plans
 
--- The stop of a whole stream: by its first byte that stops it, or at its end.
-abbrev pub IsStreamStop : Profile → Limits → List ℕ → Stop → Type 0
-IsStreamStop profile limits bytes (Refused at why) = SnapStopOf profile limits bytes (Refused at why)
-IsStreamStop profile limits bytes (TooLong at) = SnapStopOf profile limits bytes (TooLong at)
-IsStreamStop profile limits bytes (TooMany at) = SnapStopOf profile limits bytes (TooMany at)
-IsStreamStop profile limits bytes (TooMuch at) = SnapStopOf profile limits bytes (TooMuch at)
-IsStreamStop profile limits bytes (Cut at) = IsCutShort profile limits bytes at
+-- The bytes are the plan of these items, and none of them stops it.
+pub record IsPlanDecoded (profile : Profile) (limits : Limits) (bytes : List ℕ) (items : List ItemData) : Type 0 where
+  pub whole : PlanText profile items bytes
+  pub unstopped : IsPlanUnstopped profile limits bytes
 
--- Memory was refused at a byte that nothing stops, nor any before it; or at the end, where no byte stops the stream.
-abbrev pub IsStarved : Profile → Limits → List ℕ → Type 0
-IsStarved profile limits bytes = ((at : ℕ) × (at < length bytes) × IsSnapUnstopped profile limits (take (at + 1) bytes)) ⊎ IsSnapUnstopped profile limits bytes
+-- The decoder consumed the bytes and gave these items; and no stop came.
+pub record HasTakenPlan (d : PlanDecoder) (profile : Profile) (limits : Limits) (bytes : List ℕ) (items : List ItemData) : Type 0 where
+  pub stands : StandsForPlan d bytes items
+  pub stop : plan_stop_of d ≡ None
+  pub profile_is : plan_profile_of d ≡ profile
+  pub limits_is : plan_limits_of d ≡ limits
 
-abbrev pub IsStreamFault : Profile → Limits → List ℕ → StreamFault → Type 0
-IsStreamFault profile limits bytes (Stopped stop) = IsStreamStop profile limits bytes stop
-IsStreamFault profile limits bytes OutOfMemory = IsStarved profile limits bytes
+abbrev pub IsPlanFault : Profile → Limits → List ℕ → StreamFault → Type 0
+IsPlanFault profile limits = IsStreamFault (Plan profile) (IsItemWhy profile) is_never_many limits

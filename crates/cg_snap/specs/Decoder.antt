@@ -1,34 +1,35 @@
 -- What the calls of a decoder promise, of the bytes that it consumed and the entries that it gave.
-use Rattle.std.specs.Prelude.{◌≡◌, ◌≢◌, ℕ, ◌+◌, ◌-◌, ◌<◌, ◌≤◌, List, [], ◌∷◌, ◌++◌, length, take, Option, Some, None, option_to_list, Bool, true, false, Result, Ok, Err}
-use Rattle.cg_text.specs.Texts.{Next, Viable}
+use Rattle.std.specs.Prelude.{◌≡◌, ℕ, ◌+◌, ◌-◌, ◌<◌, List, [], ◌∷◌, ◌++◌, length, take, Option, Some, None, option_to_list, Result, Ok, Err}
+use Rattle.cg_text.specs.Texts.{Viable}
 use Rattle.cg_value.specs.Entry.{EntryData}
 use Rattle.cg_value.specs.declared.profile.Profile.{Profile}
 use Rattle.cg_line.specs.Reads as reader
-use Rattle.cg_snap.specs.Closed.{Closed, IsBegun}
-use Rattle.cg_snap.specs.DecoderState.{At}
+use Rattle.cg_snap.specs.Closed.{Closed}
+use Rattle.cg_snap.specs.Course.{IsAlong}
+use Rattle.cg_snap.specs.DecoderState.{HasTakenRecords}
 use Rattle.cg_snap.specs.Snap.{Snap, SnapText}
-use Rattle.cg_snap.specs.SnapStop.{IsLongRecord, IsManyRecords, IsSnapUnstopped, SnapStopOf}
+use Rattle.cg_snap.specs.SnapStop.{IsManyRecords, IsRecordWhy, IsSnapUnstopped, SnapStopOf}
 use Rattle.cg_snap.specs.Stop.{place_of}
-use Rattle.cg_snap.specs.declared.decoder.Moved.{Moved}
-use Rattle.cg_snap.specs.declared.decoder.Moved.TheVariants as moves
 use Rattle.cg_snap.specs.declared.decoder.Pulled.{Pulled}
 use Rattle.cg_snap.specs.declared.decoder.SnapshotDecoder.{SnapshotDecoder}
 use Rattle.cg_snap.specs.declared.decoder.What.{What}
 use Rattle.cg_snap.specs.declared.decoder.What.TheVariants as whats
 use Rattle.cg_snap.specs.declared.limits.Limits.{Limits}
+use Rattle.cg_snap.specs.declared.meter.Meter.{Meter}
 use Rattle.cg_snap.specs.declared.present.Present.{Present}
+use Rattle.cg_snap.specs.declared.snapshot_records.SnapshotRecords.{SnapshotRecords}
 use Rattle.cg_snap.specs.declared.stop.Stop.{Stop}
 use Rattle.cg_snap.specs.declared.stop.Stop.TheVariants as stops
 
 abbrev pub profile_of : SnapshotDecoder → Profile
-profile_of d = d.profile
+profile_of d = d.records.profile
 
 abbrev pub limits_of : SnapshotDecoder → Limits
-limits_of d = d.limits
+limits_of d = d.meter.limits
 
 -- How many bytes were consumed.
 abbrev pub offset_of : SnapshotDecoder → ℕ
-offset_of d = d.offset
+offset_of d = d.meter.offset
 
 -- The stop that came, if one did.
 abbrev pub stop_of : SnapshotDecoder → Option Stop
@@ -40,46 +41,20 @@ held_in None = 0
 held_in (Some x) = length x.path.items + reader.held_by x.reader
 
 abbrev pub held_by : SnapshotDecoder → ℕ
-held_by d = length d.begun.items + held_in d.present
+held_by d = length d.records.begun.items + held_in d.records.present
+
+-- Records of a snapshot and their meter, which consumed the bytes p, of which none stops a stream, and gave the entries es.
+abbrev pub AreAlong : Profile → SnapshotRecords → Meter → List ℕ → List EntryData → Type 0
+AreAlong profile = IsAlong (Snap profile) (IsRecordWhy profile) (IsManyRecords profile) (λ p es. Closed profile p es) (λ s. HasTakenRecords s profile)
 
 -- The decoder consumed the bytes p, of which none stops a stream, and gave the entries es.
-pub record Stands (d : SnapshotDecoder) (p : List ℕ) (es : List EntryData) : Type 0 where
-  pub state : At d.profile d.begun.items d.present p es
-  pub offset : d.offset ≡ length p
-  pub within : length p ≤ d.limits.max_stream
-  pub now_begun : List ℕ
-  pub begins : IsBegun p now_begun
-  pub length_is : d.record_len ≡ length now_begun
-  pub unstopped : IsSnapUnstopped d.profile d.limits p
-  pub closed : Closed d.profile p es
+abbrev pub Stands : SnapshotDecoder → List ℕ → List EntryData → Type 0
+Stands d = AreAlong (profile_of d) d.records d.meter
 
 -- What a decoder consumed closes what it gave, can be gone on from, and has no byte that stops it.
 abbrev pub PulledIsClosed : Type 0
 PulledIsClosed = (d : SnapshotDecoder) (p : List ℕ) (es : List EntryData) → Stands d p es →
     Closed (profile_of d) p es × Viable (Snap (profile_of d)) p × IsSnapUnstopped (profile_of d) (limits_of d) p
-
--- The byte passes no limit after p.
-pub record IsFree (profile : Profile) (limits : Limits) (p : List ℕ) (byte : ℕ) : Type 0 where
-  pub short : IsLongRecord limits.max_record (p ++ byte ∷ []) (length p) → ⊥
-  pub few : IsManyRecords profile limits.max_lines (p ++ byte ∷ []) (length p) → ⊥
-  pub before : length p ≢ limits.max_stream
-
--- Which limit the byte passes after p, if some snapshot goes on with it.
-abbrev pub LimitIs : SnapshotDecoder → List ℕ → ℕ → Option Stop → Type 0
-LimitIs d p byte None = IsFree d.profile d.limits p byte
-LimitIs d p byte (Some stop) = Next (Snap d.profile) p byte → SnapStopOf d.profile d.limits (p ++ byte ∷ []) stop
-
--- Whether the NUL begins a record too many of its entry.
-abbrev pub ManyIs : Profile → ℕ → List ℕ → Bool → Type 0
-ManyIs profile max p true = Next (Snap profile) p 0 → IsManyRecords profile max (p ++ 0 ∷ []) (length p)
-ManyIs profile max p false = IsManyRecords profile max (p ++ 0 ∷ []) (length p) → ⊥
-
--- What one byte did.
-abbrev pub MovedIs : SnapshotDecoder → List ℕ → List EntryData → ℕ → Moved → Type 0
-MovedIs new p es byte moves.Taken = Stands new (p ++ byte ∷ []) es
-MovedIs new p es byte (moves.Given e) = Closed new.profile p es × Stands new (p ++ byte ∷ []) (es ++ e ∷ [])
-MovedIs new p es byte (moves.Stopped stop) = SnapStopOf new.profile new.limits (p ++ byte ∷ []) stop × Stands new p es
-MovedIs new p es byte moves.OutOfMemory = IsSnapUnstopped new.profile new.limits (p ++ byte ∷ []) × Stands new p es
 
 -- What a call of next leaves that consumed so many bytes of the piece. An entry comes with the byte that closes it; the stop
 -- is that of the stream, at the first byte that isn't consumed; and where memory was refused, no rule and no limit stops the byte.

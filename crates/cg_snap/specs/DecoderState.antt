@@ -11,14 +11,16 @@ use Rattle.cg_value.specs.Records.{records}
 use Rattle.cg_value.specs.declared.kind.ReadForm.{ReadForm}
 use Rattle.cg_value.specs.declared.profile.Profile.{Profile}
 use Rattle.cg_line.specs.Reads.{Reads}
-use Rattle.cg_snap.specs.Closed.{EndsOther, IsBegun}
+use Rattle.cg_snap.specs.Closed.{Closed, EndsOther}
+use Rattle.cg_snap.specs.Course.{BreaksAfter, RefusedBy}
 use Rattle.cg_snap.specs.Snap.{Snap, SnapText}
 use Rattle.cg_snap.specs.SnapStop.{IsNameless, IsRecordWhy}
 use Rattle.cg_snap.specs.declared.class.PathClass.{PathClass}
 use Rattle.cg_snap.specs.declared.class.PathClass.TheVariants.{NoName, NotReadable, Readable}
 use Rattle.cg_snap.specs.declared.present.Present.{Present}
-use Rattle.cg_snap.specs.declared.present.Stepped.{Stepped}
-use Rattle.cg_snap.specs.declared.present.Stepped.TheVariants.{Taken, Given, Refused, OutOfMemory}
+use Rattle.cg_snap.specs.declared.records.Stepped.{Stepped}
+use Rattle.cg_snap.specs.declared.records.Stepped.TheVariants.{Taken, Given, Refused, OutOfMemory}
+use Rattle.cg_snap.specs.declared.snapshot_records.SnapshotRecords.{SnapshotRecords}
 use Rattle.cg_snap.specs.declared.stop.Why.{Why}
 
 -- The path has a name, and a file there is of this kind.
@@ -106,10 +108,10 @@ IsLineCount begun (Some x) n = (x.path.items ≡ begun → n ≡ x.lines) × ((x
 
 -- The rule that a byte breaks after p.
 abbrev pub IsWhyAfter : Profile → List ℕ → ℕ → Why → Type 0
-IsWhyAfter profile p byte why = (begun : List ℕ) × IsBegun p begun × IsRecordWhy profile begun byte why
+IsWhyAfter profile = BreaksAfter (IsRecordWhy profile)
 
 -- What a step by the byte leaves.
-abbrev pub Did : Profile → List ℕ → Option Present → List ℕ → List EntryData → ℕ → Stepped → Type 0
+abbrev pub Did : Profile → List ℕ → Option Present → List ℕ → List EntryData → ℕ → Stepped EntryData → Type 0
 Did profile begun present p es byte Taken = At profile begun present (p ++ byte ∷ []) es
 Did profile begun present p es byte (Given e) = At profile begun present (p ++ byte ∷ []) (es ++ e ∷ [])
 Did profile begun present p es byte (Refused why) = At profile begun present p es × (Next (Snap profile) p byte → ⊥) × IsWhyAfter profile p byte why
@@ -117,10 +119,22 @@ Did profile begun present p es byte OutOfMemory = At profile begun present p es 
 
 -- Why the byte can't come after p, none where it can.
 abbrev pub RefusalIs : Profile → List ℕ → ℕ → Option Why → Type 0
-RefusalIs profile p byte None = Next (Snap profile) p byte
-RefusalIs profile p byte (Some why) = (Next (Snap profile) p byte → ⊥) × IsWhyAfter profile p byte why
+RefusalIs profile = RefusedBy (Snap profile) (IsRecordWhy profile)
 
 -- Bytes that may be taken at once: those of a line, or of a path.
 abbrev pub IsRun : Option Present → List ℕ → Type 0
 IsRun None run = ArePathBytes run
 IsRun (Some x) run = MatchBool x.in_line (Lacks 10 run) (ArePathBytes run)
+
+-- The records are of this profile, consumed the bytes p and gave the entries es; so these are closed, and some snapshot goes on.
+pub record HasTakenRecords (s : SnapshotRecords) (profile : Profile) (p : List ℕ) (es : List EntryData) : Type 0 where
+  pub profile_is : s.profile ≡ profile
+  pub at : At profile s.begun.items s.present p es
+  pub closed : Closed profile p es
+  pub goes_on : Viable (Snap profile) p
+
+pub records_closed : (s : SnapshotRecords) (profile : Profile) (p : List ℕ) (es : List EntryData) → HasTakenRecords s profile p es → Closed profile p es
+records_closed s profile p es h = h.closed
+
+pub records_go_on : (s : SnapshotRecords) (profile : Profile) (p : List ℕ) (es : List EntryData) → HasTakenRecords s profile p es → Viable (Snap profile) p
+records_go_on s profile p es h = h.goes_on

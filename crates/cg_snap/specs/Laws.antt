@@ -1,16 +1,14 @@
 -- The laws of snapshots and of plans, over their definitions alone.
-use Rattle.std.specs.Prelude.{◌≡◌, ◌≢◌, ℕ, List, [], ◌∷◌, ◌++◌, codes}
-use Rattle.std.specs.List.{AllByRecursion, AllZip}
-use Rattle.cg_value.specs.Entry.{EntryData, IsItem, ItemData}
-use Rattle.cg_value.specs.Files.{ReadLines}
-use Rattle.cg_value.specs.Path.{IsNameOf}
+use Rattle.std.specs.Prelude.{◌≡◌, ◌≢◌, ℕ, List, [], ◌∷◌, ◌++◌, length}
+use Rattle.std.specs.List.{AllAdjacentBelow, AllByRecursion, AllZip}
+use Rattle.cg_value.specs.Entry.{EntryData, IsEntry, IsItem, ItemData}
 use Rattle.cg_value.specs.Print.{print_lines, print_setting_of}
 use Rattle.cg_value.specs.Records.{records}
-use Rattle.cg_value.specs.declared.kind.ReadForm.TheVariants.{Nested}
 use Rattle.cg_value.specs.declared.profile.Profile.{Profile}
 use Rattle.cg_value.specs.declared.profile.Profile.TheVariants.{One, Two}
-use Rattle.cg_value.specs.declared.value.Value.TheVariants.{Raw}
-use Rattle.cg_snap.specs.Closed.{Closed, IsBegun}
+use Rattle.cg_line.specs.Upgrading.{IsUp}
+use Rattle.cg_snap.specs.Begun.{IsBegun}
+use Rattle.cg_snap.specs.Closed.{Closed}
 use Rattle.cg_snap.specs.Plan.{ClosedPlan, PlanText}
 use Rattle.cg_snap.specs.Snap.{SnapText}
 
@@ -26,6 +24,22 @@ OneList = (profile : Profile) (es fs : List EntryData) (text : List ℕ) → Sna
 -- And it is that list printed.
 abbrev pub SnapIsPrint : Type 0
 SnapIsPrint = (profile : Profile) (es : List EntryData) (text : List ℕ) → SnapText profile es text → text ≡ print_entries es
+
+-- All are entries of the profile.
+abbrev pub AreEntriesOf : Profile → List EntryData → Type 0
+AreEntriesOf profile es = AllByRecursion (λ e. IsEntry profile e.path e.value) es
+
+-- No entry below the place has the path of the one before it.
+abbrev pub AreApart : List EntryData → ℕ → Type 0
+AreApart es high = AllAdjacentBelow (λ e f. f.path ≢ e.path) es high
+
+-- Entries of a profile, printed, are a snapshot of these entries where no two adjacent ones have the same path.
+abbrev pub EntriesPrinted : Type 0
+EntriesPrinted = (profile : Profile) (es : List EntryData) → AreEntriesOf profile es → AreApart es (length es) → SnapText profile es (print_entries es)
+
+-- And only such entries have a snapshot.
+abbrev pub SnapIsOfEntries : Type 0
+SnapIsOfEntries = (profile : Profile) (es : List EntryData) (text : List ℕ) → SnapText profile es text → AreEntriesOf profile es × AreApart es (length es)
 
 -- Bytes close one list of entries.
 abbrev pub ClosedOnce : Type 0
@@ -65,20 +79,15 @@ OnePlan = (profile : Profile) (xs ys : List ItemData) (text : List ℕ) → Plan
 abbrev pub ItemsPrinted : Type 0
 ItemsPrinted = (profile : Profile) (items : List ItemData) → AreItemsOf profile items → PlanText profile items (print_items items)
 
+-- And only items of the profile have a plan.
+abbrev pub PlanIsOfItems : Type 0
+PlanIsOfItems = (profile : Profile) (items : List ItemData) (text : List ℕ) → PlanText profile items text → AreItemsOf profile items
+
 -- Bytes close one list of items.
 abbrev pub ClosedPlanOnce : Type 0
 ClosedPlanOnce = (profile : Profile) (bytes : List ℕ) (xs ys : List ItemData) → ClosedPlan profile bytes xs → ClosedPlan profile bytes ys → xs ≡ ys
 
 -- ---- Two profiles
-
--- The entry is memory.numa_stat with these raw lines, as the first profile reads it.
-abbrev pub AreRawNuma : EntryData → List (List ℕ) → Type 0
-AreRawNuma e lines = IsNameOf e.path (codes "memory.numa_stat") × (e.value ≡ Raw lines)
-
--- The entry in the second profile: there these lines are read as nested; every other entry is itself.
-abbrev pub IsUp : EntryData → EntryData → Type 0
-IsUp e f = ((lines : List (List ℕ)) → IsNameOf e.path (codes "memory.numa_stat") → e.value ≡ Raw lines → (f.path ≡ e.path) × ReadLines Nested f.value lines)
-    × (((lines : List (List ℕ)) → AreRawNuma e lines → ⊥) → f ≡ e)
 
 -- Where a text is a snapshot of both profiles, the entries of the second are those of the first, upgraded.
 abbrev pub TwoProfiles : Type 0

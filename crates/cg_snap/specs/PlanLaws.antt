@@ -51,8 +51,12 @@ line_plain : (line : List ℕ) → IsRawLine line → Lacks 10 line
 line_plain [] h = tt
 line_plain (c ∷ line) h = (h.2, line_plain line h.3)
 
-item_line_plain : (profile : Profile) (item : ItemData) (line : List ℕ) → IsItemLine profile item line → Lacks 10 line
-item_line_plain profile item line h = line_plain line (written_raw h.kind item.setting line h.spelled)
+-- The line of a write has no newline.
+pub written_plain : (kind : WriteForm) (s : Setting) (line : List ℕ) → WriteLine kind s line → Lacks 10 line
+written_plain kind s line h = line_plain line (written_raw kind s line h)
+
+pub item_line_plain : (profile : Profile) (item : ItemData) (line : List ℕ) → IsItemLine profile item line → Lacks 10 line
+item_line_plain profile item line h = written_plain h.kind item.setting line h.spelled
 
 -- One path and one line are those of one item.
 one_item : (profile : Profile) (x y : ItemData) (l m : List ℕ) → IsItemLine profile x l → IsItemLine profile y m → x.path ≡ y.path → l ≡ m → x ≡ y
@@ -94,7 +98,7 @@ record_ends path line rest (inl e) = inr (path ++ 0 ∷ line, ap (λ (t : List �
 record_ends path line rest (inr h) =
     inr (path ++ 0 ∷ (line ++ 10 ∷ h.0), ap (λ (t : List ℕ). path ++ 0 ∷ (line ++ 10 ∷ t)) h.1 ∙ sym (record_then path line h.0 (10 ∷ [])))
 
-plan_ends : (profile : Profile) (items : List ItemData) (text : List ℕ) → PlanText profile items text → EndsBy 10 text
+pub plan_ends : (profile : Profile) (items : List ItemData) (text : List ℕ) → PlanText profile items text → EndsBy 10 text
 plan_ends profile [] text h = inl h
 plan_ends profile (x ∷ items) text h = subst (EndsBy 10) (sym h.3) (record_ends x.path h.0 h.1 (plan_ends profile items h.1 h.4))
 

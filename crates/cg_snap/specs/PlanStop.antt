@@ -4,8 +4,8 @@ use Rattle.cg_text.specs.Texts.{Lacks}
 use Rattle.cg_value.specs.Entry.{WritesAt}
 use Rattle.cg_value.specs.declared.profile.Profile.{Profile}
 use Rattle.cg_snap.specs.Plan.{Plan}
-use Rattle.cg_snap.specs.SnapStop.{EndsRecord, IsLongRecord, IsNameless}
-use Rattle.cg_snap.specs.Stop.{IsUnstopped, StopOf, never}
+use Rattle.cg_snap.specs.SnapStop.{IsNameless}
+use Rattle.cg_snap.specs.StreamStop.{IsLastWhy, IsStreamUnstopped, StreamStopOf}
 use Rattle.cg_snap.specs.declared.limits.Limits.{Limits}
 use Rattle.cg_snap.specs.declared.stop.Stop.{Stop}
 use Rattle.cg_snap.specs.declared.stop.Why.{Why}
@@ -23,11 +23,15 @@ IsItemWhy profile begun byte Line = (path : List ℕ) × (line : List ℕ) × (b
 
 -- The rule that the last byte of the text breaks.
 abbrev pub IsPlanWhy : Profile → List ℕ → ℕ → Why → Type 0
-IsPlanWhy profile text place why = (begun : List ℕ) × (byte : ℕ) × EndsRecord text begun byte × IsItemWhy profile begun byte why
+IsPlanWhy profile = IsLastWhy (IsItemWhy profile)
+
+-- No record of a plan is one too many.
+abbrev pub is_never_many : ℕ → List ℕ → ℕ → Type 0
+is_never_many max text place = ⊥
 
 -- No byte of the stream stops it; and the first that does stops it so.
 abbrev pub IsPlanUnstopped : Profile → Limits → List ℕ → Type 0
-IsPlanUnstopped profile limits text = IsUnstopped (Plan profile) (IsPlanWhy profile) (IsLongRecord limits.max_record) never limits.max_stream text
+IsPlanUnstopped profile limits text = IsStreamUnstopped (Plan profile) (IsItemWhy profile) is_never_many limits text
 
 abbrev pub PlanStopOf : Profile → Limits → List ℕ → Stop → Type 0
-PlanStopOf profile limits text stop = StopOf (Plan profile) (IsPlanWhy profile) (IsLongRecord limits.max_record) never limits.max_stream text stop
+PlanStopOf profile limits text stop = StreamStopOf (Plan profile) (IsItemWhy profile) is_never_many limits text stop

@@ -19,9 +19,11 @@ use Rattle.cg_value.specs.declared.value.Value.{Value}
 use Rattle.cg_value.specs.declared.value.Value.TheVariants as value
 use Rattle.cg_file.specs.OneValueLaws.{one_value}
 use Rattle.cg_file.specs.WeightFileLaws.{not_empty}
-use Rattle.cg_snap.specs.Laws.{IsUp}
+use Rattle.cg_line.specs.MadeLaws.{one_name}
+use Rattle.cg_line.specs.Upgrading.{IsUp}
+use Rattle.cg_line.specs.UpgradingLaws.{numa_nested, same_lines as same_raw}
 use Rattle.cg_snap.specs.Snap.{AreEntryLines, SnapText}
-use Rattle.cg_snap.specs.SnapLaws.{entry_starts, heads_lines, lines_plain, not_of, one_name}
+use Rattle.cg_snap.specs.SnapLaws.{entry_starts, heads_lines, lines_plain, not_of}
 
 -- ---- The table
 
@@ -330,10 +332,6 @@ numa_one : read_form_of One (codes "memory.numa_stat") ≡ Some form.Raw
 unfolding read_form_of
 numa_one = refl
 
-numa_two : read_form_of Two (codes "memory.numa_stat") ≡ Some form.Nested
-unfolding read_form_of
-numa_two = refl
-
 raw_is : (xs lines : List (List ℕ)) → AllZip IsRaw xs lines → xs ≡ lines
 raw_is [] [] h = refl
 raw_is [] (line ∷ lines) h = absurd h
@@ -342,9 +340,6 @@ raw_is (x ∷ xs) (line ∷ lines) h = let first : line ≡ x = h.0.0 in let res
 
 raw_value : (v : Value) (lines : List (List ℕ)) → ReadLines form.Raw v lines → v ≡ value.Raw lines
 raw_value v lines h = h.value ∙ ap (λ xs. value.Raw xs) (raw_is h.xs lines h.spelled)
-
-raw_same : (ls ms : List (List ℕ)) → value.Raw ls ≡ value.Raw ms → ls ≡ ms
-raw_same ls ms e = cc
 
 module _ (e f : EntryData) (lines : List (List ℕ)) (p : e.path ≡ f.path) (a : AreEntryLines One e lines) (b : AreEntryLines Two f lines) where
   abbrev name : List ℕ
@@ -361,7 +356,7 @@ module _ (e f : EntryData) (lines : List (List ℕ)) (p : e.path ≡ f.path) (a 
   is_numa h =
       let n : name ≡ codes "memory.numa_stat" = one_name e.path name (codes "memory.numa_stat") a.reads.name_is h in (
         some_one a.kind form.Raw (sym a.reads.form_is ∙ ap (λ x. read_form_of One x) n ∙ numa_one),
-        some_one b.kind form.Nested (sym two_form ∙ ap (λ x. read_form_of Two x) n ∙ numa_two),
+        some_one b.kind form.Nested (sym two_form ∙ ap (λ x. read_form_of Two x) n ∙ numa_nested),
       )
 
   same_lines : (k : ReadForm) → ReadLines k e.value lines → ReadLines k f.value lines → f ≡ e
@@ -374,7 +369,7 @@ module _ (e f : EntryData) (lines : List (List ℕ)) (p : e.path ≡ f.path) (a 
   up_nested : IsNameOf e.path (codes "memory.numa_stat") → ReadLines form.Raw e.value lines → ReadLines form.Nested f.value lines → IsUp e f
   up_nested h g n =
       let raw = raw_value e.value lines g in
-      (λ ls i r. (sym p, subst (λ ms. ReadLines form.Nested f.value ms) (raw_same lines ls (sym raw ∙ r)) n), λ none. absurd (none lines (h, raw)))
+      (λ ls i r. (sym p, subst (λ ms. ReadLines form.Nested f.value ms) (same_raw lines ls (sym raw ∙ r)) n), λ none. absurd (none lines (h, raw)))
 
   up_by : Differ name (Some a.kind) (Some b.kind) → IsUp e f
   up_by (inl d) =

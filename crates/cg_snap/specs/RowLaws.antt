@@ -26,13 +26,13 @@ use Rattle.cg_value.specs.declared.value.Role.TheVariants as role
 use Rattle.cg_value.specs.declared.value.Value.{Value}
 use Rattle.cg_value.specs.declared.value.Value.TheVariants as value
 use Rattle.cg_file.specs.WeightFileLaws.{not_empty}
-use Rattle.cg_snap.specs.Closed.{IsBegun}
+use Rattle.cg_snap.specs.Begun.{EndsRecord, IsBegun}
 use Rattle.cg_snap.specs.Rows.{at, NoEntry, LongerPath, TwoRecords, EqualPathsApart, RawAndReason, OpenPath, OtherPath, OneKeyHeld}
 use Rattle.cg_snap.specs.Rows.{NewlineInPath, EmptyPath, SlashAtEnd, NoReadForm, LineAfterTheLast, DigitOverRange, RecordOf19, RecordOf1, SecondRecord, FirstRecord}
 use Rattle.cg_snap.specs.Plan.{IsItemLine}
 use Rattle.cg_snap.specs.Rows.{EqualPaths, NoWriteForm, WholeRecord}
 use Rattle.cg_snap.specs.Snap.{AreEntryLines}
-use Rattle.cg_snap.specs.SnapStop.{EndsRecord, IsNameless}
+use Rattle.cg_snap.specs.SnapStop.{IsNameless}
 
 -- ---- Bytes of one given text
 

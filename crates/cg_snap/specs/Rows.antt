@@ -13,7 +13,8 @@ use Rattle.cg_snap.specs.Closed.{Closed, IsHeldFor}
 use Rattle.cg_snap.specs.Plan.{ClosedPlan, PlanText}
 use Rattle.cg_snap.specs.PlanStop.{IsPlanWhy}
 use Rattle.cg_snap.specs.Snap.{SnapText}
-use Rattle.cg_snap.specs.SnapStop.{IsLongRecord, IsManyRecords, IsSnapWhy}
+use Rattle.cg_snap.specs.SnapStop.{IsManyRecords, IsSnapWhy}
+use Rattle.cg_snap.specs.Begun.{IsLongRecord}
 use Rattle.cg_snap.specs.declared.stop.Why.{Why}
 use Rattle.cg_snap.specs.declared.stop.Why.TheVariants as why
 

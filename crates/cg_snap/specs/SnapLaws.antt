@@ -1,77 +1,26 @@
 -- What holds of snapshots: how a text is cut into entries, and that it has one list of them.
-use Rattle.std.proofs.Common.{◌≡◌, ◌≢◌, ℕ, List, [], ◌∷◌, ◌++◌, Some, inl, inr, ◌⊎◌, refl, sym, ap, subst, ◌∙◌, append_assoc}
+use Rattle.std.proofs.Common.{◌≡◌, ◌≢◌, ℕ, List, [], ◌∷◌, ◌++◌, Some, inl, inr, refl, sym, ap, subst, ◌∙◌, append_assoc}
 use Rattle.std.proofs.lemmas.List.{append-nil}
 use Rattle.std.specs.List.{AllByRecursion}
 use Rattle.cg_text.specs.Texts.{Lacks}
-use Rattle.cg_text.specs.TextsLaws.{lacks_inside}
 use Rattle.cg_value.specs.Entry.{EntryData, IsPath, ReadsAt}
 use Rattle.cg_value.specs.EntryLaws.{entry_path, same_entry}
 use Rattle.cg_value.specs.Files.{ReadLines}
 use Rattle.cg_value.specs.LineLaws.{plain_lines}
 use Rattle.cg_value.specs.Lines.{unlines}
-use Rattle.cg_value.specs.Path.{IsNameOf}
 use Rattle.cg_value.specs.PathLaws.{path_lacks_nul}
 use Rattle.cg_value.specs.Print.{print_lines}
 use Rattle.cg_value.specs.PrintLaws.{one_text}
 use Rattle.cg_value.specs.Records.{records}
-use Rattle.cg_value.specs.Table.{read_form_of}
 use Rattle.cg_value.specs.TableLaws.{read_form_ok}
 use Rattle.cg_value.specs.declared.kind.ReadForm.{ReadForm}
 use Rattle.cg_value.specs.declared.profile.Profile.{Profile}
 use Rattle.cg_file.specs.OneValueLaws.{one_value}
 use Rattle.cg_file.specs.WeightFileLaws.{not_empty}
+pub use Rattle.cg_line.specs.MadeLaws.{one_form, one_name}
+pub use Rattle.cg_line.specs.SplitLaws.{EndsBy, cut, one_back}
 use Rattle.cg_snap.specs.Laws.{print_entries}
 use Rattle.cg_snap.specs.Snap.{AreEntryLines, SnapText, StartsOther}
-
--- ---- Texts and their separators
-
--- A text has one first separator.
-pub cut : (c : ℕ) (xs ys v w : List ℕ) → Lacks c xs → Lacks c ys → xs ++ c ∷ v ≡ ys ++ c ∷ w → (xs ≡ ys) × (v ≡ w)
-cut c [] [] v w p q e = (refl, cc)
-cut c [] (y ∷ ys) v w p q e = let h : y ≡ c = cc in absurd (q.0 h)
-cut c (x ∷ xs) [] v w p q e = let h : x ≡ c = cc in absurd (p.0 h)
-cut c (x ∷ xs) (y ∷ ys) v w p q e =
-    let t : xs ++ c ∷ v ≡ ys ++ c ∷ w = cc in
-    let h : x ≡ y = cc in
-    let r = cut c xs ys v w p.1 q.1 t in
-    let same = r.0 in
-    (cc, r.1)
-
--- ---- What stands after the last separator
-
--- The text is empty or ends with the separator.
-abbrev pub EndsBy : ℕ → List ℕ → Type 0
-EndsBy c text = (text ≡ []) ⊎ ((front : List ℕ) × (text ≡ front ++ c ∷ []))
-
-ends_after : (c b : ℕ) (text : List ℕ) → EndsBy c (b ∷ text) → EndsBy c text
-ends_after c b text (inl e) = absurd (cc)
-ends_after c b text (inr ([], e)) = inl (cc)
-ends_after c b text (inr (d ∷ front, e)) = inr (front, cc)
-
-none_inside : (c b : ℕ) (text back other : List ℕ) → EndsBy c (b ∷ text) → Lacks c back → back ≡ (b ∷ text) ++ other → ⊥
-none_inside c b text back other (inl e) n f = absurd (cc)
-none_inside c b text back other (inr h) n f =
-    let whole : back ≡ h.0 ++ c ∷ other = f ∙ ap (λ t. t ++ other) h.1 ∙ append_assoc h.0 (c ∷ []) other in
-    lacks_inside c h.0 other (subst (Lacks c) whole n)
-
-pub one_back : (c : ℕ) (d e n m : List ℕ) → EndsBy c d → EndsBy c e → Lacks c n → Lacks c m → d ++ n ≡ e ++ m → n ≡ m
-one_back c [] [] n m g h p q t = t
-one_back c [] (b ∷ e) n m g h p q t = absurd (none_inside c b e n m h p t)
-one_back c (b ∷ d) [] n m g h p q t = absurd (none_inside c b d m n g q (sym t))
-one_back c (a ∷ d) (b ∷ e) n m g h p q t = let rest : d ++ n ≡ e ++ m = cc in one_back c d e n m (ends_after c a d g) (ends_after c b e h) p q rest
-
--- ---- Paths and their names
-
--- A path has one name, and so it is read in one way.
-pub one_name : (path n m : List ℕ) → IsNameOf path n → IsNameOf path m → n ≡ m
-one_name path n m a b = one_back 47 a.directory b.directory n m a.ends b.ends a.plain b.plain (sym a.whole ∙ b.whole)
-
-some_same : (k l : ReadForm) → Some k ≡ Some l → k ≡ l
-some_same k l e = cc
-
-pub one_form : (profile : Profile) (path : List ℕ) (k l : ReadForm) → ReadsAt profile path (Some k) → ReadsAt profile path (Some l) → k ≡ l
-one_form profile path k l a b =
-    some_same k l (sym a.form_is ∙ ap (λ name. read_form_of profile name) (one_name path a.name b.name a.name_is b.name_is) ∙ b.form_is)
 
 -- ---- Lines
 

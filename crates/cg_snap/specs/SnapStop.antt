@@ -6,9 +6,9 @@ use Rattle.cg_value.specs.Entry.{EntryData, IsPath, ReadsAt}
 use Rattle.cg_value.specs.Records.{records}
 use Rattle.cg_value.specs.declared.kind.ReadForm.{ReadForm}
 use Rattle.cg_value.specs.declared.profile.Profile.{Profile}
-use Rattle.cg_snap.specs.Closed.{EndsOther, IsBegun}
+use Rattle.cg_snap.specs.Closed.{EndsOther}
 use Rattle.cg_snap.specs.Snap.{Snap, SnapText}
-use Rattle.cg_snap.specs.Stop.{IsUnstopped, StopOf}
+use Rattle.cg_snap.specs.StreamStop.{IsLastWhy, IsStreamUnstopped, StreamStopOf}
 use Rattle.cg_snap.specs.declared.limits.Limits.{Limits}
 use Rattle.cg_snap.specs.declared.stop.Stop.{Stop}
 use Rattle.cg_snap.specs.declared.stop.Why.{Why}
@@ -28,19 +28,9 @@ IsRecordWhy profile begun byte NotWritable = ⊥
 IsRecordWhy profile begun byte NoMoreLines = Lacks 0 begun × (byte ≡ 0) × (IsNameless begun → ⊥) × ((kind : ReadForm) × ReadsAt profile begun (Some kind))
 IsRecordWhy profile begun byte Line = (path : List ℕ) × (line : List ℕ) × (begun ≡ path ++ 0 ∷ line)
 
--- The text ends with a byte of the record that was begun before it.
-pub record EndsRecord (text begun : List ℕ) (byte : ℕ) : Type 0 where
-  pub front : List ℕ
-  pub whole : text ≡ front ++ byte ∷ []
-  pub begins : IsBegun front begun
-
 -- The rule that the last byte of the text breaks.
 abbrev pub IsSnapWhy : Profile → List ℕ → ℕ → Why → Type 0
-IsSnapWhy profile text place why = (begun : List ℕ) × (byte : ℕ) × EndsRecord text begun byte × IsRecordWhy profile begun byte why
-
--- With the last byte its record is longer than the limit.
-abbrev pub IsLongRecord : ℕ → List ℕ → ℕ → Type 0
-IsLongRecord max text place = (begun : List ℕ) × (byte : ℕ) × EndsRecord text begun byte × (max ≤ length begun)
+IsSnapWhy profile = IsLastWhy (IsRecordWhy profile)
 
 -- The last byte is a NUL with which its entry has more records than the limit.
 pub record IsManyRecords (profile : Profile) (max : ℕ) (text : List ℕ) (place : ℕ) : Type 0 where
@@ -57,9 +47,7 @@ pub record IsManyRecords (profile : Profile) (max : ℕ) (text : List ℕ) (plac
 
 -- No byte of the stream stops it; and the first that does stops it so.
 abbrev pub IsSnapUnstopped : Profile → Limits → List ℕ → Type 0
-IsSnapUnstopped profile limits text =
-    IsUnstopped (Snap profile) (IsSnapWhy profile) (IsLongRecord limits.max_record) (IsManyRecords profile limits.max_lines) limits.max_stream text
+IsSnapUnstopped profile limits text = IsStreamUnstopped (Snap profile) (IsRecordWhy profile) (IsManyRecords profile) limits text
 
 abbrev pub SnapStopOf : Profile → Limits → List ℕ → Stop → Type 0
-SnapStopOf profile limits text stop =
-    StopOf (Snap profile) (IsSnapWhy profile) (IsLongRecord limits.max_record) (IsManyRecords profile limits.max_lines) limits.max_stream text stop
+SnapStopOf profile limits text stop = StreamStopOf (Snap profile) (IsRecordWhy profile) (IsManyRecords profile) limits text stop

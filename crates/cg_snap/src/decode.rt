@@ -1,57 +1,70 @@
-//! One snapshot as a whole.
-ghost use Rattle.std.specs.Prelude.{◌≡◌, ℕ, List, [], ◌++◌, Some, None, length, MatchOption, MatchResult};
+//! One snapshot, or one plan, as a whole.
+ghost use Rattle.std.specs.Prelude.{◌≡◌, ℕ, List, [], length, MatchOption, MatchResult};
 ghost use Rattle.cg_value.specs.Entry.{EntryData};
-ghost use Rattle.cg_snap.specs.Decode.{IsDecoded, IsStreamFault, HasTaken};
-ghost use Rattle.cg_snap.specs.Decoder.{Stands, stop_of, profile_of, limits_of};
+ghost use Rattle.cg_snap.specs.Course.{IsAlong};
+ghost use Rattle.cg_snap.specs.Decode.{IsDecoded, IsPlanDecoded, IsPlanFault, IsSnapFault, IsStreamFault};
+ghost use Rattle.cg_snap.specs.Decoder.{AreAlong};
 
-use crate::decoder::{SnapshotDecoder, What};
+use crate::course::{Moved, pull};
+use crate::decoder::finish_at;
 use crate::limits::Limits;
+use crate::meter::Meter;
+use crate::plan_decoder::finish_plan;
+use crate::plan_records::PlanRecords;
+use crate::records::Records;
+use crate::snapshot_records::SnapshotRecords;
 use crate::stop::Stop;
-use cg_value::{Entry, Profile};
+use cg_value::{Entry, PlanItem, Profile};
 use std::alloc::Global;
 
-/// Why bytes give no list of entries.
+/// Why bytes give no list of entries, or of items.
 #[derive(Clone, Copy, Debug, PartialEq, Eq)]
 pub enum StreamFault {
-    /// A byte stops the stream, or the bytes end before a snapshot does.
+    /// A byte stops the stream, or the bytes end before a snapshot, or a plan, does.
     Stopped(Stop),
     OutOfMemory,
 }
 
-/// Takes all bytes, and puts the entries that they close behind the others.
-fn take_all(
-    decoder: &mut SnapshotDecoder,
-    entries: &mut Vec<Entry>,
+/// Takes all bytes, and puts the parts that they give behind the others.
+fn take_all<R: Records>(
+    records: &mut R,
+    meter: &mut Meter,
+    parts: &mut Vec<R::Part>,
     bytes: &[u8],
 ) -> Option<StreamFault>
-    requires stands { Stands decoder.old [] entries.old.items }
-    requires stop { stop_of decoder.old ≡ None }
-    ensures { MatchOption result (HasTaken decoder.new (profile_of decoder.old) (limits_of decoder.old) bytes.now entries.new.items) (λ fault. IsStreamFault (profile_of decoder.old) (limits_of decoder.old) bytes.now fault) }
+    ensures taken { (form : Profile) → IsAlong (R.language form) (R.breaks form) (R.many form) (R.closes form) (λ s. R.at s form) records.old meter.old [] parts.old.items →
+        MatchOption result (IsAlong (R.language form) (R.breaks form) (R.many form) (R.closes form) (λ s. R.at s form) records.new meter.new bytes.now parts.new.items)
+        (λ fault. IsStreamFault (R.language form) (R.breaks form) (R.many form) meter.old.limits bytes.now fault) }
+    ensures limits { meter.new.limits ≡ meter.old.limits }
 {
     let mut used = 0;
     while used < bytes.len() {
         let (_, rest) = bytes.split_at(used);
-        let pulled = decoder.next(rest);
-        used += pulled.used;
-        match pulled.what {
-            What::NeedMore => {}
-            What::Entry(entry) => match entries.push(entry) {
+        let progress = pull(records, meter, rest);
+        used += progress.used;
+        match progress.moved {
+            Moved::Taken => {}
+            Moved::Given(part) => match parts.push(part) {
                 Ok(()) => {}
                 Err(_) => return Some(StreamFault::OutOfMemory),
             },
-            What::Stopped(stop) => return Some(StreamFault::Stopped(stop)),
-            What::OutOfMemory => return Some(StreamFault::OutOfMemory),
+            Moved::Stopped(stop) => return Some(StreamFault::Stopped(stop)),
+            Moved::OutOfMemory => return Some(StreamFault::OutOfMemory),
         }
     }
     None
 }
 
 /// The last entry behind the others.
-fn finish_all(decoder: SnapshotDecoder, entries: &mut Vec<Entry>) -> Option<StreamFault>
-    ensures { (profile : Profile) (limits : Limits) (bytes : List ℕ) → HasTaken decoder profile limits bytes entries.old.items →
-        MatchOption result (IsDecoded profile limits bytes entries.new.items) (λ fault. IsStreamFault profile limits bytes fault) }
+fn finish_all(
+    records: SnapshotRecords,
+    meter: &Meter,
+    entries: &mut Vec<Entry>,
+) -> Option<StreamFault>
+    ensures { (profile : Profile) (bytes : List ℕ) → AreAlong profile records meter.now bytes entries.old.items →
+        MatchOption result (IsDecoded profile meter.now.limits bytes entries.new.items) (λ fault. IsSnapFault profile meter.now.limits bytes fault) }
 {
-    match decoder.finish() {
+    match finish_at(records, meter.offset) {
         Ok(None) => None,
         Ok(Some(entry)) => match entries.push(entry) {
             Ok(()) => None,
@@ -68,15 +81,37 @@ pub fn decode_snapshot(
     limits: Limits,
     bytes: &[u8],
 ) -> Result<Vec<Entry>, StreamFault>
-    ensures { MatchResult result (λ entries. IsDecoded profile limits bytes.now entries.items) (λ fault. IsStreamFault profile limits bytes.now fault) }
+    ensures { MatchResult result (λ entries. IsDecoded profile limits bytes.now entries.items) (λ fault. IsSnapFault profile limits bytes.now fault) }
 {
-    let mut decoder = SnapshotDecoder::new(alloc, profile, limits);
+    let mut records = SnapshotRecords::new(alloc, profile);
+    let mut meter = Meter::new(limits);
     let mut entries = Vec::new(alloc);
-    if let Some(fault) = take_all(&mut decoder, &mut entries, bytes) {
+    if let Some(fault) = take_all(&mut records, &mut meter, &mut entries, bytes) {
         return Err(fault);
     }
-    match finish_all(decoder, &mut entries) {
+    match finish_all(records, &meter, &mut entries) {
         Some(fault) => Err(fault),
         None => Ok(entries),
+    }
+}
+
+/// The items of the plan whose whole text these bytes are.
+pub fn decode_plan(
+    alloc: Global,
+    profile: Profile,
+    limits: Limits,
+    bytes: &[u8],
+) -> Result<Vec<PlanItem>, StreamFault>
+    ensures { MatchResult result (λ items. IsPlanDecoded profile limits bytes.now items.items) (λ fault. IsPlanFault profile limits bytes.now fault) }
+{
+    let mut records = PlanRecords::new(alloc, profile);
+    let mut meter = Meter::new(limits);
+    let mut items = Vec::new(alloc);
+    if let Some(fault) = take_all(&mut records, &mut meter, &mut items, bytes) {
+        return Err(fault);
+    }
+    match finish_plan(&records, meter.offset) {
+        Ok(()) => Ok(items),
+        Err(stop) => Err(StreamFault::Stopped(stop)),
     }
 }

@@ -1,18 +1,19 @@
 //! The decoder of a snapshot.
-ghost use Rattle.std.specs.Prelude.{◌≡◌, ◌↔◌, ◌≤◌, ◌<◌, ◌++◌, ℕ, List, [], length, take, Some, None, Err, IfNone};
+ghost use Rattle.std.specs.Prelude.{◌≡◌, ◌↔◌, ◌≤◌, ℕ, List, [], length, Some, None, Err};
 ghost use Rattle.cg_text.specs.Bytes.{HasByte};
 ghost use Rattle.cg_text.specs.Texts.{Next};
 ghost use Rattle.cg_text.specs.Token.{told};
 ghost use Rattle.cg_value.specs.Entry.{EntryData};
 ghost use Rattle.cg_snap.specs.Closed.{IsHeldFor};
 ghost use Rattle.cg_snap.specs.Snap.{Snap};
-ghost use Rattle.cg_snap.specs.DecoderState.{At};
-ghost use Rattle.cg_snap.specs.Decoder.{FinishIs, ManyIs};
+ghost use Rattle.cg_snap.specs.DecoderState.{HasTakenRecords};
+ghost use Rattle.cg_snap.specs.Decoder.{FinishIs};
 
+use crate::course::{Moved, allowed, pull};
 use crate::limits::Limits;
-use crate::present::{Present, Stepped, ended, is_in_line, line_count, step};
-use crate::refusal::refusal;
-use crate::run::take_run;
+use crate::meter::Meter;
+use crate::present::ended;
+use crate::snapshot_records::SnapshotRecords;
 use crate::stop::Stop;
 use cg_text::ByteSet;
 use cg_value::{Entry, Profile};
@@ -38,31 +39,17 @@ pub struct Pulled {
     pub what: What,
 }
 
-/// What one byte did, or how it stops the stream.
-#[derive(Drop)]
-enum Moved {
-    Taken,
-    Given(Entry),
-    Stopped(Stop),
-    OutOfMemory,
-}
-
 /// A decoder of a snapshot: records of a path, a NUL, a line and a newline, which become an entry for each path. It takes
 /// the snapshot in pieces, however it's cut.
 #[derive(Drop)]
 pub struct SnapshotDecoder {
-    alloc: Global,
-    profile: Profile,
-    limits: Limits,
-    begun: Vec<u8>,
-    present: Option<Present>,
-    offset: u64,
-    record_len: u64,
+    records: SnapshotRecords,
+    meter: Meter,
     stop: Option<Stop>,
 }
 
 impl SnapshotDecoder {
-    ghost use Rattle.cg_snap.specs.Decoder.{Stands, WhatIs, IsProgress, IsStuck, MovedIs, LimitIs, held_by, profile_of, limits_of, stop_of};
+    ghost use Rattle.cg_snap.specs.Decoder.{Stands, WhatIs, IsProgress, IsStuck, held_by, profile_of, limits_of, stop_of};
 
     /// A decoder that consumed nothing. It takes no memory.
     pub fn new(alloc: Global, profile: Profile, limits: Limits) -> SnapshotDecoder
@@ -72,90 +59,10 @@ impl SnapshotDecoder {
         ensures stop { stop_of result ≡ None }
     {
         SnapshotDecoder {
-            alloc,
-            profile,
-            limits,
-            begun: Vec::new(alloc),
-            present: None,
-            offset: 0,
-            record_len: 0,
+            records: SnapshotRecords::new(alloc, profile),
+            meter: Meter::new(limits),
             stop: None,
         }
-    }
-
-    /// The limit that the byte would pass.
-    fn limit_at(&self, byte: u8) -> Option<Stop>
-        ensures limit { (p : List ℕ) (es : List EntryData) → Stands self.now p es → LimitIs self.now p byte result }
-        ensures room { IfNone result ((self.now.offset < self.now.limits.max_stream) × (self.now.record_len < self.now.limits.max_record)) }
-    {
-        let at = self.offset;
-        if self.record_len >= self.limits.max_record {
-            return Some(Stop::TooLong { at });
-        }
-        if byte == 0 && is_full(&self.begun, &self.present, self.limits.max_lines) {
-            return Some(Stop::TooMany { at });
-        }
-        if at >= self.limits.max_stream {
-            return Some(Stop::TooMuch { at });
-        }
-        None
-    }
-
-    /// Takes one byte.
-    fn advance(&mut self, byte: u8) -> Moved
-        ensures moved { (p : List ℕ) (es : List EntryData) → Stands self.old p es → MovedIs self.new p es byte result }
-        ensures profile { self.new.profile ≡ self.old.profile }
-        ensures limits { self.new.limits ≡ self.old.limits }
-        ensures stop { self.new.stop ≡ self.old.stop }
-    {
-        let at = self.offset;
-        if let Some(limit) = self.limit_at(byte) {
-            return match refusal(self.profile, &self.begun, &self.present, byte) {
-                Some(why) => Moved::Stopped(Stop::Refused { at, why }),
-                None => Moved::Stopped(limit),
-            };
-        }
-        let record_len = if byte == b'\n' {
-            0
-        } else {
-            self.record_len + 1
-        };
-        match step(
-            self.alloc,
-            self.profile,
-            &mut self.begun,
-            &mut self.present,
-            byte,
-        ) {
-            Stepped::Taken => {
-                self.offset = at + 1;
-                self.record_len = record_len;
-                Moved::Taken
-            }
-            Stepped::Given(entry) => {
-                self.offset = at + 1;
-                self.record_len = record_len;
-                Moved::Given(entry)
-            }
-            Stepped::Refused(why) => Moved::Stopped(Stop::Refused { at, why }),
-            Stepped::OutOfMemory => Moved::OutOfMemory,
-        }
-    }
-
-    /// Takes at once what comes of a path or of a line, and answers how many bytes.
-    fn skip(&mut self, piece: &[u8]) -> usize
-        ensures skipped { (p : List ℕ) (es : List EntryData) → Stands self.old p es → Stands self.new (p ++ take result piece.now) es }
-        ensures within { result ≤ length piece.now }
-        ensures profile { self.new.profile ≡ self.old.profile }
-        ensures limits { self.new.limits ≡ self.old.limits }
-        ensures stop { self.new.stop ≡ self.old.stop }
-    {
-        let room = self.limits.max_stream.saturating_sub(self.offset);
-        let left = self.limits.max_record.saturating_sub(self.record_len);
-        let used = take_run(&mut self.begun, &mut self.present, piece, room.min(left));
-        self.offset += used as u64;
-        self.record_len += used as u64;
-        used
     }
 
     /// Consumes bytes until one event: an entry, a stop, or no memory. Where none comes, it consumes the whole piece.
@@ -175,38 +82,28 @@ impl SnapshotDecoder {
                 what: What::Stopped(stop),
             };
         }
-        let mut used = 0;
-        while used < piece.len() {
-            let (_, rest) = piece.split_at(used);
-            used += self.skip(rest);
-            if used < piece.len() {
-                match self.advance(piece[used]) {
-                    Moved::Taken => used += 1,
-                    Moved::Given(entry) => {
-                        return Pulled {
-                            used: used + 1,
-                            what: What::Entry(entry),
-                        };
-                    }
-                    Moved::Stopped(stop) => {
-                        self.stop = Some(stop);
-                        return Pulled {
-                            used,
-                            what: What::Stopped(stop),
-                        };
-                    }
-                    Moved::OutOfMemory => {
-                        return Pulled {
-                            used,
-                            what: What::OutOfMemory,
-                        };
-                    }
+        let progress = pull(&mut self.records, &mut self.meter, piece);
+        let used = progress.used;
+        match progress.moved {
+            Moved::Taken => Pulled {
+                used,
+                what: What::NeedMore,
+            },
+            Moved::Given(entry) => Pulled {
+                used,
+                what: What::Entry(entry),
+            },
+            Moved::Stopped(stop) => {
+                self.stop = Some(stop);
+                Pulled {
+                    used,
+                    what: What::Stopped(stop),
                 }
             }
-        }
-        Pulled {
-            used: piece.len(),
-            what: What::NeedMore,
+            Moved::OutOfMemory => Pulled {
+                used,
+                what: What::OutOfMemory,
+            },
         }
     }
 
@@ -214,27 +111,14 @@ impl SnapshotDecoder {
     pub fn offset(&self) -> u64
         ensures { (p : List ℕ) (es : List EntryData) → Stands self.now p es → result ≡ length p }
     {
-        self.offset
+        self.meter.offset
     }
 
     /// The bytes with which some snapshot goes on. Limits don't matter, nor a stop that came. It takes no memory.
     pub fn allowed(&self) -> ByteSet
         ensures { (p : List ℕ) (es : List EntryData) → Stands self.now p es → (byte : ℕ) → HasByte result byte ↔ Next (Snap (profile_of self.now)) p byte }
     {
-        if let Some(x) = &self.present {
-            if x.in_line {
-                return x.reader.allowed();
-            }
-        }
-        let mut set = ByteSet::new();
-        for number in 0..256u16 {
-            let byte = number as u8;
-            match refusal(self.profile, &self.begun, &self.present, byte) {
-                None => set.insert(byte),
-                Some(_) => {}
-            }
-        }
-        set
+        allowed(&self.records)
     }
 
     /// The sum of the lengths of its vectors, or `u64::MAX` where that is more. It takes no memory.
@@ -242,8 +126,8 @@ impl SnapshotDecoder {
         ensures exact { result ≡ told (held_by self.now) }
         ensures held { (p : List ℕ) (es : List EntryData) → Stands self.now p es → IsHeldFor (profile_of self.now) p es (held_by self.now) }
     {
-        let begun = self.begun.len() as u64;
-        match &self.present {
+        let begun = self.records.begun.len() as u64;
+        match &self.records.present {
             None => begun,
             Some(x) => begun
                 .saturating_add(x.path.len() as u64)
@@ -258,38 +142,27 @@ impl SnapshotDecoder {
         ensures stuck { (s : Stop) → stop_of self ≡ Some s → result ≡ Err s }
     {
         let SnapshotDecoder {
-            alloc: _,
-            profile,
-            limits: _,
-            begun,
-            present,
-            offset,
-            record_len: _,
+            records,
+            meter,
             stop,
         } = self;
         if let Some(stop) = stop {
             return Err(stop);
         }
-        finish_at(profile, begun, present, offset)
+        finish_at(records, meter.offset)
     }
 }
 
-/// Whether a NUL would begin a record too many of its entry.
-fn is_full(begun: &Vec<u8>, present: &Option<Present>, max_lines: u64) -> bool
-    ensures { (profile : Profile) (p : List ℕ) (es : List EntryData) → At profile begun.now.items present.now p es → ManyIs profile max_lines p result }
+/// What the end of the stream makes of the records.
+pub(crate) fn finish_at(records: SnapshotRecords, at: u64) -> Result<Option<Entry>, Stop>
+    ensures { (profile : Profile) (p : List ℕ) (es : List EntryData) → HasTakenRecords records profile p es → at ≡ length p → FinishIs profile p es result }
 {
-    !is_in_line(present) && line_count(begun, present) >= max_lines
-}
-
-/// What the end of the stream makes of the state.
-fn finish_at(
-    profile: Profile,
-    begun: Vec<u8>,
-    present: Option<Present>,
-    at: u64,
-) -> Result<Option<Entry>, Stop>
-    ensures { (p : List ℕ) (es : List EntryData) → At profile begun.items present p es → at ≡ length p → FinishIs profile p es result }
-{
+    let SnapshotRecords {
+        alloc: _,
+        profile,
+        begun,
+        present,
+    } = records;
     if !begun.is_empty() {
         return Err(Stop::Cut { at });
     }

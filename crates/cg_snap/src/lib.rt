@@ -1,18 +1,28 @@
-//! Snapshots of a hierarchy and plans of writes to it: what they are, and what can stop a stream of bytes.
+//! Snapshots of a hierarchy and plans of writes to it: what they are, how they are read and written, and what can stop a stream
+//! of bytes.
 #![tactic(auto)]
 
 mod class;
+mod course;
 pub mod decode;
 pub mod decoder;
+pub mod encode;
 pub mod laws;
 pub mod limits;
+mod meter;
+pub mod plan_decoder;
+mod plan_records;
 mod present;
+mod records;
 mod refusal;
 pub mod rows;
 mod run;
+mod snapshot_records;
 pub mod stop;
 
-pub use decode::{StreamFault, decode_snapshot};
+pub use decode::{StreamFault, decode_plan, decode_snapshot};
 pub use decoder::{Pulled, SnapshotDecoder, What};
+pub use encode::{EncodeFault, encode_plan, encode_snapshot};
 pub use limits::Limits;
+pub use plan_decoder::{PlanDecoder, PlanPulled, PlanWhat};
 pub use stop::{Stop, Why};

@@ -2,9 +2,12 @@
 ghost use Rattle.std.specs.Prelude.{◌≡◌, ℕ, List, Some, true, MatchOption};
 ghost use Rattle.cg_value.specs.Entry.{EntryData};
 ghost use Rattle.cg_snap.specs.DecoderState.{At, AtPath, Did, IsBetween, IsLineFlag, IsLineCount, IsOfKind};
-ghost use Rattle.cg_snap.specs.Snap.{AreEntryLines};
+ghost use Rattle.cg_snap.specs.Course.{FullIs};
+ghost use Rattle.cg_snap.specs.Snap.{AreEntryLines, Snap};
+ghost use Rattle.cg_snap.specs.SnapStop.{IsManyRecords};
 
 use crate::class::{PathClass, classify};
+use crate::records::Stepped;
 use crate::stop::Why;
 use cg_line::{PushFault, ValueReader};
 use cg_value::{Entry, Profile, ReadKind};
@@ -22,17 +25,8 @@ pub(crate) struct Present {
     pub(crate) in_line: bool,
 }
 
-/// What one byte did.
-#[derive(Drop)]
-pub(crate) enum Stepped {
-    Taken,
-    Given(Entry),
-    Refused(Why),
-    OutOfMemory,
-}
-
 /// Whether the NUL of a record came that hasn't ended.
-pub(crate) fn is_in_line(present: &Option<Present>) -> bool
+fn is_in_line(present: &Option<Present>) -> bool
     ensures { IsLineFlag present.now result }
 {
     match present {
@@ -42,7 +36,7 @@ pub(crate) fn is_in_line(present: &Option<Present>) -> bool
 }
 
 /// How many records have ended of the entry whose path is begun: none where it's another entry than the present one.
-pub(crate) fn line_count(begun: &Vec<u8>, present: &Option<Present>) -> u64
+fn line_count(begun: &Vec<u8>, present: &Option<Present>) -> u64
     ensures { IsLineCount begun.now.items present.now result }
 {
     match present {
@@ -50,6 +44,13 @@ pub(crate) fn line_count(begun: &Vec<u8>, present: &Option<Present>) -> u64
         Some(x) if x.path.as_slice() == begun.as_slice() => x.lines,
         Some(_) => 0,
     }
+}
+
+/// Whether a NUL would begin a record too many of its entry.
+pub(crate) fn is_full(begun: &Vec<u8>, present: &Option<Present>, max_lines: u64) -> bool
+    ensures { (profile : Profile) (p : List ℕ) (es : List EntryData) → At profile begun.now.items present.now p es → FullIs (Snap profile) (IsManyRecords profile) max_lines p 0 result }
+{
+    !is_in_line(present) && line_count(begun, present) >= max_lines
 }
 
 /// The entry of the whole records. There always is one.
@@ -73,7 +74,7 @@ pub(crate) fn ended(profile: Profile, present: Present) -> Option<Entry>
 }
 
 /// A byte of a line, or the newline after it.
-fn line_byte(begun: &Vec<u8>, present: &mut Present, byte: u8) -> Stepped
+fn line_byte(begun: &Vec<u8>, present: &mut Present, byte: u8) -> Stepped<Entry>
     ensures { (profile : Profile) (p : List ℕ) (es : List EntryData) → At profile begun.now.items (Some present.old) p es → present.old.in_line ≡ true →
         Did profile begun.now.items (Some present.new) p es byte result }
 {
@@ -97,7 +98,7 @@ fn end_path(
     begun: &mut Vec<u8>,
     present: &mut Option<Present>,
     kind: ReadKind,
-) -> Stepped
+) -> Stepped<Entry>
     ensures { (p : List ℕ) (es : List EntryData) → At profile begun.old.items present.old p es → IsBetween present.old → IsOfKind profile begun.old.items kind →
         Did profile begun.new.items present.new p es 0 result }
 {
@@ -145,7 +146,7 @@ fn path_byte(
     begun: &mut Vec<u8>,
     present: &mut Option<Present>,
     byte: u8,
-) -> Stepped
+) -> Stepped<Entry>
     ensures { (p : List ℕ) (es : List EntryData) → At profile begun.old.items present.old p es → IsBetween present.old → Did profile begun.new.items present.new p es byte result }
 {
     if byte == 0 {
@@ -171,7 +172,7 @@ pub(crate) fn step(
     begun: &mut Vec<u8>,
     present: &mut Option<Present>,
     byte: u8,
-) -> Stepped
+) -> Stepped<Entry>
     ensures { (p : List ℕ) (es : List EntryData) → At profile begun.old.items present.old p es → Did profile begun.new.items present.new p es byte result }
 {
     if let Some(x) = present {

@@ -1,9 +1,9 @@
 //! Runs of bytes, which are taken at once.
-ghost use Rattle.std.specs.Prelude.{◌≡◌, ◌≤◌, ◌++◌, ℕ, List, length, take, Option, Some, true};
+ghost use Rattle.std.specs.Prelude.{◌≡◌, ◌≤◌, ◌++◌, ℕ, List, length, take, Some, true};
 ghost use Rattle.cg_text.specs.Texts.{Lacks};
 ghost use Rattle.cg_value.specs.Entry.{EntryData};
 ghost use Rattle.cg_value.specs.declared.profile.Profile.{Profile};
-ghost use Rattle.cg_snap.specs.DecoderState.{ArePathBytes, At, IsBetween, IsRun};
+ghost use Rattle.cg_snap.specs.DecoderState.{ArePathBytes, At, IsRun};
 
 use crate::present::Present;
 use memchr::{memchr, memchr2};
@@ -21,7 +21,7 @@ fn at_most(run: usize, room: u64) -> usize
 }
 
 /// How many bytes of a line the piece begins with, at most so many as there is room for.
-fn line_length(piece: &[u8], room: u64) -> usize
+pub(crate) fn line_length(piece: &[u8], room: u64) -> usize
     ensures within { result ≤ length piece.now }
     ensures room { result ≤ room }
     ensures plain { Lacks 10 (take result piece.now) }
@@ -55,9 +55,8 @@ fn take_line(begun: &Vec<u8>, present: &mut Present, piece: &[u8], room: u64) ->
 }
 
 /// Takes what comes of a path, or nothing where memory is refused, and answers how many bytes.
-fn take_path(begun: &mut Vec<u8>, piece: &[u8], room: u64) -> usize
-    ensures taken { (profile : Profile) (present : Option Present) (p : List ℕ) (es : List EntryData) → At profile begun.old.items present p es → IsBetween present →
-        At profile begun.new.items present (p ++ take result piece.now) es }
+pub(crate) fn take_path(begun: &mut Vec<u8>, piece: &[u8], room: u64) -> usize
+    ensures taken { begun.new.items ≡ begun.old.items ++ take result piece.now }
     ensures within { result ≤ length piece.now }
     ensures room { result ≤ room }
     ensures plain { ArePathBytes (take result piece.now) }

@@ -14,17 +14,36 @@ fn words_of(rt: &HostRuntime) -> io::Result<Vec<String>> {
     Ok(words.collect(rt.alloc())?)
 }
 
+/// Why the words can't be had: no memory is left for them, or one of them isn't text.
+fn unread(error: &io::Error) -> UsageFault {
+    if error.kind() == io::ErrorKind::OutOfMemory {
+        UsageFault::OutOfMemory
+    } else {
+        UsageFault::Bad
+    }
+}
+
 /// Writes a text and answers the status, which stays where the text can't be written.
 fn ended<W: Sink>(writer: &mut W, text: &[u8], status: u8) -> ExitCode {
     let _ = write_text(writer, text);
     ExitCode::from(status)
 }
 
+/// Tells why the words ask for no run, or what they ask for instead.
+fn told<W: Sink>(writer: &mut W, fault: &UsageFault) -> ExitCode {
+    match fault {
+        UsageFault::Help(text) => ended(writer, text.as_bytes(), 0),
+        UsageFault::Bad => ended(writer, b"cgfile: bad command line\n", 2),
+        UsageFault::OutOfMemory => ended(writer, b"cgfile: out of memory\n", 4),
+    }
+}
+
 fn main(rt: HostRuntime) -> ExitCode {
     let mut reader = PlainReader::new(rt.stdin());
     let mut writer = PlainWriter::new(rt.stdout());
-    let Ok(words) = words_of(&rt) else {
-        return ended(&mut writer, b"cgfile: bad command line\n", 2);
+    let words = match words_of(&rt) {
+        Ok(words) => words,
+        Err(error) => return told(&mut writer, &unread(&error)),
     };
     match parse_words(rt.alloc(), words.as_slice()) {
         Ok((profile, command, limits)) => {
@@ -38,8 +57,6 @@ fn main(rt: HostRuntime) -> ExitCode {
             );
             ExitCode::from(status(&outcome))
         }
-        Err(UsageFault::Help(text)) => ended(&mut writer, text.as_bytes(), 0),
-        Err(UsageFault::Bad) => ended(&mut writer, b"cgfile: bad command line\n", 2),
-        Err(UsageFault::OutOfMemory) => ended(&mut writer, b"cgfile: out of memory\n", 4),
+        Err(fault) => told(&mut writer, &fault),
     }
 }

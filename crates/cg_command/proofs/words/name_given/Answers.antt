@@ -1,5 +1,4 @@
 use Rattle.std.proofs.Common.{[], Option, unwrap_or, ap, ◌∙◌, codes}
-use Rattle.std.proofs.lemmas.Result.{IfOk-weaker}
 use Rattle.clap.specs.Words.{Text, found_of}
 use Rattle.clap.proofs.WalkLemmas.{first_value-rows}
 use Rattle.cg_command.proofs.words.name_given.Goals as goal
@@ -7,9 +6,9 @@ use Rattle.cg_command.proofs.words.name_given.Goals as goal
 pub returns-in-Some : goal.returns-in-Some
 returns-in-Some c =
     let same = c.in-Some.ensures ∙ first_value-rows (found_of c.args.matches.now) (codes "NAME") in
-    IfOk-weaker c.from_slice.result _ _ (λ v h. h ∙ c.as_bytes.ensures.value ∙ ap (λ (o : Option Text). unwrap_or o []) same) c.from_slice.ensures.items
+    c.as_bytes.ensures.value ∙ ap (λ (o : Option Text). unwrap_or o []) same
 
 pub returns-in-None : goal.returns-in-None
 returns-in-None c =
     let same = c.in-None.ensures ∙ first_value-rows (found_of c.args.matches.now) (codes "NAME") in
-    c.new.ensures.items ∙ ap (λ (o : Option Text). unwrap_or o []) same
+    ap (λ (o : Option Text). unwrap_or o []) same

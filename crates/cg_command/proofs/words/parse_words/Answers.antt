@@ -9,6 +9,8 @@ returns c = (
   record {
     profiles = ap (λ (names : List (Bor Text)). map (λ name. name.now) names) c.as_slice.ensures;
     made = c.parse_named.ensures.made;
-    only_memory = c.parse_named.ensures.only_memory;
+    right = c.parse_named.ensures.right;
+    told = c.parse_named.ensures.told;
+    taken = c.parse_named.ensures.taken;
   },
 )

@@ -8,12 +8,19 @@ use Rattle.cg_run.proofs.running.run.Goals as goal
 
 pub returns-in-Plan-clause-ran : goal.returns-in-Plan-clause-ran
 returns-in-Plan-clause-ran g c fresh =
-    idle_ran (IsRight c.args.profile c.args.command.now c.args.limits) _ _ _ _ _ out.NotWritable c.told_line.result
-    (rw c.in-Plan.is (record { outcome = refl; unread = refl; none = refl })) c.told_line.ensures
+    let h = c.run_stream.ensures.ran (c.args.profile, c.args.limits) c.new.ensures fresh in
+    record {
+      read = h.read;
+      consumed = h.consumed;
+      wanted = h.wanted;
+      parts = h.parts;
+      right = rw c.in-Plan.is h.right;
+      wrote = h.wrote;
+    }
 
 pub returns-in-Show-clause-ran : goal.returns-in-Show-clause-ran
 returns-in-Show-clause-ran g c fresh =
-    let h = c.run_stream.ensures.ran (c.args.profile, c.args.limits) c.new.ensures fresh in
+    let h = c.run_stream-in-Show.ensures.ran (c.args.profile, c.args.limits) c.new-in-Show.ensures fresh in
     record {
       read = h.read;
       consumed = h.consumed;
@@ -25,8 +32,8 @@ returns-in-Show-clause-ran g c fresh =
 
 pub returns-in-Json-clause-ran : goal.returns-in-Json-clause-ran
 returns-in-Json-clause-ran g c fresh =
-    idle_ran (IsRight c.args.profile c.args.command.now c.args.limits) _ _ _ _ _ out.NotReadable c.told_line-in-Json.result
-    (rw c.in-Json.is (record { outcome = refl; unread = refl; none = refl })) c.told_line-in-Json.ensures
+    idle_ran (IsRight c.args.profile c.args.command.now c.args.limits) _ _ _ _ _ out.NotReadable c.told_line.result
+    (rw c.in-Json.is (record { outcome = refl; unread = refl; none = refl })) c.told_line.ensures
 
 pub returns-in-Check-clause-ran : goal.returns-in-Check-clause-ran
 returns-in-Check-clause-ran g c fresh =

@@ -1,93 +1,83 @@
-use Rattle.std.proofs.Common.{◌≡◌, ◌<◌, ◌+◌, ◌++◌, ◌∷◌, [], take, length, sym, subst, ◌∙◌, arith}
-use Rattle.cg_value.specs.Entry.{EntryData}
-use Rattle.cg_snap.specs.Decoder.{Stands}
-use Rattle.cg_snap.proofs.Wholes.{left, on, starved_at, starved_before, stopped_at, unstopped_on, whole}
+use Rattle.std.proofs.Common.{◌≡◌, ◌+◌, ◌++◌, ◌∷◌, [], List, take, length, sym, subst, ◌∙◌, arith}
+use Rattle.std.proofs.lemmas.List.{take_all}
+use Rattle.cg_snap.specs.Course.{IsAlong}
+use Rattle.cg_snap.proofs.Courses.{along_of, text_on}
+use Rattle.cg_snap.proofs.Wholes.{left, starved_at, starved_before, stopped_at}
 use Rattle.cg_snap.proofs.decode.take_all.Goals as goal
 
-pub loop-used-smaller-in-NeedMore : goal.loop-used-smaller-in-NeedMore
-loop-used-smaller-in-NeedMore c =
-    let at = c.loop-used.used in
-    let n = c.next-pulled.result.used in
-    let bytes = c.args.bytes.now in
-    let rest = c.split_at.result.1.now in
-    let back = c.split_at.ensures.back in
-    let p = c.next-pulled.ensures.profile ∙ c.loop-used.invariant.profile in
-    let l = c.next-pulled.ensures.limits ∙ c.loop-used.invariant.limits in
-    let w = rw c.in-NeedMore.is at (c.next-pulled.ensures.pulled (take at bytes) c.loop-used.entries.items c.loop-used.invariant.stop c.loop-used.invariant.stands) in
-    let all : n ≡ length rest = w.1 in
-    let here : at < length bytes = c.loop-used-test.true in
-    omega (arith, all, here, left bytes rest at back)
+pub loop-used-smaller-in-Taken : goal.loop-used-smaller-in-Taken
+loop-used-smaller-in-Taken g c =
+    let all : c.pull-progress.result.used ≡ length c.split_at.result.1.now = rw c.in-Taken.is at c.pull-progress.ensures.progress in
+    omega (arith, all, c.loop-used-test.true, left c.args.bytes.now c.split_at.result.1.now c.loop-used.used c.split_at.ensures.back)
 
-pub loop-used-preserved-in-NeedMore : goal.loop-used-preserved-in-NeedMore
-loop-used-preserved-in-NeedMore c =
-    let at = c.loop-used.used in
-    let n = c.next-pulled.result.used in
-    let bytes = c.args.bytes.now in
-    let rest = c.split_at.result.1.now in
-    let back = c.split_at.ensures.back in
-    let p = c.next-pulled.ensures.profile ∙ c.loop-used.invariant.profile in
-    let l = c.next-pulled.ensures.limits ∙ c.loop-used.invariant.limits in
-    let w = rw c.in-NeedMore.is at (c.next-pulled.ensures.pulled (take at bytes) c.loop-used.entries.items c.loop-used.invariant.stop c.loop-used.invariant.stands) in
-    record { stands = on c.next-pulled.new.self bytes rest c.loop-used.entries.items at n back w.2; within = omega (arith, c.next-pulled.ensures.used, c.loop-used-test.true, left bytes rest at back); stop = w.0; profile = p; limits = l }
+pub loop-used-preserved-in-Taken : goal.loop-used-preserved-in-Taken
+loop-used-preserved-in-Taken g c = record {
+  along = λ form h.
+      let at = c.loop-used.used in
+      let n = c.pull-progress.result.used in
+      let bytes = c.args.bytes.now in
+      let rest = c.split_at.result.1.now in
+      let back = c.split_at.ensures.back in
+      let w = rw c.in-Taken.is at (c.pull-progress.ensures.pulled form (take at bytes) c.loop-used.parts.items (c.loop-used.invariant.along form h)) in
+      along_of (g.R.Records.language form) (g.R.Records.breaks form) (g.R.Records.many form) (g.R.Records.closes form) (λ s. g.R.Records.at s form)
+      c.pull-progress.new.records c.pull-progress.new.meter (take at bytes ++ take n rest) (take (at + n) bytes) c.loop-used.parts.items (text_on [] bytes rest at n back) w.1;
+  within = omega (arith, c.pull-progress.ensures.used, c.loop-used-test.true, left c.args.bytes.now c.split_at.result.1.now c.loop-used.used c.split_at.ensures.back);
+  limits = c.pull-progress.ensures.limits ∙ c.loop-used.invariant.limits;
+}
 
 pub loop-used-preserved : goal.loop-used-preserved
-loop-used-preserved c =
-    let at = c.loop-used.used in
-    let n = c.next-pulled.result.used in
-    let bytes = c.args.bytes.now in
-    let rest = c.split_at.result.1.now in
-    let back = c.split_at.ensures.back in
-    let p = c.next-pulled.ensures.profile ∙ c.loop-used.invariant.profile in
-    let l = c.next-pulled.ensures.limits ∙ c.loop-used.invariant.limits in
-    let w = rw c.in-Entry.is at (c.next-pulled.ensures.pulled (take at bytes) c.loop-used.entries.items c.loop-used.invariant.stop c.loop-used.invariant.stands) in
-    record {
-      stands = subst (Stands c.next-pulled.new.self (take (at + n) bytes)) (sym c.in-Ok.ensures.items) (subst (λ (e : EntryData). Stands c.next-pulled.new.self (take (at + n) bytes) (c.loop-used.entries.items ++ e ∷ [])) (sym c.in-Entry.entry-is) (on c.next-pulled.new.self bytes rest _ at n back w.3));
-      within = omega (arith, c.next-pulled.ensures.used, c.loop-used-test.true, left bytes rest at back);
-      stop = w.0;
-      profile = p;
-      limits = l;
-    }
-
-pub returns-in-Err : goal.returns-in-Err
-returns-in-Err c =
-    let at = c.loop-used.used in
-    let n = c.next-pulled.result.used in
-    let bytes = c.args.bytes.now in
-    let rest = c.split_at.result.1.now in
-    let back = c.split_at.ensures.back in
-    let p = c.next-pulled.ensures.profile ∙ c.loop-used.invariant.profile in
-    let l = c.next-pulled.ensures.limits ∙ c.loop-used.invariant.limits in
-    let w = rw c.in-Entry.is at (c.next-pulled.ensures.pulled (take at bytes) c.loop-used.entries.items c.loop-used.invariant.stop c.loop-used.invariant.stands) in
-    starved_before c.next-pulled.new.self _ _ bytes _ (at + n) p l (omega (arith, w.1)) (omega (arith, c.next-pulled.ensures.used, c.loop-used-test.true, left bytes rest at back)) (on c.next-pulled.new.self bytes rest _ at n back w.3)
-
-pub returns-in-Stopped : goal.returns-in-Stopped
-returns-in-Stopped c =
-    let at = c.loop-used.used in
-    let n = c.next-pulled.result.used in
-    let bytes = c.args.bytes.now in
-    let rest = c.split_at.result.1.now in
-    let back = c.split_at.ensures.back in
-    let p = c.next-pulled.ensures.profile ∙ c.loop-used.invariant.profile in
-    let l = c.next-pulled.ensures.limits ∙ c.loop-used.invariant.limits in
-    let w = rw c.in-Stopped.is at (c.next-pulled.ensures.pulled (take at bytes) c.loop-used.entries.items c.loop-used.invariant.stop c.loop-used.invariant.stands) in
-    stopped_at _ c.next-pulled.new.self.profile _ c.next-pulled.new.self.limits bytes rest at c.in-Stopped.stop p l back w.2
-
-pub returns-in-OutOfMemory : goal.returns-in-OutOfMemory
-returns-in-OutOfMemory c =
-    let at = c.loop-used.used in
-    let n = c.next-pulled.result.used in
-    let bytes = c.args.bytes.now in
-    let rest = c.split_at.result.1.now in
-    let back = c.split_at.ensures.back in
-    let p = c.next-pulled.ensures.profile ∙ c.loop-used.invariant.profile in
-    let l = c.next-pulled.ensures.limits ∙ c.loop-used.invariant.limits in
-    let w = rw c.in-OutOfMemory.is at (c.next-pulled.ensures.pulled (take at bytes) c.loop-used.entries.items c.loop-used.invariant.stop c.loop-used.invariant.stands) in
-    starved_at _ c.next-pulled.new.self.profile _ c.next-pulled.new.self.limits bytes rest at n p l back w.1 (unstopped_on _ _ bytes rest at n back w.2)
-
-pub returns : goal.returns
-returns c = record {
-  stands = whole c.loop-used.decoder c.args.bytes.now c.loop-used.entries.items c.loop-used.used (omega (arith, c.loop-used-test.false)) c.loop-used.invariant.stands;
-  stop = c.loop-used.invariant.stop;
-  profile_is = c.loop-used.invariant.profile;
-  limits_is = c.loop-used.invariant.limits;
+loop-used-preserved g c = record {
+  along = λ form h.
+      let at = c.loop-used.used in
+      let n = c.pull-progress.result.used in
+      let bytes = c.args.bytes.now in
+      let rest = c.split_at.result.1.now in
+      let back = c.split_at.ensures.back in
+      let w = rw c.in-Given.is at (c.pull-progress.ensures.pulled form (take at bytes) c.loop-used.parts.items (c.loop-used.invariant.along form h)) in
+      let s = along_of (g.R.Records.language form) (g.R.Records.breaks form) (g.R.Records.many form) (g.R.Records.closes form) (λ s. g.R.Records.at s form)
+      c.pull-progress.new.records c.pull-progress.new.meter (take at bytes ++ take n rest) (take (at + n) bytes) _ (text_on [] bytes rest at n back) w.2 in
+      let Gave = λ (parts : List g.row.R-Part.Denot). IsAlong (g.R.Records.language form) (g.R.Records.breaks form) (g.R.Records.many form) (g.R.Records.closes form) (λ s. g.R.Records.at s form) c.pull-progress.new.records c.pull-progress.new.meter (take (at + n) bytes) parts in
+      subst Gave (sym c.in-Ok.ensures.items) (subst (λ (part : g.row.R-Part.Denot). Gave (c.loop-used.parts.items ++ part ∷ [])) (sym c.in-Given.part-is) s);
+  within = omega (arith, c.pull-progress.ensures.used, c.loop-used-test.true, left c.args.bytes.now c.split_at.result.1.now c.loop-used.used c.split_at.ensures.back);
+  limits = c.pull-progress.ensures.limits ∙ c.loop-used.invariant.limits;
 }
+
+pub returns-in-Err-clause-taken : goal.returns-in-Err-clause-taken
+returns-in-Err-clause-taken g c form h =
+    let at = c.loop-used.used in
+    let n = c.pull-progress.result.used in
+    let bytes = c.args.bytes.now in
+    let rest = c.split_at.result.1.now in
+    let back = c.split_at.ensures.back in
+    let w = rw c.in-Given.is at (c.pull-progress.ensures.pulled form (take at bytes) c.loop-used.parts.items (c.loop-used.invariant.along form h)) in
+    let s = along_of (g.R.Records.language form) (g.R.Records.breaks form) (g.R.Records.many form) (g.R.Records.closes form) (λ s. g.R.Records.at s form)
+    c.pull-progress.new.records c.pull-progress.new.meter (take at bytes ++ take n rest) (take (at + n) bytes) _ (text_on [] bytes rest at n back) w.2 in
+    starved_before (g.R.Records.language form) (g.R.Records.breaks form) (g.R.Records.many form) c.pull-progress.new.meter.limits c.args.meter.now.limits bytes (at + n) (c.pull-progress.ensures.limits ∙ c.loop-used.invariant.limits)
+    (omega (arith, w.0)) (omega (arith, c.pull-progress.ensures.used, c.loop-used-test.true, left bytes rest at back)) s.unstopped
+
+pub returns-in-Stopped-clause-taken : goal.returns-in-Stopped-clause-taken
+returns-in-Stopped-clause-taken g c form h =
+    let at = c.loop-used.used in
+    let n = c.pull-progress.result.used in
+    let bytes = c.args.bytes.now in
+    let rest = c.split_at.result.1.now in
+    let back = c.split_at.ensures.back in
+    let w = rw c.in-Stopped.is at (c.pull-progress.ensures.pulled form (take at bytes) c.loop-used.parts.items (c.loop-used.invariant.along form h)) in
+    stopped_at (g.R.Records.language form) (g.R.Records.breaks form) (g.R.Records.many form) c.pull-progress.new.meter.limits c.args.meter.now.limits bytes rest at c.in-Stopped.stop (c.pull-progress.ensures.limits ∙ c.loop-used.invariant.limits) back w.1
+
+pub returns-in-OutOfMemory-clause-taken : goal.returns-in-OutOfMemory-clause-taken
+returns-in-OutOfMemory-clause-taken g c form h =
+    let at = c.loop-used.used in
+    let n = c.pull-progress.result.used in
+    let bytes = c.args.bytes.now in
+    let rest = c.split_at.result.1.now in
+    let back = c.split_at.ensures.back in
+    let w = rw c.in-OutOfMemory.is at (c.pull-progress.ensures.pulled form (take at bytes) c.loop-used.parts.items (c.loop-used.invariant.along form h)) in
+    starved_at (g.R.Records.language form) (g.R.Records.breaks form) (g.R.Records.many form) c.pull-progress.new.meter.limits c.args.meter.now.limits bytes rest at n (c.pull-progress.ensures.limits ∙ c.loop-used.invariant.limits) back w.0 w.1
+
+pub returns-clause-taken : goal.returns-clause-taken
+returns-clause-taken g c form h =
+    let bytes = c.args.bytes.now in
+    let all : take c.loop-used.used bytes ≡ bytes = take_all c.loop-used.used bytes (omega (arith, c.loop-used-test.false)) in
+    along_of (g.R.Records.language form) (g.R.Records.breaks form) (g.R.Records.many form) (g.R.Records.closes form) (λ s. g.R.Records.at s form)
+    c.loop-used.records c.loop-used.meter (take c.loop-used.used bytes) bytes c.loop-used.parts.items all (c.loop-used.invariant.along form h)

@@ -1,15 +1,15 @@
-use Rattle.std.proofs.Common.{◌≡◌, ◌≤◌, ◌-◌, take, None, length}
-use Rattle.cg_snap.specs.Decoder.{Stands}
+use Rattle.std.proofs.Common.{◌≡◌, ◌≤◌, ◌-◌, [], take, length}
+use Rattle.cg_value.specs.declared.profile.Profile.{Profile}
+use Rattle.cg_snap.specs.Course.{IsAlong}
 use Rattle.cg_snap.proofs.decode.take_all.Given as goal
 
 abbrev pub invariant-loop-used : goal.invariant-loop-used
-invariant-loop-used l = record {
-  stands : Stands l.decoder (take l.used l.bytes) l.entries.items;
+invariant-loop-used g l = record {
+  along : (form : Profile) → IsAlong (g.R.Records.language form) (g.R.Records.breaks form) (g.R.Records.many form) (g.R.Records.closes form) (λ s. g.R.Records.at s form) l.fn.records l.fn.meter [] l.fn.parts.items →
+      IsAlong (g.R.Records.language form) (g.R.Records.breaks form) (g.R.Records.many form) (g.R.Records.closes form) (λ s. g.R.Records.at s form) l.records l.meter (take l.used l.bytes) l.parts.items;
   within : l.used ≤ length l.bytes;
-  stop : l.decoder.stop ≡ None;
-  profile : l.decoder.profile ≡ l.fn.decoder.profile;
-  limits : l.decoder.limits ≡ l.fn.decoder.limits;
+  limits : l.meter.limits ≡ l.fn.meter.limits;
 }
 
 abbrev pub decreases-loop-used : goal.decreases-loop-used
-decreases-loop-used l = length l.bytes - l.used
+decreases-loop-used g l = length l.bytes - l.used

@@ -1,5 +1,4 @@
-use Rattle.cg_snap.proofs.States.{at_viable}
 use Rattle.cg_snap.proofs.laws.pulled_is_closed.Goals as goal
 
 pub returns : goal.returns
-returns c = λ d p es h. (h.closed, at_viable d.profile d.begun.items d.present p es h.state, h.unstopped)
+returns c = λ d p es h. (h.closed, h.state.goes_on, h.unstopped)

@@ -1,0 +1,41 @@
+# bash completion for cgfile
+
+_cgfile() {
+    local word previous command i
+    COMPREPLY=()
+    word=${COMP_WORDS[COMP_CWORD]}
+    previous=${COMP_WORDS[COMP_CWORD - 1]}
+    command=
+    for ((i = 1; i < COMP_CWORD; i++)); do
+        case ${COMP_WORDS[i]} in
+            --profile | --max-record | --max-lines | --max-stream) ((i++)) ;;
+            file | setting | show | plan | kinds)
+                command=${COMP_WORDS[i]}
+                break
+                ;;
+        esac
+    done
+    case $previous in
+        --profile)
+            COMPREPLY=($(compgen -W '1 2' -- "$word"))
+            return
+            ;;
+        --max-record | --max-lines | --max-stream) return ;;
+    esac
+    local options='--profile --max-record --max-lines --max-stream --help'
+    case $command in
+        '')
+            COMPREPLY=($(compgen -W "file setting show plan kinds $options --version" -- "$word"))
+            ;;
+        file | setting)
+            if [[ $word == -* ]]; then
+                COMPREPLY=($(compgen -W "$options --known" -- "$word"))
+            else
+                COMPREPLY=($(compgen -W "$(cgfile kinds 2> /dev/null | cut -d ' ' -f 1)" -- "$word"))
+            fi
+            ;;
+        *) COMPREPLY=($(compgen -W "$options" -- "$word")) ;;
+    esac
+}
+
+complete -F _cgfile cgfile

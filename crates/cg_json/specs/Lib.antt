@@ -1,0 +1,9 @@
+pub mod Entry
+pub mod EntryLaws
+pub mod Json
+pub mod JsonLaws
+pub mod Laws
+pub mod RowLaws
+pub mod Rows
+pub mod Value
+pub mod ValueLaws

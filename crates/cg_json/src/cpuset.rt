@@ -1,0 +1,49 @@
+//! Sets of numbers, partitions, and processor time.
+ghost use Rattle.std.specs.Prelude.{◌≡◌, IfOk};
+ghost use Rattle.serde_json.specs.View.{view};
+ghost use Rattle.cg_json.specs.Json.{range_data, partition_data, cpu_max_data};
+
+use crate::json::Json;
+use cg_text::{Items, Limit, OutOfMemory};
+use cg_value::Role;
+use serde_json::{Map, Value};
+use std::alloc::Global;
+
+/// The first and the last number of a range.
+impl Json for (u32, u32) {
+    ghost tree_of = { range_data };
+
+    fn json(&self, alloc: Global) -> Result<Value, OutOfMemory> {
+        let (first, last) = self;
+        let mut list = Vec::new(alloc);
+        list.push(first.json(alloc)?)?;
+        list.push(last.json(alloc)?)?;
+        Ok(Value::Array(list))
+    }
+}
+
+/// A partition's role, whether it is valid, and why it is not, where that is known.
+pub(crate) fn partition(
+    alloc: Global,
+    role: Role,
+    valid: bool,
+    reason: &Option<Items<u8>>,
+) -> Result<Value, OutOfMemory>
+    ensures { IfOk result (λ tree. view tree ≡ partition_data role valid reason.now) }
+{
+    let mut map = Map::new(alloc);
+    serde_json::put(&mut map, alloc, "reason", reason.json(alloc)?)?;
+    serde_json::put(&mut map, alloc, "role", role.json(alloc)?)?;
+    serde_json::put(&mut map, alloc, "valid", Value::Bool(valid))?;
+    Ok(Value::Object(map))
+}
+
+/// A quota and its period.
+pub(crate) fn cpu_max(alloc: Global, quota: Limit, period: u64) -> Result<Value, OutOfMemory>
+    ensures { IfOk result (λ tree. view tree ≡ cpu_max_data quota period) }
+{
+    let mut map = Map::new(alloc);
+    serde_json::put(&mut map, alloc, "period", period.json(alloc)?)?;
+    serde_json::put(&mut map, alloc, "quota", quota.json(alloc)?)?;
+    Ok(Value::Object(map))
+}

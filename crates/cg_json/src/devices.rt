@@ -1,0 +1,80 @@
+//! What is told of devices, line by line.
+ghost use Rattle.std.specs.Prelude.{◌≡◌, IfOk};
+ghost use Rattle.serde_json.specs.View.{view};
+ghost use Rattle.cg_json.specs.Json.{stat_data, limits_data, weight_data, target_data, weights_data};
+
+use crate::json::{Json, array, object};
+use cg_text::OutOfMemory;
+use cg_value::{LimitLine, StatLine, TargetLine, WeightLine};
+use serde_json::{Map, Value};
+use std::alloc::Global;
+
+/// The device and the object of its amounts. The pad isn't shown.
+impl Json for StatLine {
+    ghost tree_of = { stat_data };
+
+    fn json(&self, alloc: Global) -> Result<Value, OutOfMemory> {
+        let mut map = Map::new(alloc);
+        serde_json::put(&mut map, alloc, "device", self.device.json(alloc)?)?;
+        serde_json::put(
+            &mut map,
+            alloc,
+            "stats",
+            object(alloc, self.pairs.as_slice())?,
+        )?;
+        Ok(Value::Object(map))
+    }
+}
+
+/// The device and its four limits.
+impl Json for LimitLine {
+    ghost tree_of = { limits_data };
+
+    fn json(&self, alloc: Global) -> Result<Value, OutOfMemory> {
+        let mut map = Map::new(alloc);
+        serde_json::put(&mut map, alloc, "device", self.device.json(alloc)?)?;
+        serde_json::put(&mut map, alloc, "rbps", self.rbps.json(alloc)?)?;
+        serde_json::put(&mut map, alloc, "riops", self.riops.json(alloc)?)?;
+        serde_json::put(&mut map, alloc, "wbps", self.wbps.json(alloc)?)?;
+        serde_json::put(&mut map, alloc, "wiops", self.wiops.json(alloc)?)?;
+        Ok(Value::Object(map))
+    }
+}
+
+/// The device and its weight.
+impl Json for WeightLine {
+    ghost tree_of = { weight_data };
+
+    fn json(&self, alloc: Global) -> Result<Value, OutOfMemory> {
+        let mut map = Map::new(alloc);
+        serde_json::put(&mut map, alloc, "device", self.device.json(alloc)?)?;
+        serde_json::put(&mut map, alloc, "weight", self.weight.json(alloc)?)?;
+        Ok(Value::Object(map))
+    }
+}
+
+/// The device and its target.
+impl Json for TargetLine {
+    ghost tree_of = { target_data };
+
+    fn json(&self, alloc: Global) -> Result<Value, OutOfMemory> {
+        let mut map = Map::new(alloc);
+        serde_json::put(&mut map, alloc, "device", self.device.json(alloc)?)?;
+        serde_json::put(&mut map, alloc, "target", self.target.json(alloc)?)?;
+        Ok(Value::Object(map))
+    }
+}
+
+/// The default weight and those of the devices.
+pub(crate) fn weights(
+    alloc: Global,
+    default: u64,
+    lines: &[WeightLine],
+) -> Result<Value, OutOfMemory>
+    ensures { IfOk result (λ tree. view tree ≡ weights_data default lines.now) }
+{
+    let mut map = Map::new(alloc);
+    serde_json::put(&mut map, alloc, "default", default.json(alloc)?)?;
+    serde_json::put(&mut map, alloc, "devices", array(alloc, lines)?)?;
+    Ok(Value::Object(map))
+}

@@ -1,0 +1,53 @@
+//! JSON trees of values, one inside another.
+ghost use Rattle.std.specs.Prelude.{◌≡◌, ℕ, List, IfOk};
+ghost use Rattle.serde_json.specs.Data.{Data};
+ghost use Rattle.serde_json.specs.View.{view};
+ghost use Rattle.cg_json.specs.Json.{array_of, keyed};
+
+use crate::text::key_text;
+use cg_text::{Key, OutOfMemory};
+use serde_json::{Map, Value};
+use std::alloc::Global;
+
+/// What has a JSON tree.
+pub(crate) trait Json {
+    // The tree.
+    ghost tree_of: { Self → Data };
+
+    /// Makes the tree.
+    fn json(&self, alloc: Global) -> Result<Value, OutOfMemory>
+        ensures { IfOk result (λ tree. view tree ≡ tree_of self.now) };
+}
+
+/// What is a member of an object: a key, and a JSON tree.
+pub(crate) trait Member: Json {
+    // The key.
+    ghost key_of: { Self → List ℕ };
+
+    /// The key.
+    fn key(&self) -> &Key
+        ensures { result.now ≡ key_of self.now };
+}
+
+/// The array of the trees of these.
+pub(crate) fn array<T: Json>(alloc: Global, items: &[T]) -> Result<Value, OutOfMemory>
+    ensures { IfOk result (λ tree. view tree ≡ array_of T.tree_of items.now) }
+{
+    let mut list = Vec::new(alloc);
+    for item in items {
+        list.push(item.json(alloc)?)?;
+    }
+    Ok(Value::Array(list))
+}
+
+/// The object of these members.
+pub(crate) fn object<T: Member>(alloc: Global, members: &[T]) -> Result<Value, OutOfMemory>
+    ensures { IfOk result (λ tree. view tree ≡ keyed T.key_of T.tree_of members.now) }
+{
+    let mut map = Map::new(alloc);
+    for member in members {
+        let key = key_text(member.key());
+        serde_json::put(&mut map, alloc, key, member.json(alloc)?)?;
+    }
+    Ok(Value::Object(map))
+}

@@ -1,0 +1,77 @@
+//! Pairs of a key and a number, and lines of such pairs.
+ghost use Rattle.std.specs.Prelude.{◌≡◌};
+ghost use Rattle.cg_json.specs.Json.{number_data, amount_data, nested_data};
+
+use crate::json::{Json, Member, object};
+use cg_text::{Key, OutOfMemory};
+use cg_value::{FlatPair, NestedLine, NestedPair, StatPair};
+use serde_json::Value;
+use std::alloc::Global;
+
+/// The number.
+impl Json for FlatPair {
+    ghost tree_of = { λ pair. number_data pair.number };
+
+    fn json(&self, alloc: Global) -> Result<Value, OutOfMemory> {
+        self.number.json(alloc)
+    }
+}
+
+impl Member for FlatPair {
+    ghost key_of = { λ pair. pair.key };
+
+    fn key(&self) -> &Key {
+        &self.key
+    }
+}
+
+/// The number.
+impl Json for NestedPair {
+    ghost tree_of = { λ pair. number_data pair.number };
+
+    fn json(&self, alloc: Global) -> Result<Value, OutOfMemory> {
+        self.number.json(alloc)
+    }
+}
+
+impl Member for NestedPair {
+    ghost key_of = { λ pair. pair.key };
+
+    fn key(&self) -> &Key {
+        &self.key
+    }
+}
+
+/// The amount.
+impl Json for StatPair {
+    ghost tree_of = { λ pair. amount_data pair.amount };
+
+    fn json(&self, alloc: Global) -> Result<Value, OutOfMemory> {
+        self.amount.json(alloc)
+    }
+}
+
+impl Member for StatPair {
+    ghost key_of = { λ pair. pair.key };
+
+    fn key(&self) -> &Key {
+        &self.key
+    }
+}
+
+/// The object of the pairs.
+impl Json for NestedLine {
+    ghost tree_of = { nested_data };
+
+    fn json(&self, alloc: Global) -> Result<Value, OutOfMemory> {
+        object(alloc, self.pairs.as_slice())
+    }
+}
+
+impl Member for NestedLine {
+    ghost key_of = { λ line. line.key };
+
+    fn key(&self) -> &Key {
+        &self.key
+    }
+}

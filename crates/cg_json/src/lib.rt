@@ -1,0 +1,16 @@
+//! Entries as JSON (RFC 8259).
+#![tactic(auto)]
+
+pub(crate) mod cpuset;
+pub(crate) mod devices;
+pub mod entry;
+pub(crate) mod json;
+pub(crate) mod keyed;
+pub mod laws;
+pub(crate) mod pressure;
+pub mod rows;
+pub(crate) mod text;
+pub(crate) mod tokens;
+pub(crate) mod value;
+
+pub use entry::{line, view};

@@ -1,0 +1,38 @@
+//! Pressure stall information.
+ghost use Rattle.std.specs.Prelude.{◌≡◌, IfOk};
+ghost use Rattle.serde_json.specs.View.{view};
+ghost use Rattle.cg_json.specs.Json.{averages_data, pressure_data};
+
+use crate::json::Json;
+use cg_text::OutOfMemory;
+use cg_value::Averages;
+use serde_json::{Map, Value};
+use std::alloc::Global;
+
+/// The averages in hundredths, and the total.
+impl Json for Averages {
+    ghost tree_of = { averages_data };
+
+    fn json(&self, alloc: Global) -> Result<Value, OutOfMemory> {
+        let mut map = Map::new(alloc);
+        serde_json::put(&mut map, alloc, "avg10", self.avg10.json(alloc)?)?;
+        serde_json::put(&mut map, alloc, "avg300", self.avg300.json(alloc)?)?;
+        serde_json::put(&mut map, alloc, "avg60", self.avg60.json(alloc)?)?;
+        serde_json::put(&mut map, alloc, "total", self.total.json(alloc)?)?;
+        Ok(Value::Object(map))
+    }
+}
+
+/// What some tasks and what all tasks lose, each where it is given.
+pub(crate) fn pressure(
+    alloc: Global,
+    some: Option<Averages>,
+    full: Option<Averages>,
+) -> Result<Value, OutOfMemory>
+    ensures { IfOk result (λ tree. view tree ≡ pressure_data some full) }
+{
+    let mut map = Map::new(alloc);
+    serde_json::put(&mut map, alloc, "full", full.json(alloc)?)?;
+    serde_json::put(&mut map, alloc, "some", some.json(alloc)?)?;
+    Ok(Value::Object(map))
+}

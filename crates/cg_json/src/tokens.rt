@@ -1,0 +1,140 @@
+//! Numbers, words and devices.
+ghost use Rattle.std.specs.Prelude.{◌≡◌};
+ghost use Rattle.serde_json.specs.Data.{string};
+ghost use Rattle.cg_value.specs.ReadLine.{mode_text, role_text};
+ghost use Rattle.cg_json.specs.Json.{number_data, signed_data, limit_data, hundredths_data, clamp_data, amount_data, device_data, given_data};
+
+use crate::json::Json;
+use crate::text::string;
+use cg_text::{Amount, Clamp, Device, Hundredths, Limit, OutOfMemory};
+use cg_value::{GroupMode, Role};
+use serde_json::{Map, Value};
+use std::alloc::Global;
+
+impl Json for u8 {
+    ghost tree_of = { number_data };
+
+    fn json(&self, _alloc: Global) -> Result<Value, OutOfMemory> {
+        Ok(Value::from(*self))
+    }
+}
+
+impl Json for u32 {
+    ghost tree_of = { number_data };
+
+    fn json(&self, _alloc: Global) -> Result<Value, OutOfMemory> {
+        Ok(Value::from(*self))
+    }
+}
+
+impl Json for u64 {
+    ghost tree_of = { number_data };
+
+    fn json(&self, _alloc: Global) -> Result<Value, OutOfMemory> {
+        Ok(Value::from(*self))
+    }
+}
+
+impl Json for i64 {
+    ghost tree_of = { signed_data };
+
+    fn json(&self, _alloc: Global) -> Result<Value, OutOfMemory> {
+        Ok(Value::from(*self))
+    }
+}
+
+/// A limit: its number, or `"max"`.
+impl Json for Limit {
+    ghost tree_of = { limit_data };
+
+    fn json(&self, alloc: Global) -> Result<Value, OutOfMemory> {
+        match self {
+            Limit::Max => string(alloc, "max"),
+            Limit::At(number) => number.json(alloc),
+        }
+    }
+}
+
+/// The number of hundredths.
+impl Json for Hundredths {
+    ghost tree_of = { hundredths_data };
+
+    fn json(&self, alloc: Global) -> Result<Value, OutOfMemory> {
+        self.count.json(alloc)
+    }
+}
+
+/// A clamp: its number of hundredths, or `"max"`.
+impl Json for Clamp {
+    ghost tree_of = { clamp_data };
+
+    fn json(&self, alloc: Global) -> Result<Value, OutOfMemory> {
+        match self {
+            Clamp::Max => string(alloc, "max"),
+            Clamp::At(percentage) => percentage.json(alloc),
+        }
+    }
+}
+
+/// An amount: a number, an object with its hundredths, or `"max"`.
+impl Json for Amount {
+    ghost tree_of = { amount_data };
+
+    fn json(&self, alloc: Global) -> Result<Value, OutOfMemory> {
+        match self {
+            Amount::Whole(number) => number.json(alloc),
+            Amount::Decimal(hundredths) => {
+                let mut map = Map::new(alloc);
+                serde_json::put(&mut map, alloc, "hundredths", hundredths.json(alloc)?)?;
+                Ok(Value::Object(map))
+            }
+            Amount::Max => string(alloc, "max"),
+        }
+    }
+}
+
+/// A device, as `"8:0"`.
+impl Json for Device {
+    ghost tree_of = { device_data };
+
+    fn json(&self, alloc: Global) -> Result<Value, OutOfMemory> {
+        Ok(Value::String(format!(in alloc; "{}:{}", self.major, self.minor)?))
+    }
+}
+
+impl Json for GroupMode {
+    ghost tree_of = { λ mode. string (mode_text mode) };
+
+    fn json(&self, alloc: Global) -> Result<Value, OutOfMemory> {
+        match self {
+            GroupMode::Domain => string(alloc, "domain"),
+            GroupMode::DomainThreaded => string(alloc, "domain threaded"),
+            GroupMode::DomainInvalid => string(alloc, "domain invalid"),
+            GroupMode::Threaded => string(alloc, "threaded"),
+        }
+    }
+}
+
+impl Json for Role {
+    ghost tree_of = { λ role. string (role_text role) };
+
+    fn json(&self, alloc: Global) -> Result<Value, OutOfMemory> {
+        match self {
+            Role::Member => string(alloc, "member"),
+            Role::Root => string(alloc, "root"),
+            Role::Isolated => string(alloc, "isolated"),
+        }
+    }
+}
+
+/// What is given, or `null`.
+impl<T: Json> Json for Option<T> {
+    ghost tree_of = { given_data T.tree_of };
+
+    fn json(&self, alloc: Global) -> Result<Value, OutOfMemory> {
+        match self {
+            Some(value) => value.json(alloc),
+            None => Ok(Value::Null),
+        }
+    }
+}

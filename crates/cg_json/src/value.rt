@@ -1,0 +1,69 @@
+//! The JSON trees of values.
+ghost use Rattle.std.specs.Prelude.{◌≡◌};
+ghost use Rattle.cg_json.specs.Value.{kind_word, value_data};
+
+use crate::cpuset::{cpu_max, partition};
+use crate::devices::weights;
+use crate::json::{Json, array, object};
+use crate::pressure::pressure;
+use cg_text::OutOfMemory;
+use cg_value::Value;
+use std::alloc::Global;
+
+/// The word of the kind of files that hold such a value.
+pub(crate) fn kind_word(value: &Value) -> &'static str
+    ensures { result.now ≡ kind_word value.now }
+{
+    match value {
+        Value::Number(_) => "number",
+        Value::Signed(_) => "signed",
+        Value::Limit(_) => "limit",
+        Value::Mode(_) => "mode",
+        Value::CpuMax { .. } => "cpu_max",
+        Value::Clamp(_) => "clamp",
+        Value::Numbers(_) => "numbers",
+        Value::Words(_) => "words",
+        Value::Flat(_) => "flat",
+        Value::DeviceStats(_) => "device_stats",
+        Value::DeviceLimits(_) => "device_limits",
+        Value::DeviceWeights { .. } => "device_weights",
+        Value::DeviceTargets(_) => "device_targets",
+        Value::Set(_) => "set",
+        Value::Partition { .. } => "partition",
+        Value::Pressure { .. } => "pressure",
+        Value::Nested(_) => "nested",
+        Value::Raw(_) => "raw",
+    }
+}
+
+/// The JSON tree of a value.
+impl Json for Value {
+    ghost tree_of = { value_data };
+
+    fn json(&self, alloc: Global) -> Result<serde_json::Value, OutOfMemory> {
+        match self {
+            Value::Number(number) => number.json(alloc),
+            Value::Signed(number) => number.json(alloc),
+            Value::Limit(limit) => limit.json(alloc),
+            Value::Mode(mode) => mode.json(alloc),
+            Value::CpuMax { quota, period } => cpu_max(alloc, *quota, *period),
+            Value::Clamp(clamp) => clamp.json(alloc),
+            Value::Numbers(numbers) => array(alloc, numbers.as_slice()),
+            Value::Words(words) => array(alloc, words.as_slice()),
+            Value::Flat(flat) => object(alloc, flat.pairs()),
+            Value::DeviceStats(lines) => array(alloc, lines.as_slice()),
+            Value::DeviceLimits(lines) => array(alloc, lines.as_slice()),
+            Value::DeviceWeights { default, lines } => weights(alloc, *default, lines.as_slice()),
+            Value::DeviceTargets(lines) => array(alloc, lines.as_slice()),
+            Value::Set(set) => array(alloc, set.ranges()),
+            Value::Partition {
+                role,
+                valid,
+                reason,
+            } => partition(alloc, *role, *valid, reason),
+            Value::Pressure { some, full } => pressure(alloc, *some, *full),
+            Value::Nested(lines) => object(alloc, lines.as_slice()),
+            Value::Raw(lines) => array(alloc, lines.as_slice()),
+        }
+    }
+}

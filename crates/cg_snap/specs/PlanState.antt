@@ -1,0 +1,78 @@
+-- What the state of a plan's records stands for: the bytes that were consumed, and the items that were given.
+use Rattle.std.specs.Prelude.{◌≡◌, ℕ, List, [], ◌∷◌, ◌++◌, Option, Some, None}
+use Rattle.cg_text.specs.Texts.{Lacks, Next, Viable}
+use Rattle.cg_value.specs.Entry.{IsPath, ItemData, WritesAt}
+use Rattle.cg_value.specs.declared.kind.WriteForm.{WriteForm}
+use Rattle.cg_value.specs.declared.profile.Profile.{Profile}
+use Rattle.cg_line.specs.Takes.{Takes}
+use Rattle.cg_snap.specs.Course.{RefusedBy}
+use Rattle.cg_snap.specs.DecoderState.{ArePathBytes}
+use Rattle.cg_snap.specs.Plan.{ClosedPlan, Plan, PlanText}
+use Rattle.cg_snap.specs.PlanStop.{IsItemWhy}
+use Rattle.cg_snap.specs.SnapStop.{IsNameless}
+use Rattle.cg_snap.specs.declared.class.WriteClass.{WriteClass}
+use Rattle.cg_snap.specs.declared.class.WriteClass.TheVariants as class
+use Rattle.cg_snap.specs.declared.plan_records.PlanRecords.{PlanRecords}
+use Rattle.cg_snap.specs.declared.plan_records.Writing.{Writing}
+use Rattle.cg_snap.specs.declared.records.Stepped.{Stepped}
+use Rattle.cg_snap.specs.declared.records.Stepped.TheVariants.{Taken, Given, Refused, OutOfMemory}
+
+-- The path has a name, and a file there is written so.
+abbrev pub IsOfWriteKind : Profile → List ℕ → WriteForm → Type 0
+IsOfWriteKind profile path kind = (IsNameless path → ⊥) × WritesAt profile path (Some kind)
+
+-- What a path names for a write.
+abbrev pub IsWriteClass : Profile → List ℕ → WriteClass → Type 0
+IsWriteClass profile path class.NoName = IsNameless path
+IsWriteClass profile path class.NotWritable = (IsNameless path → ⊥) × WritesAt profile path None
+IsWriteClass profile path (class.Writable kind) = IsOfWriteKind profile path kind
+
+-- After the items that were given came the front of a path.
+pub record AtItemPath (profile : Profile) (begun p : List ℕ) (items : List ItemData) : Type 0 where
+  pub given : List ℕ
+  pub split : p ≡ given ++ begun
+  pub whole : PlanText profile items given
+  pub begun_path : ArePathBytes begun
+
+-- After the items that were given came a path, a NUL and the front of a line.
+pub record AtItemLine (profile : Profile) (begun : List ℕ) (x : Writing) (p : List ℕ) (items : List ItemData) : Type 0 where
+  pub given : List ℕ
+  pub line : List ℕ
+  pub kind : WriteForm
+  pub split : p ≡ given ++ (x.path.items ++ 0 ∷ line)
+  pub whole : PlanText profile items given
+  pub good : IsPath x.path.items
+  pub writes_at : WritesAt profile x.path.items (Some kind)
+  pub plain : Lacks 10 line
+  pub takes : Takes x.reader kind line
+  pub nothing_begun : begun ≡ []
+
+-- The bytes p came, and the items were given.
+abbrev pub AtItems : Profile → List ℕ → Option Writing → List ℕ → List ItemData → Type 0
+AtItems profile begun None p items = AtItemPath profile begun p items
+AtItems profile begun (Some x) p items = AtItemLine profile begun x p items
+
+-- What a step by the byte leaves.
+abbrev pub DidItem : Profile → List ℕ → Option Writing → List ℕ → List ItemData → ℕ → Stepped ItemData → Type 0
+DidItem profile begun present p items byte Taken = AtItems profile begun present (p ++ byte ∷ []) items
+DidItem profile begun present p items byte (Given item) = AtItems profile begun present (p ++ byte ∷ []) (items ++ item ∷ [])
+DidItem profile begun present p items byte (Refused why) = AtItems profile begun present p items × RefusedBy (Plan profile) (IsItemWhy profile) p byte (Some why)
+DidItem profile begun present p items byte OutOfMemory = AtItems profile begun present p items × Next (Plan profile) p byte
+
+-- Bytes that may be taken at once: those of a line, or of a path.
+abbrev pub IsItemRun : Option Writing → List ℕ → Type 0
+IsItemRun None run = ArePathBytes run
+IsItemRun (Some x) run = Lacks 10 run
+
+-- The records are of this profile, consumed the bytes p and gave the items; so these are closed, and some plan goes on.
+pub record HasTakenItems (s : PlanRecords) (profile : Profile) (p : List ℕ) (items : List ItemData) : Type 0 where
+  pub profile_is : s.profile ≡ profile
+  pub at : AtItems profile s.begun.items s.present p items
+  pub closed : ClosedPlan profile p items
+  pub goes_on : Viable (Plan profile) p
+
+pub items_closed : (s : PlanRecords) (profile : Profile) (p : List ℕ) (items : List ItemData) → HasTakenItems s profile p items → ClosedPlan profile p items
+items_closed s profile p items h = h.closed
+
+pub items_go_on : (s : PlanRecords) (profile : Profile) (p : List ℕ) (items : List ItemData) → HasTakenItems s profile p items → Viable (Plan profile) p
+items_go_on s profile p items h = h.goes_on

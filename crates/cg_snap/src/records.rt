@@ -1,0 +1,74 @@
+//! What takes the records of a stream, byte by byte.
+ghost use Rattle.std.specs.Prelude.{◌≡◌, ◌≤◌, ◌++◌, ℕ, List, length, take};
+ghost use Rattle.cg_text.specs.Texts.{Lacks, Viable};
+ghost use Rattle.cg_value.specs.declared.profile.Profile.{Profile};
+ghost use Rattle.cg_snap.specs.Course.{AreFew, DidStep, FullIs, OffersAre, RefusedBy};
+ghost use Rattle.cg_snap.specs.declared.stop.Why.{Why};
+
+use crate::stop::Why;
+use cg_text::ByteSet;
+
+/// What one byte did.
+#[derive(Drop)]
+pub(crate) enum Stepped<Part> {
+    Taken,
+    /// The byte ends a part.
+    Given(Part),
+    Refused(Why),
+    OutOfMemory,
+}
+
+/// The records of a stream, taken byte by byte, and the parts that they make: entries or items.
+pub(crate) trait Records: Drop {
+    type Part: Drop;
+
+    // The profile whose files the records are of.
+    ghost profile: { Self → Profile };
+
+    // The texts of whole streams.
+    ghost language: { Profile → List ℕ → Type 0 };
+
+    // Which rule a byte breaks after what is begun of its record.
+    ghost breaks: { Profile → List ℕ → ℕ → Why → Type 0 };
+
+    // With the last byte of a text there are more records of one path than a limit.
+    ghost many: { Profile → ℕ → List ℕ → ℕ → Type 0 };
+
+    // The parts that some bytes close.
+    ghost closes: { Profile → List ℕ → List Self.Part → Type 0 };
+
+    // The records are of this profile; the bytes were taken, and the parts given.
+    ghost at: { Self → Profile → List ℕ → List Self.Part → Type 0 };
+
+    /// What was taken closes what was given.
+    ghost closed: { (s : Self) (form : Profile) (p : List ℕ) (es : List Self.Part) → at s form p es → closes form p es };
+
+    /// What was taken can be gone on from.
+    ghost goes_on: { (s : Self) (form : Profile) (p : List ℕ) (es : List Self.Part) → at s form p es → Viable (language form) p };
+
+    /// Why the byte can't come next, none where it can.
+    fn refusal(&self, byte: u8) -> Option<Why>
+        ensures { (form : Profile) (p : List ℕ) (es : List Self.Part) → at self.now form p es → RefusedBy (language form) (breaks form) p byte result };
+
+    /// The bytes that can come next within a line. Elsewhere they aren't known at once.
+    fn line_allowed(&self) -> Option<ByteSet>
+        ensures { (form : Profile) (p : List ℕ) (es : List Self.Part) → at self.now form p es → OffersAre (language form) p result };
+
+    /// Whether the byte begins a record too many of one path.
+    fn is_full(&self, max_lines: u64, byte: u8) -> bool
+        ensures { (form : Profile) (p : List ℕ) (es : List Self.Part) → at self.now form p es → FullIs (language form) (many form) max_lines p byte result };
+
+    /// What the byte does.
+    fn step(&mut self, byte: u8) -> Stepped<Self::Part>
+        ensures did { (form : Profile) (p : List ℕ) (es : List Self.Part) → at self.old form p es → DidStep (language form) (breaks form) (many form) (closes form) (λ s. at s form) self.new p es byte result }
+        ensures profile { profile self.new ≡ profile self.old };
+
+    /// Takes what comes of a path or of a line, at most so many bytes as there is room for, and answers how many.
+    fn take_run(&mut self, piece: &[u8], room: u64) -> usize
+        ensures taken { (form : Profile) (p : List ℕ) (es : List Self.Part) → at self.old form p es → at self.new form (p ++ take result piece.now) es }
+        ensures few { (form : Profile) (p : List ℕ) (es : List Self.Part) → at self.old form p es → AreFew (many form) p (take result piece.now) }
+        ensures plain { Lacks 10 (take result piece.now) }
+        ensures within { result ≤ length piece.now }
+        ensures room { result ≤ room }
+        ensures profile { profile self.new ≡ profile self.old };
+}

@@ -1,0 +1,93 @@
+//! The records of a snapshot.
+ghost use Rattle.std.specs.Prelude.{◌≡◌, List, []};
+
+use crate::present::{Present, is_full, step};
+use crate::records::{Records, Stepped};
+use crate::refusal::refusal;
+use crate::run::take_run;
+use crate::stop::Why;
+use cg_text::ByteSet;
+use cg_value::{Entry, Profile};
+use std::alloc::Global;
+
+/// The records of a snapshot, as far as they came: what is begun of a path, and the entry whose records come.
+#[derive(Drop)]
+pub(crate) struct SnapshotRecords {
+    pub(crate) alloc: Global,
+    pub(crate) profile: Profile,
+    pub(crate) begun: Vec<u8>,
+    pub(crate) present: Option<Present>,
+}
+
+impl SnapshotRecords {
+    ghost use Rattle.cg_snap.specs.DecoderState.{HasTakenRecords};
+
+    /// No record came.
+    pub(crate) fn new(alloc: Global, profile: Profile) -> SnapshotRecords
+        ensures taken { HasTakenRecords result profile [] [] }
+        ensures profile { result.profile ≡ profile }
+    {
+        SnapshotRecords {
+            alloc,
+            profile,
+            begun: Vec::new(alloc),
+            present: None,
+        }
+    }
+}
+
+impl Records for SnapshotRecords {
+    type Part = Entry;
+
+    ghost use Rattle.cg_snap.specs.Closed.{Closed};
+    ghost use Rattle.cg_snap.specs.DecoderState.{HasTakenRecords, records_closed, records_go_on};
+    ghost use Rattle.cg_snap.specs.Snap.{Snap};
+    ghost use Rattle.cg_snap.specs.SnapStop.{IsManyRecords, IsRecordWhy};
+
+    ghost profile = { λ s. s.profile };
+
+    ghost language = { Snap };
+
+    ghost breaks = { IsRecordWhy };
+
+    ghost many = { IsManyRecords };
+
+    ghost closes = { λ form p es. Closed form p es };
+
+    ghost at = { HasTakenRecords };
+
+    ghost closed = { records_closed };
+
+    ghost goes_on = { records_go_on };
+
+    fn refusal(&self, byte: u8) -> Option<Why> {
+        refusal(self.profile, &self.begun, &self.present, byte)
+    }
+
+    fn line_allowed(&self) -> Option<ByteSet> {
+        if let Some(x) = &self.present {
+            if x.in_line {
+                return Some(x.reader.allowed());
+            }
+        }
+        None
+    }
+
+    fn is_full(&self, max_lines: u64, byte: u8) -> bool {
+        byte == 0 && is_full(&self.begun, &self.present, max_lines)
+    }
+
+    fn step(&mut self, byte: u8) -> Stepped<Entry> {
+        step(
+            self.alloc,
+            self.profile,
+            &mut self.begun,
+            &mut self.present,
+            byte,
+        )
+    }
+
+    fn take_run(&mut self, piece: &[u8], room: u64) -> usize {
+        take_run(&mut self.begun, &mut self.present, piece, room)
+    }
+}

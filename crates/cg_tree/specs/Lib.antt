@@ -1,0 +1,12 @@
+pub mod Directory
+pub mod DirectoryLaws
+pub mod File
+pub mod Files
+pub mod FilesLaws
+pub mod Find
+pub mod FindLaws
+pub mod Finding
+pub mod Picked
+pub mod PickedLaws
+pub mod RowLaws
+pub mod Rows

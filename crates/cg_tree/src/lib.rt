@@ -1,0 +1,11 @@
+//! What a delegated hierarchy of control groups breaks.
+#![tactic(auto)]
+
+pub(crate) mod directory;
+pub(crate) mod files;
+pub mod find;
+pub mod finding;
+pub mod rows;
+
+pub use find::findings;
+pub use finding::{Finding, Rule};
