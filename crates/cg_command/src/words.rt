@@ -2,7 +2,7 @@
 ghost use Rattle.std.specs.Prelude.{◌≡◌, ◌⊎◌, IfOk, IfErr, IfSome, Some, codes, false, is_some, string_bytes, true, map, []};
 ghost use Rattle.clap.specs.Words.{one_of, rows_of, found_of, first_of, takes, fault_of, kind_of, matches_of, subcommand_of, subcommand_rows_of};
 ghost use Rattle.cg_command.specs.CommandLine.{cgfile_app};
-ghost use Rattle.cg_command.specs.Words.{Answers, IsCommand, IsMade, IsRefusal, IsTold, IsToldOf, is_met, is_plain_word, is_welcome, is_word, limits_of, name_in, number_or, number_of, profile_named, profile_of, wants_known};
+ghost use Rattle.cg_command.specs.Words.{Answers, IsCommand, IsMade, IsRefusal, IsTold, IsToldOf, is_met, is_plain_word, is_welcome, is_word, limits_of, name_in, number_or, number_of, profile_named, wants_known};
 
 use crate::command_line::command_line;
 use crate::table_names::is_in_table;

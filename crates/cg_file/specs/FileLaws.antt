@@ -1,5 +1,5 @@
 -- What holds of the tokens over whole files.
-use Rattle.std.proofs.Common.{◌≡◌, ℕ, ◌↔◌, List, [], ◌∷◌, ◌++◌, refl, sym, ◌∙◌, ap}
+use Rattle.std.proofs.Common.{ℕ, ◌↔◌, List, [], ◌∷◌, refl, sym, ◌∙◌, ap}
 use Rattle.cg_join.specs.Line.{IsLine}
 use Rattle.cg_join.specs.Spelling.{IsTurned}
 use Rattle.cg_value.specs.Files.{ReadLines, KindText}

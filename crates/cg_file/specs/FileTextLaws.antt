@@ -1,5 +1,5 @@
 -- The laws of the text of a file of any kind.
-use Rattle.std.proofs.Common.{ℕ, ◌↔◌, List, IsTrue}
+use Rattle.std.proofs.Common.{◌↔◌, IsTrue}
 use Rattle.cg_text.specs.Token.{Completes, Ends, HasOneValue, HoldsBytes}
 use Rattle.cg_file.specs.FileText.{file_ends, file_rests}
 use Rattle.cg_file.specs.contracts.clamp.ClampFileToken.TheImpl as clamp

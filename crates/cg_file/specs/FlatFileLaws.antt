@@ -68,7 +68,9 @@ new_number key (p ∷ ps) h =
     cond-false (has_key key p) (Some p.number) (number_of key ps) (false_from_ne_true (has_key key p) (λ e. h.0 (sym ((bytes_eq-Decides p.key key).0 e)))) ∙ new_number key ps h.1
 
 -- A push of such a key is refused for memory alone.
-pub new_refused : {T : Type 0} (r : Result T FlatRefused) (why : FlatRefused) (key : List ℕ) (ps : List FlatPair) → r ≡ Err why → LacksValue key (map (λ p. p.key) ps) → is_repeated r ≡ is_some (number_of key ps) → is_err r ≡ is_repeated r → ⊥
+pub new_refused : {T : Type 0} (r : Result T FlatRefused) (why : FlatRefused) (key : List ℕ) (ps : List FlatPair) →
+    r ≡ Err why → LacksValue key (map (λ p. p.key) ps) → is_repeated r ≡ is_some (number_of key ps) →
+    is_err r ≡ is_repeated r → ⊥
 new_refused r why key ps e h repeated room =
     let same : true ≡ false = sym (ap is_err e) ∙ room ∙ repeated ∙ ap is_some (new_number key ps h) in
     absurd (cc)

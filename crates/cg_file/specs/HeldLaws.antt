@@ -1,6 +1,6 @@
 -- How much is held of a file where its text may end, by its value: no more than a place for each line, and its keys, words,
 -- ranges and raw bytes.
-use Rattle.std.proofs.Common.{◌≡◌, ℕ, ◌+◌, ◌≤◌, List, [], ◌∷◌, length, Option, refl}
+use Rattle.std.proofs.Common.{ℕ, ◌+◌, ◌≤◌, List, [], length, Option, refl}
 use Rattle.cg_text.specs.RangesState.{number_rest}
 use Rattle.cg_text.specs.contracts.byte.ByteTextToken.TheImpl as byte
 use Rattle.cg_text.specs.contracts.keyword.KeywordTextToken.TheImpl as keyword
@@ -113,7 +113,9 @@ spaced_settled s ws h =
     let d = s.words.token in
     let words : List ℕ → List (List ℕ) → Type 0 = IsDistinctAfter d.items.items (word.ghosts.means d.current) (SpellsWord d.start.controller) d.separator in
     or_ready_settled s.words.begun words s.words.value (items_size length d.items.items + length d.current.bytes.items) (joined_bound length length) s.words.fresh
-    (λ all g. list_settled (word.ghosts.means d.current) (SpellsWord d.start.controller) d.separator d.items.items length length (length d.current.bytes.items) (λ w f. word_settled d.current.controller d.current.bytes.items w f) all g.0) ws h
+    (λ all g. list_settled (word.ghosts.means d.current)
+    (SpellsWord d.start.controller) d.separator d.items.items length length (length d.current.bytes.items)
+    (λ w f. word_settled d.current.controller d.current.bytes.items w f) all g.0) ws h
 
 words_settled : (s : WordsFile) (v : Value) → words.ghosts.means s [] v → words.ghosts.size s ≤ held_of_whole v
 words_settled s v h =
@@ -130,7 +132,9 @@ flat_settled s v h =
     let k = s.text.token in
     let pairs = k.pairs.building.pairs in
     turned_settled flat_value _ flat_size held_of_whole h.0 v h.2
-    (keyed_settled (λ (p : FlatPair). p.key) (λ ps. ps) pairs _ _ k.end k.stage k.ended.items length flat_size (flat_size pairs) (length k.key.bytes.items) 0 k.kept k.new_key k.new_value (same_settled (flat_size pairs) (flat_size pairs) refl) h.0 h.1)
+    (keyed_settled (λ (p : FlatPair). p.key) (λ ps. ps) pairs _ _ k.end k.stage k.ended.items length flat_size
+    (flat_size pairs) (length k.key.bytes.items) 0 k.kept k.new_key k.new_value
+    (same_settled (flat_size pairs) (flat_size pairs) refl) h.0 h.1)
     (flat_held h.0)
 
 device_stats_settled : (s : DeviceStatsFile) (v : Value) → device_stats.ghosts.means s [] v → device_stats.ghosts.size s ≤ held_of_whole v
@@ -170,11 +174,15 @@ why_settled s = maybe_settled s.parts.begun (λ rest (v : ReasonValue). IsPair K
     (λ v h. reason_settled s.parts.token.token.bytes.items v.1 (label_nil reason.ghosts.means s.parts.token.label s.parts.token.token v h))
 
 invalid_settled : (s : InvalidText) (v : Option InvalidValue) → invalid.ghosts.means s [] v → invalid.ghosts.size s ≤ maybe_size (λ (x : InvalidValue). maybe_size (λ (y : ReasonValue). length y.1 + 1) x.1) v
-invalid_settled s = maybe_settled s.parts.begun (λ rest (v : InvalidValue). IsPair KeywordRest why.ghosts.means s.parts.token.label s.parts.token.token rest v.0 v.1) (why.ghosts.size s.parts.token.token) (λ x. maybe_size (λ y. length y.1 + 1) x.1) s.parts.fresh
+invalid_settled s = maybe_settled s.parts.begun
+    (λ rest (v : InvalidValue). IsPair KeywordRest why.ghosts.means s.parts.token.label s.parts.token.token rest v.0
+    v.1) (why.ghosts.size s.parts.token.token) (λ x. maybe_size (λ y. length y.1 + 1) x.1) s.parts.fresh
     (λ v h. why_settled s.parts.token.token v.1 (label_nil why.ghosts.means s.parts.token.label s.parts.token.token v h))
 
 root_settled : (s : RootText) (v : RootValue × Option InvalidValue) → root.ghosts.means s [] v → root.ghosts.size s ≤ 0 + maybe_size (λ (x : InvalidValue). maybe_size (λ (y : ReasonValue). length y.1 + 1) x.1) v.1
-root_settled s v h = sequence_settled _ invalid.ghosts.means s.parts.in_second s.parts.first s.parts.second 0 (invalid.ghosts.size s.parts.second) (λ _. 0) (maybe_size (λ x. maybe_size (λ y. length y.1 + 1) x.1)) (λ x k. zero_least 0) (invalid_settled s.parts.second) v.0 v.1 h
+root_settled s v h = sequence_settled _ invalid.ghosts.means s.parts.in_second s.parts.first s.parts.second 0
+    (invalid.ghosts.size s.parts.second) (λ _. 0) (maybe_size (λ x. maybe_size (λ y. length y.1 + 1) x.1))
+    (λ x k. zero_least 0) (invalid_settled s.parts.second) v.0 v.1 h
 
 partition_settled : (s : PartitionFile) (v : Value) → partition.ghosts.means s [] v → partition.ghosts.size s ≤ held_of_whole v
 partition_settled s v h =

@@ -11,7 +11,6 @@ use Rattle.cg_value.specs.Held.{held_of_key}
 use Rattle.cg_value.specs.declared.flat.FlatPair.{FlatPair}
 use Rattle.cg_value.specs.declared.value.NestedLine.{NestedLine}
 use Rattle.cg_value.specs.declared.value.NestedPair.{NestedPair}
-use Rattle.cg_value.specs.declared.value.Value.{Value}
 use Rattle.cg_value.specs.declared.value.Value.TheVariants.{Flat, Nested}
 use Rattle.cg_join.specs.SettledLaws.{joined_bound}
 
@@ -52,7 +51,10 @@ bare_lines_held_after print first vs m e = further m (items_size (λ _. 0) vs) (
 -- Of raw lines.
 pub raw_lines_held : (lines : List (List ℕ)) → items_size length lines ≤ length lines + sum_by length lines
 raw_lines_held [] = omega arith
-raw_lines_held (line ∷ lines) = one_more (items_size length (line ∷ lines)) (sum_by length (line ∷ lines)) (length line) (items_size length lines) (length lines) (length line) (sum_by length lines) (sum_by-cons length line lines) refl (omega arith) (raw_lines_held lines)
+raw_lines_held (line ∷ lines) =
+    one_more (items_size length (line ∷ lines)) (sum_by length (line ∷ lines)) (length line)
+    (items_size length lines) (length lines) (length line) (sum_by length lines)
+    (sum_by-cons length line lines) refl (omega arith) (raw_lines_held lines)
 
 -- Of one line, of which so much is held as of its value.
 pub line_held : (n m : ℕ) → m ≡ 0 → n + m ≤ 1 + n
@@ -76,7 +78,10 @@ last_word sum n r e = omega (arith, e)
 joined_within : (ws : List (List ℕ)) → joined_bound length length ws ≤ sum_by (λ w. length w + 1) ws
 joined_within [] = omega arith
 joined_within (w ∷ []) = last_word (sum_by (λ w. length w + 1) (w ∷ [])) (length w) 0 (sum_by-cons (λ w. length w + 1) w [])
-joined_within (w ∷ x ∷ ws) = words_joined (joined_bound length length (w ∷ x ∷ ws)) (sum_by (λ w. length w + 1) (w ∷ x ∷ ws)) (length w) (joined_bound length length (x ∷ ws)) (length w + 1) (sum_by (λ w. length w + 1) (x ∷ ws)) (sum_by-cons (λ w. length w + 1) w (x ∷ ws)) refl refl (joined_within (x ∷ ws))
+joined_within (w ∷ x ∷ ws) = words_joined (joined_bound length length (w ∷ x ∷ ws))
+    (sum_by (λ w. length w + 1) (w ∷ x ∷ ws)) (length w) (joined_bound length length (x ∷ ws)) (length w + 1)
+    (sum_by (λ w. length w + 1) (x ∷ ws)) (sum_by-cons (λ w. length w + 1) w (x ∷ ws)) refl refl
+    (joined_within (x ∷ ws))
 
 one_place : (n m k : ℕ) → k ≡ 0 → n ≤ m → n + k ≤ 1 + m
 one_place n m k e h = omega (arith, e, h)
@@ -98,8 +103,17 @@ nested_pair p = omega arith
 nested_line : (n m k : ℕ) → m ≤ k → n + m ≤ (n + 2) + k
 nested_line n m k h = omega (arith, h)
 
-nested_line_held : (l : NestedLine) → pair_size (λ (q : NestedLine). q.key) (λ q. q.pairs) length (items_size (pair_size (λ (p : NestedPair). p.key) (λ p. p.number) length (λ _. 0))) l ≤ held_of_key l.key + sum_by (λ (p : NestedPair). held_of_key p.key) l.pairs
-nested_line_held l = nested_line (length l.key) (items_size (pair_size (λ (p : NestedPair). p.key) (λ p. p.number) length (λ _. 0)) l.pairs) (sum_by (λ (p : NestedPair). held_of_key p.key) l.pairs) (items_within (pair_size (λ (p : NestedPair). p.key) (λ p. p.number) length (λ _. 0)) (λ p. held_of_key p.key) nested_pair l.pairs)
+nested_line_held : (l : NestedLine) →
+    pair_size (λ (q : NestedLine). q.key) (λ q. q.pairs) length
+    (items_size (pair_size (λ (p : NestedPair). p.key) (λ p. p.number) length (λ _. 0))) l ≤ held_of_key l.key +
+    sum_by (λ (p : NestedPair). held_of_key p.key) l.pairs
+nested_line_held l = nested_line (length l.key)
+    (items_size (pair_size (λ (p : NestedPair). p.key) (λ p. p.number) length (λ _. 0)) l.pairs)
+    (sum_by (λ (p : NestedPair). held_of_key p.key) l.pairs)
+    (items_within (pair_size (λ (p : NestedPair). p.key) (λ p. p.number) length (λ _. 0))
+    (λ p. held_of_key p.key) nested_pair l.pairs)
 
 pub nested_held : (ls : List NestedLine) → items_size (pair_size (λ (q : NestedLine). q.key) (λ q. q.pairs) length (items_size (pair_size (λ (p : NestedPair). p.key) (λ p. p.number) length (λ _. 0)))) ls ≤ held_of_whole (Nested ls)
-nested_held ls = lines_held (pair_size (λ (q : NestedLine). q.key) (λ q. q.pairs) length (items_size (pair_size (λ (p : NestedPair). p.key) (λ p. p.number) length (λ _. 0)))) (λ l. held_of_key l.key + sum_by (λ p. held_of_key p.key) l.pairs) print_nested_line nested_line_held ls
+nested_held ls = lines_held (pair_size (λ (q : NestedLine). q.key) (λ q. q.pairs) length
+    (items_size (pair_size (λ (p : NestedPair). p.key) (λ p. p.number) length (λ _. 0))))
+    (λ l. held_of_key l.key + sum_by (λ p. held_of_key p.key) l.pairs) print_nested_line nested_line_held ls

@@ -46,7 +46,8 @@ use Rattle.cg_value.specs.LineLaws.{plain_lines}
 use Rattle.cg_value.specs.Lines.{AreLinesOf, IsOneLine, unlines}
 use Rattle.cg_value.specs.Print.{print_of}
 use Rattle.cg_value.specs.PrintLaws.{print_fits}
-use Rattle.cg_value.specs.ReadLine.{AreAverages, AreFlatLines, AreNestedLines, ArePressureLines, AreWeightLines, AreWords, IsCpuMax, IsDefaultLine, IsFlatLine, IsLimitLine, IsMode, IsNestedLine, IsPartition, IsPressureLine, IsRaw, IsStatLine, IsTargetLine, IsWeightLine, mode_text, words_line}
+use Rattle.cg_value.specs.ReadLine.{AreAverages, AreFlatLines, AreNestedLines, ArePressureLines, AreWeightLines, AreWords, IsCpuMax, IsDefaultLine, IsFlatLine, IsLimitLine, IsMode, IsNestedLine}
+use Rattle.cg_value.specs.ReadLine.{IsPartition, IsPressureLine, IsRaw, IsStatLine, IsTargetLine, IsWeightLine, mode_text, words_line}
 use Rattle.cg_value.specs.TableLaws.{read_form_ok}
 use Rattle.cg_value.specs.declared.flat.FlatPair.{FlatPair}
 use Rattle.cg_value.specs.declared.kind.ReadForm.{ReadForm}
@@ -296,7 +297,9 @@ pressure_one (Some a) (Some b) (Some c) (Some d) lines h k =
 
 -- ---- Files
 
-made_one : {X : Type 0} (P : X → List (List ℕ) → Type 0) (make : X → Value) → ((x y : X) (lines : List (List ℕ)) → P x lines → P y lines → x ≡ y) → (v w : Value) (lines : List (List ℕ)) → IsMadeOf P make v lines → IsMadeOf P make w lines → v ≡ w
+made_one : {X : Type 0} (P : X → List (List ℕ) → Type 0) (make : X → Value) →
+    ((x y : X) (lines : List (List ℕ)) → P x lines → P y lines → x ≡ y) → (v w : Value) (lines : List (List ℕ)) →
+    IsMadeOf P make v lines → IsMadeOf P make w lines → v ≡ w
 made_one P make one v w lines h k = h.value ∙ ap make (one h.x k.x lines h.spelled k.spelled) ∙ sym k.value
 
 -- The same lines spell one value.

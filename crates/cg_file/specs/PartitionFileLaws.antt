@@ -19,7 +19,8 @@ use Rattle.cg_value.specs.declared.value.Role.{Role}
 use Rattle.cg_value.specs.declared.value.Role.TheVariants.{Member, Root, Isolated}
 use Rattle.cg_file.specs.Kinds.{held_of_whole}
 use Rattle.cg_file.specs.OneOrBoth.{Differ}
-use Rattle.cg_file.specs.PartitionTurned.{RootValue, InvalidValue, PartitionValue, ReasonValue, IsRootWord, IsReasonText, IsInvalidText, IsRootText, IsPartitionText, root_role, root_parts, partition_parts, partition_value, partition_size, reason_of}
+use Rattle.cg_file.specs.PartitionTurned.{RootValue, InvalidValue, PartitionValue, ReasonValue, IsRootWord, IsReasonText, IsInvalidText, IsRootText, IsPartitionText, root_role, root_parts}
+use Rattle.cg_file.specs.PartitionTurned.{partition_parts, partition_value, partition_size, reason_of}
 
 -- ---- Texts
 

@@ -1,5 +1,5 @@
 //! A file of a quota and its period (cgroup-v2.rst, cpu.max).
-ghost use Rattle.std.specs.Prelude.{◌≡◌, ◌≤◌, ◌+◌, ◌↔◌, true, IsTrue, IsFalse};
+ghost use Rattle.std.specs.Prelude.{◌≡◌};
 ghost use Rattle.cg_text.specs.Token.{Spells};
 ghost use Rattle.cg_value.specs.Files.{KindText};
 ghost use Rattle.cg_value.specs.declared.kind.ReadForm.TheVariants.{CpuMax as CpuMaxForm};

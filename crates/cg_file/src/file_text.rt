@@ -1,5 +1,5 @@
 //! The text of a file of any kind.
-ghost use Rattle.std.specs.Prelude.{◌≡◌, ◌≤◌, ◌+◌, ◌↔◌, true, IsTrue, IsFalse, length, take};
+ghost use Rattle.std.specs.Prelude.{◌≡◌, ◌≤◌, ◌+◌, true, length, take};
 ghost use Rattle.cg_text.specs.Scan.{FollowsRun};
 ghost use Rattle.cg_text.specs.Texts.{Lacks};
 ghost use Rattle.cg_text.specs.Token.{Spells};

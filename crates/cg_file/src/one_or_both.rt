@@ -1,5 +1,5 @@
 //! One of two tokens, or both in their order.
-ghost use Rattle.std.specs.Prelude.{◌≡◌, ℕ, ◌+◌, ◌≤◌, ◌↔◌, ◌||◌, List, [], ◌∷◌, IsTrue, IsFalse};
+ghost use Rattle.std.specs.Prelude.{◌≡◌, ◌+◌, ◌||◌, IsTrue};
 ghost use Rattle.cg_text.specs.Token.{Spells};
 ghost use Rattle.cg_join.specs.Join.{AreApart};
 ghost use Rattle.cg_join.specs.Repeat.{LacksEmpty};

@@ -1,5 +1,5 @@
 //! What may follow the device of a line of `io.stat` (cgroup-v2.rst, io.stat).
-ghost use Rattle.std.specs.Prelude.{◌≡◌, ℕ, ◌+◌, ◌≤◌, ◌↔◌, List, [], ◌∷◌, IsTrue, IsFalse};
+ghost use Rattle.std.specs.Prelude.{◌≡◌, IsFalse};
 ghost use Rattle.cg_text.specs.Token.{Spells};
 ghost use Rattle.cg_file.specs.Pad.{IsPadded, IsUnspaced, PadRest, is_known, pad_ends};
 

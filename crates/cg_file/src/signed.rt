@@ -1,5 +1,5 @@
 //! A file of one signed number (cgroup-v2.rst, cpu.weight.nice).
-ghost use Rattle.std.specs.Prelude.{◌≡◌, ◌≤◌, ◌+◌, ◌↔◌, true, IsTrue, IsFalse, ◌≤ℤ◌};
+ghost use Rattle.std.specs.Prelude.{◌≡◌, ◌≤◌, ◌≤ℤ◌};
 ghost use Rattle.cg_text.specs.Token.{Spells};
 ghost use Rattle.cg_value.specs.Files.{KindText};
 ghost use Rattle.cg_value.specs.declared.kind.ReadForm.TheVariants.{Signed as SignedForm};

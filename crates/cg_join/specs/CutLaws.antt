@@ -36,14 +36,18 @@ module _ {W : Type 0} (mark : List ℕ) (Q : List ℕ → W → Type 0) where
   )
 
   -- The same between two texts.
-  pub parts_is : {V : Type 0} (R : List ℕ → V → Type 0) (text : List ℕ) (v : V × (Unit {0} × W)) → IsConcat R (IsConcat (IsFixed mark) Q) text v ↔ ((front : List ℕ) × (back : List ℕ) × (text ≡ front ++ mark ++ back) × R front v.0 × Q back v.1.1)
+  pub parts_is : {V : Type 0} (R : List ℕ → V → Type 0) (text : List ℕ) (v : V × (Unit {0} × W)) →
+      IsConcat R (IsConcat (IsFixed mark) Q) text v ↔
+      ((front : List ℕ) × (back : List ℕ) × (text ≡ front ++ mark ++ back) × R front v.0 × Q back v.1.1)
   parts_is R text v = (
     λ h. (let k = (label_is h.back v.1).0 h.ends in (h.front, k.0, h.whole ∙ ap (λ x. h.front ++ x) k.1 ∙ sym (append_assoc h.front mark k.0), h.begins, k.2)),
     λ h. record { front = h.0; back = mark ++ h.1; whole = h.2 ∙ append_assoc h.0 mark h.1; begins = h.3; ends = (label_is (mark ++ h.1) v.1).1 (h.1, refl, h.4) },
   )
 
   -- A fixed text and a text before a third.
-  pub lead_is : {V : Type 0} (R : List ℕ → V → Type 0) (text : List ℕ) (v : (Unit {0} × W) × V) → IsConcat (IsConcat (IsFixed mark) Q) R text v ↔ ((middle : List ℕ) × (back : List ℕ) × (text ≡ mark ++ middle ++ back) × Q middle v.0.1 × R back v.1)
+  pub lead_is : {V : Type 0} (R : List ℕ → V → Type 0) (text : List ℕ) (v : (Unit {0} × W) × V) →
+      IsConcat (IsConcat (IsFixed mark) Q) R text v ↔
+      ((middle : List ℕ) × (back : List ℕ) × (text ≡ mark ++ middle ++ back) × Q middle v.0.1 × R back v.1)
   lead_is R text v = (
     λ h. (let k = (label_is h.front v.0).0 h.begins in (k.0, h.back, h.whole ∙ ap (λ x. x ++ h.back) k.1, k.2, h.ends)),
     λ h. record { front = mark ++ h.0; back = h.1; whole = h.2; begins = (label_is (mark ++ h.0) v.0).1 (h.0, refl, h.3); ends = h.4 },

@@ -1,5 +1,5 @@
 -- Lists of values that are all different.
-use Rattle.std.specs.Prelude.{◌≡◌, ℕ, Bool, false, ◌||◌, List, [], ◌∷◌}
+use Rattle.std.specs.Prelude.{ℕ, Bool, false, ◌||◌, List, [], ◌∷◌}
 use Rattle.cg_join.specs.Repeat.{AreJoined, IsListAfter}
 pub use Rattle.cg_text.specs.Distinct.{LacksValue, AreDistinct}
 

@@ -53,7 +53,10 @@ module _ {V W X : Type 0} (word : X → V) (value : X → W) (K : List ℕ → V
       let each = pair_bytes word value mark K D small f g in
       list_bytes R R separator small_separator each each text ps h.0
 
-  pub joined_some : (paired : V → W → X) → ((v : V) (w : W) → word (paired v w) ≡ v) → ((v : V) (w : W) → value (paired v w) ≡ w) → ((vs : List V) → (text : List ℕ) × (v : V) × K text v × LacksValue v vs) → ((text : List ℕ) × (w : W) × D text w) →
+  pub joined_some : (paired : V → W → X) → ((v : V) (w : W) → word (paired v w) ≡ v) →
+      ((v : V) (w : W) → value (paired v w) ≡ w) →
+      ((vs : List V) → (text : List ℕ) × (v : V) × K text v × LacksValue v vs) →
+      ((text : List ℕ) × (w : W) × D text w) →
       (text : List ℕ) × (ps : List X) × Joined text ps
   joined_some paired has_word has_value new some =
       let q = new_pair word value paired has_word has_value mark K D new some [] in

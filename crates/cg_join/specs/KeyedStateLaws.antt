@@ -6,7 +6,8 @@ use Rattle.cg_join.specs.ByteLaws.{lines_bytes}
 use Rattle.cg_join.specs.Distinct.{AreDistinct, LacksValue, any_value}
 use Rattle.cg_join.specs.DistinctLaws.{with_distinct}
 use Rattle.cg_join.specs.Keyed.{AreKeyedLines, IsKeyed}
-use Rattle.cg_join.specs.KeyedLaws.{and_both, distinct_first, distinct_last, keyed_alike, keyed_begun, keyed_bytes, keyed_empty, keyed_lacks, keyed_mark, keyed_marked, keyed_none, keyed_one, keyed_taken, more_line, new_begun, none_some, old_refused, one_kept, only_kept, turned_begins, turned_none, turned_same, turned_taken}
+use Rattle.cg_join.specs.KeyedLaws.{and_both, distinct_first, distinct_last, keyed_alike, keyed_begun, keyed_bytes, keyed_empty, keyed_lacks, keyed_mark, keyed_marked, keyed_none, keyed_one}
+use Rattle.cg_join.specs.KeyedLaws.{keyed_taken, more_line, new_begun, none_some, old_refused, one_kept, only_kept, turned_begins, turned_none, turned_same, turned_taken}
 use Rattle.cg_join.specs.KeyedState.{AreKeyedAfter, KeyedRest, kept_keys}
 use Rattle.cg_join.specs.Line.{LacksByte}
 use Rattle.cg_join.specs.LinesLaws.{lines_after_one, lines_begins, lines_ends, lines_new, lines_next, lines_none, lines_over, lines_same, lines_taken}
@@ -60,10 +61,16 @@ module _ {V W X Y : Type 0} (key : X → V) (value : X → W) where
         (rest_one key value K D alone mark kept paired whole km one_k one_d marked) (keyed_one key value alone mark T U paired whole tm one_t one_u) text h.0 k.0 h.1.0 k.1.0)
         ∙ k.2
 
-    pub state_bytes : mark < 256 → end < 256 → ((text : List ℕ) (v : V) → K text v → AreBytes text) → ((text : List ℕ) (w : W) → D text w → AreBytes text) → ((text : List ℕ) (v : V) → T text v → AreBytes text) → ((text : List ℕ) (w : W) → U text w → AreBytes text) →
+    pub state_bytes : mark < 256 → end < 256 → ((text : List ℕ) (v : V) → K text v → AreBytes text) →
+        ((text : List ℕ) (w : W) → D text w → AreBytes text) →
+        ((text : List ℕ) (v : V) → T text v → AreBytes text) →
+        ((text : List ℕ) (w : W) → U text w → AreBytes text) →
         (marked : Bool) (text : List ℕ) (y : Y) → IsTurned (AreKeyedAfter key items begun (KeyedRest key value K D alone mark marked kept) (IsKeyed key value T U alone mark) end) given text y → AreBytes text
     state_bytes small small_end f g i j marked text y h =
-        lines_bytes (KeyedRest key value K D alone mark marked kept) (IsKeyed key value T U alone mark) end small_end (rest_bytes key value K D alone mark kept small f g marked) (keyed_bytes key value alone mark T U small i j) begun text h.1.0.0 h.1.0.2
+        lines_bytes (KeyedRest key value K D alone mark marked kept)
+        (IsKeyed key value T U alone mark) end small_end
+        (rest_bytes key value K D alone mark kept small f g marked)
+        (keyed_bytes key value alone mark T U small i j) begun text h.1.0.0 h.1.0.2
 
 pub state_ends : {V X Y : Type 0} (key : X → V) (given : List X → Y) (items : List X) (P R : List ℕ → X → Type 0) (end : ℕ) (kept : List V) → AreDistinct (map key items ++ kept) → (begun : Bool) →
     IsTrue (not begun) ↔ ((y : Y) × IsTurned (AreKeyedAfter key items begun P R end) given [] y)
@@ -156,7 +163,9 @@ module _ {V W X Y : Type 0} (key : X → V) (value : X → W) (given : List X �
       (λ rest all h. lines_none end KeyLine R end (λ t p k. lacks [] t p k) (λ _ p k. none_some (value p) (sym a ∙ (keyed_empty key value alone mark K D p k).1)) begun items rest all h.0)
 
   -- The end, after a key that stands alone.
-  pub end_step : LacksByte KeyLine end → HasOneText KeyLine → (p : X) → K [] (key p) → alone ≡ Some (value p) → (new : List X) → new ≡ items ++ p ∷ [] → (F : List ℕ → X → Type 0) → ((rest : List ℕ) (q : X) → F rest q ↔ R rest q) → (rest : List ℕ) (y : Y) →
+  pub end_step : LacksByte KeyLine end → HasOneText KeyLine → (p : X) → K [] (key p) → alone ≡ Some (value p) →
+      (new : List X) → new ≡ items ++ p ∷ [] → (F : List ℕ → X → Type 0) →
+      ((rest : List ℕ) (q : X) → F rest q ↔ R rest q) → (rest : List ℕ) (y : Y) →
       IsTurned (AreKeyedAfter key new false F R end) given rest y ↔ KeyRest (end ∷ rest) y
   end_step lacks one p k a new e F f = rw e (turned_taken (AreKeyedAfter key (items ++ p ∷ []) false F R end) (AreKeyedAfter key items begun KeyLine R end) given end
       (λ rest all. with_distinct (lines_next end KeyLine F R p (inr (k, a)) one lacks f begun items rest all)))
@@ -170,7 +179,9 @@ module _ {V W X Y : Type 0} (key : X → V) (value : X → W) (given : List X �
       (text ++ end ∷ [], given (items ++ p ∷ []), (items ++ p ∷ [], more_line key items KeyLine R end begun (b ∷ text) p line d (rw (has_key k.1 c.1) k.3), refl))
 
   -- A byte of a key.
-  pub key_begins : (paired : V → W → X) → ((v : V) (w : W) → key (paired v w) ≡ v) → ((v : V) (w : W) → value (paired v w) ≡ w) → AreDistinct (map key items) → ((rest : List ℕ) × (w : W) × D rest w) → (b : ℕ) → (b ≡ mark → ⊥) → (b ≡ end → ⊥) →
+  pub key_begins : (paired : V → W → X) → ((v : V) (w : W) → key (paired v w) ≡ v) →
+      ((v : V) (w : W) → value (paired v w) ≡ w) → AreDistinct (map key items) →
+      ((rest : List ℕ) × (w : W) × D rest w) → (b : ℕ) → (b ≡ mark → ⊥) → (b ≡ end → ⊥) →
       (((more : List ℕ) × (v : V) × K (b ∷ more) v) → (rest : List ℕ) × (v : V) × K (b ∷ rest) v × LacksValue v (map key items)) →
       ((more : List ℕ) × (v : V) × K (b ∷ more) v) ↔ ((rest : List ℕ) × (y : Y) × KeyRest (b ∷ rest) y)
   key_begins paired has_key has_value d c b ne ne' longer = (
@@ -179,7 +190,9 @@ module _ {V W X Y : Type 0} (key : X → V) (value : X → W) (given : List X �
   )
 
 -- The steps, where the key is ended.
-module _ {V W X Y : Type 0} (key : X → V) (value : X → W) (given : List X → Y) (items : List X) (R : List ℕ → X → Type 0) (K : List ℕ → V → Type 0) (D : List ℕ → W → Type 0) (alone : Option W) (mark end : ℕ) (begun : Bool) (kept : List V) where
+module _ {V W X Y : Type 0} (key : X → V) (value : X → W) (given : List X → Y) (items : List X) (R : List ℕ → X →
+    Type 0) (K : List ℕ → V → Type 0) (D : List ℕ → W →
+    Type 0) (alone : Option W) (mark end : ℕ) (begun : Bool) (kept : List V) where
   abbrev ValueLine : List ℕ → X → Type 0
   ValueLine = KeyedRest key value K D alone mark true kept
 
@@ -205,7 +218,10 @@ module _ {V W X Y : Type 0} (key : X → V) (value : X → W) (given : List X �
       (λ rest all h. lines_none end ValueLine R b (λ t p k. f t (value p) k.1) (λ e. absurd (ne e)) begun items rest all h.0)
   value_refused (Err e) b ne f = tt
 
-  same_value : (D' : List ℕ → W → Type 0) → ((rest : List ℕ) (w : W) → D' rest w ↔ D rest w) → (rest : List ℕ) (y : Y) → IsTurned (AreKeyedAfter key items begun (KeyedRest key value K D' alone mark true kept) R end) given rest y ↔ ValueRest rest y
+  same_value : (D' : List ℕ → W → Type 0) → ((rest : List ℕ) (w : W) → D' rest w ↔ D rest w) →
+      (rest : List ℕ) (y : Y) → IsTurned
+      (AreKeyedAfter key items begun (KeyedRest key value K D' alone mark true kept) R end) given rest y ↔
+      ValueRest rest y
   same_value D' f =
       let Line' : List ℕ → X → Type 0 = KeyedRest key value K D' alone mark true kept in
       turned_same (AreKeyedAfter key items begun Line' R end) (AreKeyedAfter key items begun ValueLine R end) given
@@ -223,7 +239,9 @@ module _ {V W X Y : Type 0} (key : X → V) (value : X → W) (given : List X �
       (λ rest all h. lines_none end ValueLine R end (λ t p k. lacks [] t (value p) k.1) (λ _ p k. none (value p) k.1) begun items rest all h.0)
 
   -- The end, after a value.
-  pub value_step : LacksByte D end → HasOneText ValueLine → (p : X) → kept ≡ key p ∷ [] → D [] (value p) → (new : List X) → new ≡ items ++ p ∷ [] → (F : List ℕ → X → Type 0) → ((rest : List ℕ) (q : X) → F rest q ↔ R rest q) → (rest : List ℕ) (y : Y) →
+  pub value_step : LacksByte D end → HasOneText ValueLine → (p : X) → kept ≡ key p ∷ [] → D [] (value p) →
+      (new : List X) → new ≡ items ++ p ∷ [] → (F : List ℕ → X → Type 0) →
+      ((rest : List ℕ) (q : X) → F rest q ↔ R rest q) → (rest : List ℕ) (y : Y) →
       IsTurned (AreKeyedAfter key new false F R end) given rest y ↔ ValueRest (end ∷ rest) y
   value_step lacks one p k w new e F f = rw e (turned_taken (AreKeyedAfter key (items ++ p ∷ []) false F R end) (AreKeyedAfter key items begun ValueLine R end) given end
       (λ rest all. with_distinct (lines_next end ValueLine F R p (k, w) one (λ front more q h. lacks front more (value q) h.1) f begun items rest all)))

@@ -1,9 +1,9 @@
 -- What holds of a token after a fixed text.
-use Rattle.std.proofs.Common.{◌≡◌, ℕ, ◌↔◌, inl, inr, Bool, true, false, ◌&&◌, List, [], ◌∷◌, ◌++◌, drop, refl, sym, ◌∙◌, ap, IsTrue, IsFalse, Ok, Err}
+use Rattle.std.proofs.Common.{◌≡◌, ℕ, ◌↔◌, inl, inr, Bool, true, false, ◌&&◌, List, [], ◌∷◌, ◌++◌, drop, refl, sym, ◌∙◌, ap, IsTrue, Ok, Err}
 use Rattle.std.specs.Prelude.{OnErr}
 use Rattle.std.specs.declared.result.Result.{Result}
 use Rattle.cg_text.specs.Keyword.{text_of}
-use Rattle.cg_text.specs.Token.{IfTaken, IfRefused, UnlessTaken, Follows, NoneBegins, Same, Begins, Ends, Completes, HasOneValue, HoldsBytes, Spells}
+use Rattle.cg_text.specs.Token.{IfTaken, IfRefused, UnlessTaken, Follows, NoneBegins, Same, Begins, Ends, Completes, HasOneValue, HoldsBytes}
 use Rattle.cg_text.specs.declared.keyword.KeywordText.{KeywordText}
 use Rattle.cg_join.specs.ApartLaws.{fixed_spells}
 use Rattle.cg_join.specs.ByteLaws.{sequence_bytes}
@@ -11,7 +11,6 @@ use Rattle.cg_join.specs.Join.{IsPair, AreApart}
 use Rattle.cg_join.specs.Lawful.{KeywordRest, keyword_ends, keyword_lawful}
 use Rattle.cg_join.specs.LineLaws.{self_spells}
 use Rattle.cg_join.specs.SequenceLaws.{sequence_completes, sequence_ends, sequence_one, both_same, nil_pair, pair_follows_first, pair_none_begins, pair_begins_first, pair_begins, pair_same}
-use Rattle.cg_join.specs.TextBytes.{IsFixed}
 
 module _ {T W : Type 0} (M : T → List ℕ → W → Type 0) (label : KeywordText) where
   -- A fixed text that is whole goes on with no byte.
@@ -63,7 +62,9 @@ module _ {T W : Type 0} (M : T → List ℕ → W → Type 0) (label : KeywordTe
     )
 
   -- Before its end the text alone takes bytes.
-  pub label_follows : (label' : KeywordText) (token : T) (byte : ℕ) → Follows KeywordRest label byte label' → (rest : List ℕ) (v : Unit {0} × W) → IsPair KeywordRest M label' token rest v.0 v.1 ↔ IsPair KeywordRest M label token (byte ∷ rest) v.0 v.1
+  pub label_follows : (label' : KeywordText) (token : T) (byte : ℕ) → Follows KeywordRest label byte label' →
+      (rest : List ℕ) (v : Unit {0} × W) → IsPair KeywordRest M label' token rest v.0 v.1 ↔
+      IsPair KeywordRest M label token (byte ∷ rest) v.0 v.1
   label_follows label' token byte f rest v = pair_follows_first KeywordRest M label label' token byte (label_apart token) (keyword_lawful label').completes f rest v.0 v.1
 
   pub label_same : (label' : KeywordText) (token : T) → Same KeywordRest label label' → (rest : List ℕ) (v : Unit {0} × W) → IsPair KeywordRest M label' token rest v.0 v.1 ↔ IsPair KeywordRest M label token rest v.0 v.1

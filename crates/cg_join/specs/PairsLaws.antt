@@ -20,7 +20,9 @@ no_cons b rest e = cc
 
 module _ {V W X : Type 0} (word : X → V) (value : X → W) (mark : ℕ) where
   -- The texts of a pair's word and its value, in one way.
-  pub pair_cut : (K : List ℕ → V → Type 0) (D E : List ℕ → W → Type 0) → LacksByte K mark → (text : List ℕ) (p q : X) → (h : IsPairText word value K D mark text p) (k : IsPairText word value K E mark text q) → (h.front ≡ k.front) × (h.back ≡ k.back)
+  pub pair_cut : (K : List ℕ → V → Type 0) (D E : List ℕ → W → Type 0) → LacksByte K mark →
+      (text : List ℕ) (p q : X) → (h : IsPairText word value K D mark text p)
+      (k : IsPairText word value K E mark text q) → (h.front ≡ k.front) × (h.back ≡ k.back)
   pair_cut K D E lacks text p q h k =
       same_front mark K (λ front more v u a b. lacks front more u b) h.front h.back k.front k.back (word p) (word q) (sym h.whole ∙ k.whole) h.begins k.begins
 
@@ -265,7 +267,9 @@ pub new_word : {V : Type 0} (K : List ℕ → V → Type 0) (f : V → Bool) →
 new_word K f is vs none h = (h.0, h.1, lacks_value f vs h.0 none ((is h.0).1 h.1) (λ x e. (is x).1 (rw e h.1)))
 
 -- Any step of the word leaves it without the mark.
-pub lacks_stepped : {V E : Type 0} (mark : ℕ) (r : Result Bool E) (K K' : List ℕ → V → Type 0) (b : ℕ) → IfTaken r ((rest : List ℕ) (v : V) → K' rest v ↔ K (b ∷ rest) v) → UnlessTaken r ((rest : List ℕ) (v : V) → K' rest v ↔ K rest v) → LacksByte K mark → LacksByte K' mark
+pub lacks_stepped : {V E : Type 0} (mark : ℕ) (r : Result Bool E) (K K' : List ℕ → V → Type 0) (b : ℕ) →
+    IfTaken r ((rest : List ℕ) (v : V) → K' rest v ↔ K (b ∷ rest) v) →
+    UnlessTaken r ((rest : List ℕ) (v : V) → K' rest v ↔ K rest v) → LacksByte K mark → LacksByte K' mark
 lacks_stepped mark (Ok true) K K' b f g lacks front more v h = lacks (b ∷ front) more v ((f (front ++ mark ∷ more) v).0 h)
 lacks_stepped mark (Ok false) K K' b f g lacks front more v h = lacks front more v ((g (front ++ mark ∷ more) v).0 h)
 lacks_stepped mark (Err e) K K' b f g lacks front more v h = lacks front more v ((g (front ++ mark ∷ more) v).0 h)
@@ -280,7 +284,10 @@ module _ {V W X : Type 0} (word : X → V) (value : X → W) (mark separator : �
   pub word_step_taken : {E : Type 0} (r : Result Bool E) (K' : List ℕ → V → Type 0) (b : ℕ) → (b ≡ mark → ⊥) → LacksByte K mark → Stops D separator → ((more : List ℕ) × (p : X) × IsPairText word value K' D mark more p) →
       IfTaken r ((rest : List ℕ) (v : V) → K' rest v ↔ K (b ∷ rest) v) →
       IfTaken r ((rest : List ℕ) (all : List X) → ArePairsAfter word InWord items (IsPairText word value K' D mark) R separator rest all ↔ ArePairsAfter word InWord items (IsPairText word value K D mark) R separator (b ∷ rest) all)
-  word_step_taken (Ok true) K' b ne lacks stops c f = λ rest all. with_distinct (list_taken separator (IsPairText word value K D mark) (IsPairText word value K' D mark) R b (pair_stops word value mark K D separator lacks stops) c (word_taken word value mark K K' D b ne f) items rest all)
+  word_step_taken (Ok true) K' b ne lacks stops c f =
+      λ rest all. with_distinct (list_taken separator (IsPairText word value K D mark)
+      (IsPairText word value K' D mark) R b (pair_stops word value mark K D separator lacks stops) c
+      (word_taken word value mark K K' D b ne f) items rest all)
   word_step_taken (Ok false) K' b ne lacks stops c f = tt
   word_step_taken (Err e) K' b ne lacks stops c f = tt
 
@@ -329,9 +336,14 @@ module _ {V W X : Type 0} (word : X → V) (value : X → W) (mark separator : �
       (λ t p. (λ h. (mark_taken word value mark K D lacks t p).0 ((same (word p)).0 h.0, h.1), λ h. (let k = (mark_taken word value mark K D lacks t p).1 h in ((same (word p)).1 k.0, k.1)))) items rest all)
 
   -- A byte of the value.
-  pub value_step : (D' : List ℕ → W → Type 0) (b : ℕ) → Stops D separator → ((more : List ℕ) × (p : X) × PairRest word value K D' InValue mark more p) → ((rest : List ℕ) (w : W) → D' rest w ↔ D (b ∷ rest) w) → (rest : List ℕ) (all : List X) →
+  pub value_step : (D' : List ℕ → W → Type 0) (b : ℕ) → Stops D separator →
+      ((more : List ℕ) × (p : X) × PairRest word value K D' InValue mark more p) →
+      ((rest : List ℕ) (w : W) → D' rest w ↔ D (b ∷ rest) w) → (rest : List ℕ) (all : List X) →
       ArePairsAfter word InValue items (PairRest word value K D' InValue mark) R separator rest all ↔ ArePairsAfter word InValue items (PairRest word value K D InValue mark) R separator (b ∷ rest) all
-  value_step D' b stops c f rest all = with_distinct (list_taken separator (PairRest word value K D InValue mark) (PairRest word value K D' InValue mark) R b (value_stops word value K mark D separator stops) c (value_taken word value K mark D D' b f) items rest all)
+  value_step D' b stops c f rest all =
+      with_distinct (list_taken separator (PairRest word value K D InValue mark)
+      (PairRest word value K D' InValue mark) R b (value_stops word value K mark D separator stops) c
+      (value_taken word value K mark D D' b f) items rest all)
 
   pub value_step_same : (D' : List ℕ → W → Type 0) → ((rest : List ℕ) (w : W) → D' rest w ↔ D rest w) → (rest : List ℕ) (all : List X) →
       ArePairsAfter word InValue items (PairRest word value K D' InValue mark) R separator rest all ↔ ArePairsAfter word InValue items (PairRest word value K D InValue mark) R separator rest all
@@ -342,7 +354,9 @@ module _ {V W X : Type 0} (word : X → V) (value : X → W) (mark separator : �
   value_step_refused b none ended rest all h = list_none separator (PairRest word value K D InValue mark) R b (λ t p k. none t (value p) k.1) (λ e p k. ended e (value p) k.1) items rest all h.0
 
   -- The separator, where the value ends.
-  pub pair_step : (F : List ℕ → X → Type 0) (p : X) → K [] (word p) → D [] (value p) → HasOneText (PairRest word value K D InValue mark) → ((rest : List ℕ) (w : W) → D (separator ∷ rest) w → ⊥) → ((rest : List ℕ) (q : X) → F rest q ↔ R rest q) → (rest : List ℕ) (all : List X) →
+  pub pair_step : (F : List ℕ → X → Type 0) (p : X) → K [] (word p) → D [] (value p) →
+      HasOneText (PairRest word value K D InValue mark) → ((rest : List ℕ) (w : W) → D (separator ∷ rest) w → ⊥) →
+      ((rest : List ℕ) (q : X) → F rest q ↔ R rest q) → (rest : List ℕ) (all : List X) →
       ArePairsAfter word InWord (items ++ p ∷ []) F R separator rest all ↔ ArePairsAfter word InValue items (PairRest word value K D InValue mark) R separator (separator ∷ rest) all
   pair_step F p k d one none f rest all = with_distinct (list_next separator (PairRest word value K D InValue mark) F R p (k, d) one (λ t q h. none t (value q) h.1) f items rest all)
 
@@ -380,7 +394,9 @@ module _ {V W X : Type 0} (word : X → V) (value : X → W) (paired : V → W �
   )
 
   module _ (lacks : LacksByte K mark) (one : HasOneText K) (f : V → Bool) (is : (v : V) → IsTrue (f v) ↔ K [] v) (e : Bool) (ended : IsTrue e ↔ ((v : V) × K [] v)) where
-    mark_from : (n : Bool) → any_value f (map word items) ≡ n → ((rest : List ℕ) × (w : W) × D rest w) → IsTrue (e && not n) → (rest : List ℕ) × (all : List X) × ArePairsAfter word InWord items (IsPairText word value K D mark) R separator (mark ∷ rest) all
+    mark_from : (n : Bool) → any_value f (map word items) ≡ n → ((rest : List ℕ) × (w : W) × D rest w) →
+        IsTrue (e && not n) → (rest : List ℕ) × (all : List X)
+        × ArePairsAfter word InWord items (IsPairText word value K D mark) R separator (mark ∷ rest) all
     mark_from true q c h = absurd (let k = (and_parts e false h).1 in cc)
     mark_from false q c h =
         let k = new_word K f is (map word items) q (ended.0 (and_parts e true h).0) in
@@ -395,7 +411,9 @@ module _ {V W X : Type 0} (word : X → V) (value : X → W) (paired : V → W �
     mark_to true q rest all h = absurd (old_word_refused word value mark separator items R K D lacks one f (λ v t. (is v).0 t) q rest all h)
     mark_to false q rest all h = and_from e true (ended_word (list_begun separator (IsPairText word value K D mark) R mark rest h.0.0 h.0.2)) refl
 
-    pub mark_begins : ((rest : List ℕ) × (w : W) × D rest w) → IsTrue (e && not (any_value f (map word items))) ↔ ((rest : List ℕ) × (all : List X) × ArePairsAfter word InWord items (IsPairText word value K D mark) R separator (mark ∷ rest) all)
+    pub mark_begins : ((rest : List ℕ) × (w : W) × D rest w) → IsTrue (e && not (any_value f (map word items))) ↔
+        ((rest : List ℕ) × (all : List X)
+        × ArePairsAfter word InWord items (IsPairText word value K D mark) R separator (mark ∷ rest) all)
     mark_begins c = (mark_from (any_value f (map word items)) refl c, λ h. mark_to (any_value f (map word items)) refl h.0 h.1 h.2)
 
   module _ (b : ℕ) (a n e : Bool) (is_a : IsTrue a ↔ ((more : List ℕ) × (w : W) × D (b ∷ more) w)) (is_n : IsTrue n ↔ (b ≡ separator)) (is_e : IsTrue e ↔ ((w : W) × D [] w)) where
@@ -431,7 +449,9 @@ module _ {V W X : Type 0} (word : X → V) (value : X → W) (paired : V → W �
     value_begins k new = (value_from k new a n e refl refl refl, λ h. value_to (list_begun separator (PairRest word value K D InValue mark) R b h.0 h.2.0.0 h.2.0.2))
 
 -- A new pair.
-pub new_pair : {V W X : Type 0} (word : X → V) (value : X → W) (paired : V → W → X) (has_word : (v : V) (w : W) → word (paired v w) ≡ v) (has_value : (v : V) (w : W) → value (paired v w) ≡ w) (mark : ℕ) (T : List ℕ → V → Type 0) (U : List ℕ → W → Type 0) →
+pub new_pair : {V W X : Type 0} (word : X → V) (value : X → W) (paired : V → W → X) (has_word : (v : V) (w : W) →
+    word (paired v w) ≡ v) (has_value : (v : V) (w : W) → value (paired v w) ≡ w) (mark : ℕ) (T : List ℕ → V →
+    Type 0) (U : List ℕ → W → Type 0) →
     ((vs : List V) → (text : List ℕ) × (v : V) × T text v × LacksValue v vs) → ((text : List ℕ) × (w : W) × U text w) → (vs : List V) → (text : List ℕ) × (q : X) × IsPairText word value T U mark text q × LacksValue (word q) vs
 new_pair word value paired has_word has_value mark T U new some vs =
     let k = new vs in

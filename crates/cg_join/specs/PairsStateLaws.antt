@@ -107,12 +107,17 @@ module _ {V W X : Type 0} (word : X → V) (value : X → W) (K : List ℕ → V
   state_stops D InWord separator lacks stops = pair_stops word value mark K D separator lacks stops
   state_stops D InValue separator lacks stops = value_stops word value (WordAtHand word InValue items K) mark D separator stops
 
-  pub state_bytes : (D : List ℕ → W → Type 0) (stage : Stage) → mark < 256 → ((text : List ℕ) (v : V) → K text v → AreBytes text) → ((text : List ℕ) (w : W) → D text w → AreBytes text) → (text : List ℕ) (p : X) → PairRest word value (WordAtHand word stage items K) D stage mark text p → AreBytes text
+  pub state_bytes : (D : List ℕ → W → Type 0) (stage : Stage) → mark < 256 →
+      ((text : List ℕ) (v : V) → K text v → AreBytes text) → ((text : List ℕ) (w : W) → D text w → AreBytes text) →
+      (text : List ℕ) (p : X) → PairRest word value (WordAtHand word stage items K) D stage mark text p →
+      AreBytes text
   state_bytes D Before small f g text p h = pair_bytes word value mark K D small f g text p h
   state_bytes D InWord small f g text p h = pair_bytes word value mark K D small f g text p h
   state_bytes D InValue small f g text p h = g text (value p) h.1
 
-  pub state_one : (paired : V → W → X) → ((p : X) → paired (word p) (value p) ≡ p) → (D : List ℕ → W → Type 0) (stage : Stage) → LacksByte K mark → HasOneText K → HasOneText D → HasOneText (PairRest word value (WordAtHand word stage items K) D stage mark)
+  pub state_one : (paired : V → W → X) → ((p : X) → paired (word p) (value p) ≡ p) →
+      (D : List ℕ → W → Type 0) (stage : Stage) → LacksByte K mark → HasOneText K → HasOneText D →
+      HasOneText (PairRest word value (WordAtHand word stage items K) D stage mark)
   state_one paired whole D Before lacks one two = pair_one word value K mark paired whole D lacks one two
   state_one paired whole D InWord lacks one two = pair_one word value K mark paired whole D lacks one two
   state_one paired whole D InValue lacks one two = value_one word value (WordAtHand word InValue items K) mark paired whole D (one_last word items) two
@@ -146,7 +151,9 @@ module _ {V W X : Type 0} (word : X → V) (value : X → W) (mark separator : �
   last_is one v = rw e (λ h. rw (sym ((word_last word items p v).0 h)) k, λ h. (word_last word items p v).1 (one [] (word p) v k h))
 
   pub mark_pushed : HasOneText K → LacksByte K mark → Stops D separator → ((rest : List ℕ) × (w : W) × D rest w) → (K' : List ℕ → V → Type 0) → (rest : List ℕ) (all : List X) →
-      ArePairsAfter word InValue (whole_pairs InValue new) (PairRest word value (WordAtHand word InValue new K') D InValue mark) R separator rest all ↔ ArePairsAfter word InWord items (IsPairText word value K D mark) R separator (mark ∷ rest) all
+      ArePairsAfter word InValue (whole_pairs InValue new)
+      (PairRest word value (WordAtHand word InValue new K') D InValue mark) R separator rest all ↔
+      ArePairsAfter word InWord items (IsPairText word value K D mark) R separator (mark ∷ rest) all
   mark_pushed one lacks stops d K' =
       let front : before_last new ≡ items = ap before_last e ∙ before_pushed items p in
       let v = word p in

@@ -1,5 +1,5 @@
 -- What reading a whole text finds.
-use Rattle.std.specs.Prelude.{◌≡◌, ℕ, List, ◌++◌, ◌↔◌}
+use Rattle.std.specs.Prelude.{ℕ, List, ◌++◌, ◌↔◌}
 use Rattle.cg_text.specs.Texts.{TextOf, Viable, FirstBad}
 use Rattle.cg_join.specs.declared.reading.Found.{Found}
 use Rattle.cg_join.specs.declared.reading.Found.TheVariants.{Value, Refused, Cut}

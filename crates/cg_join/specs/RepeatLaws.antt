@@ -153,7 +153,9 @@ module _ {V : Type 0} (separator : ℕ) where
   begun_true true f e P b is is_f is_e (inr h) = refl
   begun_true false f e P b is is_f is_e (inr h) = rw (is_f.1 h.0, is_e.1 h.1) refl
 
-  true_begun : (a f e : Bool) (P R : List ℕ → V → Type 0) (items : List V) (b : ℕ) → ((text : List ℕ) × (w : V) × R text w) → IsTrue a ↔ ((more : List ℕ) × (u : V) × P (b ∷ more) u) → IsTrue f ↔ (b ≡ separator) → IsTrue e ↔ ((u : V) × P [] u) →
+  true_begun : (a f e : Bool) (P R : List ℕ → V → Type 0) (items : List V) (b : ℕ) →
+      ((text : List ℕ) × (w : V) × R text w) → IsTrue a ↔ ((more : List ℕ) × (u : V) × P (b ∷ more) u) → IsTrue f ↔
+      (b ≡ separator) → IsTrue e ↔ ((u : V) × P [] u) →
       IsTrue (a || (f && e)) → (rest : List ℕ) × (all : List V) × IsListAfter items P R separator (b ∷ rest) all
   true_begun true f e P R items b c is is_f is_e h = let k = is.0 refl in (k.0, items ++ k.1 ∷ [], (k.1 ∷ [], refl, k.2))
   true_begun false true e P R items b c is is_f is_e h =
@@ -163,7 +165,9 @@ module _ {V : Type 0} (separator : ℕ) where
   true_begun false false e P R items b c is is_f is_e h = absurd (cc)
 
   -- Which bytes begin a rest.
-  pub list_begins : (a f e : Bool) (P R : List ℕ → V → Type 0) (items : List V) (b : ℕ) → ((text : List ℕ) × (w : V) × R text w) → IsTrue a ↔ ((more : List ℕ) × (u : V) × P (b ∷ more) u) → IsTrue f ↔ (b ≡ separator) → IsTrue e ↔ ((u : V) × P [] u) →
+  pub list_begins : (a f e : Bool) (P R : List ℕ → V → Type 0) (items : List V) (b : ℕ) →
+      ((text : List ℕ) × (w : V) × R text w) → IsTrue a ↔ ((more : List ℕ) × (u : V) × P (b ∷ more) u) → IsTrue f ↔
+      (b ≡ separator) → IsTrue e ↔ ((u : V) × P [] u) →
       IsTrue (a || (f && e)) ↔ ((rest : List ℕ) × (all : List V) × IsListAfter items P R separator (b ∷ rest) all)
   list_begins a f e P R items b c is is_f is_e =
       (true_begun a f e P R items b c is is_f is_e, λ h. begun_true a f e P b is is_f is_e (list_begun P R b h.0 h.2.0 h.2.2))

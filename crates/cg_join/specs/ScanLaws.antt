@@ -2,7 +2,7 @@
 use Rattle.std.proofs.Common.{◌≡◌, ℕ, zero, suc, ◌≤◌, ◌<◌, ◌↔◌, Bool, true, List, [], ◌∷◌, ◌++◌, length, take, append_assoc, arith}
 use Rattle.cg_join.specs.Line.{LacksByte}
 use Rattle.cg_join.specs.Lines.{AreLinesAfter}
-use Rattle.cg_join.specs.LinesLaws.{lines_same, lines_taken}
+use Rattle.cg_join.specs.LinesLaws.{lines_taken}
 
 module _ {V : Type 0} (end : ℕ) where
   not_end : (P : List ℕ → V → Type 0) (b : ℕ) (rest : List ℕ) (v : V) → LacksByte P end → P (b ∷ rest) v → b ≡ end → ⊥

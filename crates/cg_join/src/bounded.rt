@@ -1,5 +1,5 @@
 //! Tokens of the numbers of a range that isn't empty.
-ghost use Rattle.std.specs.Prelude.{◌≡◌, ℕ, ◌≤◌, ◌<◌};
+ghost use Rattle.std.specs.Prelude.{◌≡◌, ◌≤◌, ◌<◌};
 ghost use Rattle.cg_text.specs.Decimal.{IsDecimal};
 ghost use Rattle.cg_text.specs.Limit.{IsLimit};
 ghost use Rattle.cg_text.specs.Token.{Spells};

@@ -1,5 +1,5 @@
 //! Utilization clamps.
-ghost use Rattle.std.specs.Prelude.{◌≡◌, ℕ, List, false, refl};
+ghost use Rattle.std.specs.Prelude.{◌≡◌, false, refl};
 ghost use Rattle.cg_text.specs.Token.{Spells};
 ghost use Rattle.cg_text.specs.Clamp.{IsClamp};
 

@@ -1,5 +1,5 @@
 //! Block devices.
-ghost use Rattle.std.specs.Prelude.{◌≡◌, ℕ, ◌≤◌, ◌<◌, List, ◌∷◌, false, refl};
+ghost use Rattle.std.specs.Prelude.{◌≡◌, ◌<◌, false, refl};
 ghost use Rattle.cg_text.specs.Token.{Spells};
 ghost use Rattle.cg_text.specs.Device.{IsDevice};
 ghost use Rattle.cg_join.specs.DeviceState.{HasNarrow, numbers_of};

@@ -1,5 +1,5 @@
 //! One or more words, all different, with a byte between.
-ghost use Rattle.std.specs.Prelude.{◌≡◌, ℕ, ◌+◌, ◌≤◌, ◌<◌, ◌↔◌, true, false, not, ◌&&◌, List, [], ◌++◌, ◌∷◌, IsTrue, IsFalse, vec_len, vec_capacity};
+ghost use Rattle.std.specs.Prelude.{◌≡◌, ◌+◌, ◌<◌, true, false, not, ◌&&◌, [], IsTrue, vec_len, vec_capacity};
 ghost use Rattle.cg_text.specs.Token.{Spells, told};
 ghost use Rattle.cg_join.specs.Repeat.{LacksEmpty, Stops, items_size, out_size};
 ghost use Rattle.cg_join.specs.Distinct.{AreDistinct, AreDistinctJoined, any_value, IsDistinctAfter};
@@ -129,13 +129,22 @@ impl Token for DistinctWords {
         held_in_joined::<WordText>(value.as_slice())
     }
 
-    ghost completes = { λ s. distinct_completes (⟦<WordText as Token>⟧.means s.current) (SpellsWord s.start.controller) s.separator s.items.items s.distinct (word_new s.current.controller s.current.bytes.items [] (⟦<WordText as Token>⟧.completes s.current) s.items.items) };
+    ghost completes = { λ s. distinct_completes (⟦<WordText as Token>⟧.means s.current)
+        (SpellsWord s.start.controller) s.separator s.items.items s.distinct
+        (word_new s.current.controller s.current.bytes.items []
+        (⟦<WordText as Token>⟧.completes s.current) s.items.items) };
 
     ghost no_size = { λ e s. absurd (true_not_false e) };
 
-    ghost ends_is = { λ s. distinct_ends (⟦<WordText as Token>⟧.means s.current) (SpellsWord s.start.controller) s.separator s.items.items (is_taken s.current.bytes.items) (⟦<WordText as Token>⟧.ends s.current) s.distinct (taken_is s.current.controller s.current.bytes.items s.current.sound) (⟦<WordText as Token>⟧.one_value s.current) (⟦<WordText as Token>⟧.ends_is s.current) };
+    ghost ends_is = { λ s. distinct_ends (⟦<WordText as Token>⟧.means s.current)
+        (SpellsWord s.start.controller) s.separator s.items.items (is_taken s.current.bytes.items)
+        (⟦<WordText as Token>⟧.ends s.current) s.distinct
+        (taken_is s.current.controller s.current.bytes.items s.current.sound)
+        (⟦<WordText as Token>⟧.one_value s.current) (⟦<WordText as Token>⟧.ends_is s.current) };
 
     ghost one_value = { λ s. distinct_one (⟦<WordText as Token>⟧.means s.current) (SpellsWord s.start.controller) s.separator s.items.items s.stops s.starts (⟦<WordText as Token>⟧.one_value s.current) (one_word s.start.controller) };
 
-    ghost holds_bytes = { λ s rest all h. list_bytes (⟦<WordText as Token>⟧.means s.current) (SpellsWord s.start.controller) s.separator s.small (⟦<WordText as Token>⟧.holds_bytes s.current) (word_text_bytes s.start.controller) rest h.0.0 h.0.2 };
+    ghost holds_bytes = { λ s rest all h. list_bytes (⟦<WordText as Token>⟧.means s.current)
+        (SpellsWord s.start.controller) s.separator s.small (⟦<WordText as Token>⟧.holds_bytes s.current)
+        (word_text_bytes s.start.controller) rest h.0.0 h.0.2 };
 }

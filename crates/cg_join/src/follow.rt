@@ -1,5 +1,5 @@
 //! What follows a key.
-ghost use Rattle.std.specs.Prelude.{◌≡◌, ℕ, Option, Some, None};
+ghost use Rattle.std.specs.Prelude.{◌≡◌, Option, Some, None};
 
 use crate::start::Start;
 use crate::starts::NumberStart;

@@ -1,7 +1,7 @@
 //! Any number of lines of a key and what follows it, the keys all different: the flat keyed and the nested keyed
 //! files of cgroup v2 (cgroup-v2.rst, "Interface Files", "Format").
-ghost use Rattle.std.specs.Prelude.{◌≡◌, ℕ, ◌+◌, ◌≤◌, ◌<◌, ◌↔◌, Bool, true, false, not, ◌&&◌, Option, Some, List, [], ◌++◌, ◌∷◌, IsTrue, IsFalse, map, length, OnErr};
-ghost use Rattle.cg_text.specs.Token.{Begins, Follows, IfRefused, IfTaken, NoneBegins, Same, Spells, UnlessTaken, told};
+ghost use Rattle.std.specs.Prelude.{◌≡◌, ◌+◌, ◌≤◌, ◌<◌, ◌↔◌, true, false, not, ◌&&◌, Some, [], ◌++◌, IsTrue, IsFalse, map, length, OnErr};
+ghost use Rattle.cg_text.specs.Token.{Begins, Follows, IfRefused, IfTaken, NoneBegins, Same, Spells, UnlessTaken};
 ghost use Rattle.cg_text.specs.WordState.{is_taken};
 ghost use Rattle.cg_join.specs.Distinct.{AreDistinct, any_value};
 ghost use Rattle.cg_join.specs.DistinctLaws.{AreDistinct_prop};
@@ -229,7 +229,11 @@ impl<V: Token, B: Follow<V>, C: Collection<V>> Token for KeyedLines<V, B, C> {
     ghost use Rattle.cg_join.specs.KeyedStateLaws.{state_bytes, state_completes, state_ends, state_one};
     ghost use Rattle.cg_join.specs.WordStartLaws.{one_word, word_new, word_text_bytes};
 
-    ghost means = { λ s. IsTurned (AreKeyedAfter C.key_of (C.pairs_of s.pairs) (is_begun s.stage) (KeyedRest C.key_of C.value_of (⟦<WordText as Token>⟧.means s.key) (V.means s.value) (B.alone s.values) s.mark (is_marked s.stage) s.ended.items) (IsKeyed C.key_of C.value_of (SpellsWord s.keys.controller) (B.texts s.values) (B.alone s.values) s.mark) s.end) C.given };
+    ghost means = { λ s. IsTurned (AreKeyedAfter C.key_of (C.pairs_of s.pairs) (is_begun s.stage)
+        (KeyedRest C.key_of C.value_of (⟦<WordText as Token>⟧.means s.key) (V.means s.value)
+        (B.alone s.values) s.mark (is_marked s.stage) s.ended.items)
+        (IsKeyed C.key_of C.value_of (SpellsWord s.keys.controller) (B.texts s.values) (B.alone s.values) s.mark)
+        s.end) C.given };
 
     ghost size = { λ s. C.size s.pairs + items_size ⟦<WordText as Token>⟧.value_size s.ended.items + (⟦<WordText as Token>⟧.size s.key + V.size s.value) };
 
@@ -285,16 +289,27 @@ impl<V: Token, B: Follow<V>, C: Collection<V>> Token for KeyedLines<V, B, C> {
         C::held_in(value)
     }
 
-    ghost completes = { λ s. state_completes C.key_of C.value_of C.paired C.has_key C.has_value C.given (C.pairs_of s.pairs) (IsKeyed C.key_of C.value_of (SpellsWord s.keys.controller) (B.texts s.values) (B.alone s.values) s.mark) (⟦<WordText as Token>⟧.means s.key) (V.means s.value) (B.alone s.values) s.mark s.end (is_begun s.stage) s.ended.items s.distinct (is_marked s.stage) s.kept
+    ghost completes = { λ s. state_completes C.key_of C.value_of C.paired C.has_key C.has_value C.given
+        (C.pairs_of s.pairs) (IsKeyed C.key_of C.value_of (SpellsWord s.keys.controller) (B.texts s.values)
+        (B.alone s.values) s.mark) (⟦<WordText as Token>⟧.means s.key) (V.means s.value)
+        (B.alone s.values) s.mark s.end (is_begun s.stage) s.ended.items s.distinct (is_marked s.stage) s.kept
         (word_new s.key.controller s.key.bytes.items [] (⟦<WordText as Token>⟧.completes s.key) (map C.key_of (C.pairs_of s.pairs))) (V.completes s.value) };
 
     ghost no_size = { λ e s. absurd (true_not_false e) };
 
-    ghost ends_is = { λ s. state_ends C.key_of C.given (C.pairs_of s.pairs) (KeyedRest C.key_of C.value_of (⟦<WordText as Token>⟧.means s.key) (V.means s.value) (B.alone s.values) s.mark (is_marked s.stage) s.ended.items) (IsKeyed C.key_of C.value_of (SpellsWord s.keys.controller) (B.texts s.values) (B.alone s.values) s.mark) s.end s.ended.items s.distinct (is_begun s.stage) };
+    ghost ends_is = { λ s. state_ends C.key_of C.given (C.pairs_of s.pairs)
+        (KeyedRest C.key_of C.value_of (⟦<WordText as Token>⟧.means s.key) (V.means s.value)
+        (B.alone s.values) s.mark (is_marked s.stage) s.ended.items)
+        (IsKeyed C.key_of C.value_of (SpellsWord s.keys.controller) (B.texts s.values) (B.alone s.values) s.mark)
+        s.end s.ended.items s.distinct (is_begun s.stage) };
 
-    ghost one_value = { λ s. state_one C.key_of C.value_of C.given (C.pairs_of s.pairs) (⟦<WordText as Token>⟧.means s.key) (V.means s.value) (SpellsWord s.keys.controller) (B.texts s.values) (B.alone s.values) s.mark s.end (is_begun s.stage) s.ended.items C.paired C.whole s.apart
+    ghost one_value = { λ s. state_one C.key_of C.value_of C.given (C.pairs_of s.pairs)
+        (⟦<WordText as Token>⟧.means s.key) (V.means s.value) (SpellsWord s.keys.controller) (B.texts s.values)
+        (B.alone s.values) s.mark s.end (is_begun s.stage) s.ended.items C.paired C.whole s.apart
         s.key_mark s.key_end s.keys_mark s.keys_end s.value_end s.values_end (⟦<WordText as Token>⟧.one_value s.key) (V.one_value s.value) (one_word s.keys.controller) (B.one_text s.values) (is_marked s.stage) };
 
-    ghost holds_bytes = { λ s. state_bytes C.key_of C.value_of C.given (C.pairs_of s.pairs) (⟦<WordText as Token>⟧.means s.key) (V.means s.value) (SpellsWord s.keys.controller) (B.texts s.values) (B.alone s.values) s.mark s.end (is_begun s.stage) s.ended.items s.small_mark s.small_end
+    ghost holds_bytes = { λ s. state_bytes C.key_of C.value_of C.given (C.pairs_of s.pairs)
+        (⟦<WordText as Token>⟧.means s.key) (V.means s.value) (SpellsWord s.keys.controller) (B.texts s.values)
+        (B.alone s.values) s.mark s.end (is_begun s.stage) s.ended.items s.small_mark s.small_end
         (⟦<WordText as Token>⟧.holds_bytes s.key) (V.holds_bytes s.value) (word_text_bytes s.keys.controller) (B.text_bytes s.values) (is_marked s.stage) };
 }

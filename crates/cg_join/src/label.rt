@@ -1,7 +1,7 @@
 //! A token after a fixed text.
-ghost use Rattle.std.specs.Prelude.{◌≡◌, ℕ, ◌&&◌, List, [], ◌∷◌};
+ghost use Rattle.std.specs.Prelude.{◌≡◌, ◌&&◌, [], ◌∷◌};
 ghost use Rattle.cg_text.specs.Keyword.{text_of};
-ghost use Rattle.cg_text.specs.Token.{Spells, told};
+ghost use Rattle.cg_text.specs.Token.{Spells};
 ghost use Rattle.cg_join.specs.Join.{IsPair};
 ghost use Rattle.cg_join.specs.Spelling.{IsConcat};
 ghost use Rattle.cg_join.specs.TextBytes.{IsFixed};

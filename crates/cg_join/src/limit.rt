@@ -1,5 +1,5 @@
 //! Limits.
-ghost use Rattle.std.specs.Prelude.{◌≡◌, ℕ, ◌≤◌, ◌<◌, List, MatchOption, ⊤, false, refl};
+ghost use Rattle.std.specs.Prelude.{◌≡◌, ◌≤◌, ◌<◌, MatchOption, ⊤, false, refl};
 ghost use Rattle.cg_text.specs.Token.{Spells};
 ghost use Rattle.cg_text.specs.Limit.{IsLimit};
 

@@ -1,5 +1,5 @@
 //! A token's text, or none.
-ghost use Rattle.std.specs.Prelude.{◌≡◌, ℕ, ◌+◌, ◌≤◌, ◌↔◌, not, ◌||◌, List, [], IsTrue, IsFalse};
+ghost use Rattle.std.specs.Prelude.{◌≡◌, not, ◌||◌, IsFalse};
 ghost use Rattle.cg_text.specs.Token.{Spells};
 ghost use Rattle.cg_join.specs.Maybe.{IsMaybe, MaybeRest, maybe_size};
 ghost use Rattle.cg_join.specs.Repeat.{LacksEmpty};

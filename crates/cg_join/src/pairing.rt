@@ -1,5 +1,5 @@
 //! Pairs of a word and a value.
-ghost use Rattle.std.specs.Prelude.{◌≡◌, ℕ, ◌+◌, ◌≤◌, ◌<◌, Bool, List, [], ◌++◌, ◌∷◌, IsTrue, map, length, vec_len, vec_capacity, not, ◌&&◌};
+ghost use Rattle.std.specs.Prelude.{◌≡◌, ℕ, ◌≤◌, ◌<◌, List, [], IsTrue, map, length, not};
 ghost use Rattle.cg_text.specs.Token.{Spells, told};
 ghost use Rattle.cg_text.specs.WordState.{is_taken};
 ghost use Rattle.cg_join.specs.Repeat.{items_size};

@@ -1,5 +1,5 @@
 //! Any number of pairs of a word and a value, the words all different.
-ghost use Rattle.std.specs.Prelude.{◌≡◌, ℕ, ◌+◌, ◌≤◌, ◌<◌, ◌↔◌, Bool, true, false, List, [], ◌++◌, ◌∷◌, IsTrue, map, length, OnErr};
+ghost use Rattle.std.specs.Prelude.{◌≡◌, ◌+◌, ◌≤◌, ◌<◌, true, false, [], map, length, OnErr};
 ghost use Rattle.cg_text.specs.Token.{Begins, Follows, IfRefused, IfTaken, NoneBegins, Same, Spells, UnlessTaken, told};
 ghost use Rattle.cg_join.specs.Repeat.{Stops, items_size};
 ghost use Rattle.cg_join.specs.Line.{LacksByte};
@@ -186,7 +186,12 @@ impl<V: Token, B: Start<V>, F: Pairing<V>> Token for DistinctPairs<V, B, F> {
     ghost use Rattle.cg_join.specs.WordStartLaws.{one_word, word_new, word_text_bytes};
     ghost use Rattle.cg_join.specs.PairsStateLaws.{state_bytes, state_completes, state_ends, state_one, state_stops};
 
-    ghost means = { λ s rest all. ArePairsAfter F.word_of s.stage (whole_pairs s.stage s.items.items) (PairRest F.word_of F.value_of (WordAtHand F.word_of s.stage s.items.items (⟦<WordText as Token>⟧.means s.word)) (V.means s.value) s.stage s.mark) (IsPairText F.word_of F.value_of (SpellsWord s.words.controller) (B.texts s.values) s.mark) s.separator rest all };
+    ghost means = { λ s rest all. ArePairsAfter F.word_of s.stage (whole_pairs s.stage s.items.items)
+        (PairRest F.word_of F.value_of
+        (WordAtHand F.word_of s.stage s.items.items (⟦<WordText as Token>⟧.means s.word))
+        (V.means s.value) s.stage s.mark)
+        (IsPairText F.word_of F.value_of (SpellsWord s.words.controller) (B.texts s.values) s.mark) s.separator rest
+        all };
 
     ghost size = { λ s. items_size (pair_size F.word_of F.value_of ⟦<WordText as Token>⟧.value_size V.value_size) s.items.items + (⟦<WordText as Token>⟧.size s.word + V.size s.value) };
 
@@ -260,21 +265,35 @@ impl<V: Token, B: Start<V>, F: Pairing<V>> Token for DistinctPairs<V, B, F> {
         held_in_pairs::<V, F>(value.as_slice())
     }
 
-    ghost completes = { λ s. state_completes F.word_of F.value_of F.paired F.has_word F.has_value s.items.items (IsPairText F.word_of F.value_of (SpellsWord s.words.controller) (B.texts s.values) s.mark) s.separator s.mark (⟦<WordText as Token>⟧.means s.word) (V.means s.value) s.distinct s.stage
+    ghost completes = { λ s. state_completes F.word_of F.value_of F.paired F.has_word F.has_value s.items.items
+        (IsPairText F.word_of F.value_of (SpellsWord s.words.controller) (B.texts s.values) s.mark) s.separator
+        s.mark (⟦<WordText as Token>⟧.means s.word) (V.means s.value) s.distinct s.stage
         (word_new s.word.controller s.word.bytes.items [] (⟦<WordText as Token>⟧.completes s.word) (map F.word_of s.items.items)) (V.completes s.value) s.begun };
 
     ghost no_size = { λ e s. absurd (true_not_false e) };
 
-    ghost ends_is = { λ s. state_ends F.word_of F.value_of F.paired F.has_word F.has_value s.items.items (IsPairText F.word_of F.value_of (SpellsWord s.words.controller) (B.texts s.values) s.mark) s.separator s.mark (⟦<WordText as Token>⟧.means s.word) (V.means s.value) s.distinct s.stage (V.ends s.value) (V.ends_is s.value) s.begun };
+    ghost ends_is = { λ s. state_ends F.word_of F.value_of F.paired F.has_word F.has_value s.items.items
+        (IsPairText F.word_of F.value_of (SpellsWord s.words.controller) (B.texts s.values) s.mark) s.separator
+        s.mark (⟦<WordText as Token>⟧.means s.word) (V.means s.value) s.distinct s.stage (V.ends s.value)
+        (V.ends_is s.value) s.begun };
 
-    ghost one_value = { λ s rest v w h k. led_after_one s.separator s.stage (whole_pairs s.stage s.items.items) (PairRest F.word_of F.value_of (WordAtHand F.word_of s.stage s.items.items (⟦<WordText as Token>⟧.means s.word)) (V.means s.value) s.stage s.mark) (IsPairText F.word_of F.value_of (SpellsWord s.words.controller) (B.texts s.values) s.mark)
+    ghost one_value = { λ s rest v w h k. led_after_one s.separator s.stage (whole_pairs s.stage s.items.items)
+        (PairRest F.word_of F.value_of
+        (WordAtHand F.word_of s.stage s.items.items (⟦<WordText as Token>⟧.means s.word))
+        (V.means s.value) s.stage s.mark)
+        (IsPairText F.word_of F.value_of (SpellsWord s.words.controller) (B.texts s.values) s.mark)
         (state_stops F.word_of F.value_of (⟦<WordText as Token>⟧.means s.word) s.mark s.items.items (V.means s.value) s.stage s.separator s.lacks s.stops)
         (pair_stops F.word_of F.value_of s.mark (SpellsWord s.words.controller) (B.texts s.values) s.separator s.words_lack s.values_stop)
         (state_one F.word_of F.value_of (⟦<WordText as Token>⟧.means s.word) s.mark s.items.items F.paired F.whole (V.means s.value) s.stage s.lacks (⟦<WordText as Token>⟧.one_value s.word) (V.one_value s.value))
         (pair_one F.word_of F.value_of (SpellsWord s.words.controller) s.mark F.paired F.whole (B.texts s.values) s.words_lack (one_word s.words.controller) (B.one_text s.values))
         rest v w h.0 k.0 };
 
-    ghost holds_bytes = { λ s rest all h. led_after_bytes s.separator s.stage (whole_pairs s.stage s.items.items) (PairRest F.word_of F.value_of (WordAtHand F.word_of s.stage s.items.items (⟦<WordText as Token>⟧.means s.word)) (V.means s.value) s.stage s.mark) (IsPairText F.word_of F.value_of (SpellsWord s.words.controller) (B.texts s.values) s.mark) s.small_separator
+    ghost holds_bytes = { λ s rest all h. led_after_bytes s.separator s.stage (whole_pairs s.stage s.items.items)
+        (PairRest F.word_of F.value_of
+        (WordAtHand F.word_of s.stage s.items.items (⟦<WordText as Token>⟧.means s.word))
+        (V.means s.value) s.stage s.mark)
+        (IsPairText F.word_of F.value_of (SpellsWord s.words.controller) (B.texts s.values) s.mark)
+        s.small_separator
         (state_bytes F.word_of F.value_of (⟦<WordText as Token>⟧.means s.word) s.mark s.items.items (V.means s.value) s.stage s.small_mark (⟦<WordText as Token>⟧.holds_bytes s.word) (V.holds_bytes s.value))
         (pair_bytes F.word_of F.value_of s.mark (SpellsWord s.words.controller) (B.texts s.values) s.small_mark (word_text_bytes s.words.controller) (B.text_bytes s.values))
         rest all h.0 };

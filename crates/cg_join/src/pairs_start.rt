@@ -1,6 +1,5 @@
 //! What makes the tokens of the pairs of a line.
-ghost use Rattle.std.specs.Prelude.{◌≡◌, ℕ, ◌<◌, Option, Some, List, []};
-ghost use Rattle.cg_text.specs.Token.{Spells};
+ghost use Rattle.std.specs.Prelude.{◌≡◌, ◌<◌, Option, Some, []};
 ghost use Rattle.cg_join.specs.JoinedPairs.{AreJoinedPairs};
 ghost use Rattle.cg_join.specs.Line.{LacksByte};
 ghost use Rattle.cg_join.specs.Pairs.{IsPairText};

@@ -1,5 +1,5 @@
 //! The empty text with a value, alone or beside a token's texts.
-ghost use Rattle.std.specs.Prelude.{◌≡◌, ℕ, ◌+◌, ◌≤◌, ◌↔◌, true, false, not, ◌||◌, List, [], ◌∷◌, refl, IsTrue, IsFalse};
+ghost use Rattle.std.specs.Prelude.{◌≡◌, true, false, not, ◌||◌, refl, IsFalse};
 ghost use Rattle.cg_text.specs.Token.{Spells};
 ghost use Rattle.cg_join.specs.Ready.{IsReady, IsOrReady, OrReadyRest};
 ghost use Rattle.cg_join.specs.Repeat.{LacksEmpty};

@@ -1,5 +1,5 @@
 //! What makes the tokens of a repetition.
-ghost use Rattle.std.specs.Prelude.{◌≡◌, ℕ, List, [], ◌∷◌};
+ghost use Rattle.std.specs.Prelude.{◌≡◌, ℕ, List};
 ghost use Rattle.cg_text.specs.Token.{Spells, HasOneText, AreBytes};
 
 use cg_text::Token;

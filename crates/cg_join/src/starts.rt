@@ -1,6 +1,5 @@
 //! What makes the tokens of numbers.
-ghost use Rattle.std.specs.Prelude.{◌≡◌, ℕ, ◌≤◌, ◌<◌, List};
-ghost use Rattle.cg_text.specs.Token.{Spells};
+ghost use Rattle.std.specs.Prelude.{◌≡◌, ◌≤◌, ◌<◌};
 ghost use Rattle.cg_text.specs.Decimal.{IsDecimal};
 
 use crate::start::Start;

@@ -1,5 +1,5 @@
 //! The vectors in which repetitions keep their values.
-ghost use Rattle.std.specs.Prelude.{◌≡◌, ℕ, ◌+◌, ◌≤◌, ◌<◌, List, [], ◌++◌, ◌∷◌, OnOk, OnErr, vec_len, vec_capacity};
+ghost use Rattle.std.specs.Prelude.{◌≡◌, ◌+◌, ◌≤◌, ◌<◌, [], ◌++◌, ◌∷◌, OnOk, vec_len, vec_capacity};
 ghost use Rattle.cg_text.specs.Token.{told};
 ghost use Rattle.cg_join.specs.Repeat.{items_size, out_size};
 

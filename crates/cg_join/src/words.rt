@@ -1,6 +1,5 @@
 //! Words as the tokens of repetitions.
-ghost use Rattle.std.specs.Prelude.{◌≡◌, ℕ, List};
-ghost use Rattle.cg_text.specs.Token.{Spells};
+ghost use Rattle.std.specs.Prelude.{◌≡◌};
 ghost use Rattle.cg_text.specs.Word.{IsWordText};
 ghost use Rattle.cg_text.specs.WordState.{is_taken};
 ghost use Rattle.cg_join.specs.Distinct.{any_value};

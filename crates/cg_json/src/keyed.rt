@@ -1,5 +1,4 @@
 //! Pairs of a key and a number, and lines of such pairs.
-ghost use Rattle.std.specs.Prelude.{◌≡◌};
 ghost use Rattle.cg_json.specs.Json.{number_data, amount_data, nested_data};
 
 use crate::json::{Json, Member, object};

@@ -2,7 +2,7 @@
 ghost use Rattle.std.specs.Prelude.{◌≡◌, IfOk};
 ghost use Rattle.serde_json.specs.Data.{string};
 ghost use Rattle.serde_json.specs.View.{view};
-ghost use Rattle.cg_json.specs.Json.{number_data, array_of, text_data};
+ghost use Rattle.cg_json.specs.Json.{text_data};
 
 use crate::json::{Json, array};
 use cg_text::{Items, Key, OutOfMemory};

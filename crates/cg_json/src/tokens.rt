@@ -1,5 +1,4 @@
 //! Numbers, words and devices.
-ghost use Rattle.std.specs.Prelude.{◌≡◌};
 ghost use Rattle.serde_json.specs.Data.{string};
 ghost use Rattle.cg_value.specs.ReadLine.{mode_text, role_text};
 ghost use Rattle.cg_json.specs.Json.{number_data, signed_data, limit_data, hundredths_data, clamp_data, amount_data, device_data, given_data};

@@ -19,13 +19,18 @@ use Rattle.cg_file.specs.contracts.file_text.FileTextToken.TheImpl.{ghosts}
 
 -- The byte was taken.
 pub pushed_on : (r : ValueReader) (m : FileText) (p : Place) (kind : ReadForm) (taken : List ℕ) (b : ℕ) → Pushes (ghosts.means r.text) b (ghosts.means m) (Ok tt) →
-    ghosts.size m ≤ ghosts.size r.text + 1 → IsPlace p (taken ++ b ∷ []) → (IsRead (TextsOf kind) (ghosts.means m) (taken ++ b ∷ []) → HoldsLittle (ghosts.size m) kind (taken ++ b ∷ [])) → Reads r kind taken → Reads (record { text = m; place = p }) kind (taken ++ b ∷ [])
+    ghosts.size m ≤ ghosts.size r.text + 1 → IsPlace p (taken ++ b ∷ []) →
+    (IsRead (TextsOf kind) (ghosts.means m) (taken ++ b ∷ []) →
+    HoldsLittle (ghosts.size m) kind (taken ++ b ∷ [])) → Reads r kind taken →
+    Reads (record { text = m; place = p }) kind (taken ++ b ∷ [])
 pushed_on r m p kind taken b pushes more place held h =
     let was = is_reads r kind taken h in
     let now = pushed (TextsOf kind) (ghosts.means r.text) (ghosts.means m) taken b (Ok tt) pushes was.rests in
     reads_is _ _ _ (record { rests = now; form = was.form; place = place; held = held now; few = omega (arith, more, was.few, length-append taken (b ∷ [])) })
 
-unchanged : (r : ValueReader) (m : FileText) (kind : ReadForm) (taken : List ℕ) → ghosts.size m ≡ ghosts.size r.text → HasTaken r kind taken → IsRead (TextsOf kind) (ghosts.means m) taken → Reads (record { text = m; place = r.place }) kind taken
+unchanged : (r : ValueReader) (m : FileText) (kind : ReadForm) (taken : List ℕ) →
+    ghosts.size m ≡ ghosts.size r.text → HasTaken r kind taken → IsRead (TextsOf kind) (ghosts.means m) taken →
+    Reads (record { text = m; place = r.place }) kind taken
 unchanged r m kind taken size was rests = reads_is _ _ _ (record { rests = rests; form = was.form; place = was.place; held = rw size was.held; few = rw size was.few })
 
 -- It was not.

@@ -1,6 +1,5 @@
 //! The texts of entries and of items, among others of their kind.
-ghost use Rattle.std.specs.Prelude.{◌≡◌, ◌++◌, ◌∷◌, [], ◌≤◌, IfOk, OnOk, OnErr, take, true, length};
-ghost use Rattle.std.specs.Io.KnownBytes.{Appends};
+ghost use Rattle.std.specs.Prelude.{◌≡◌, ◌++◌, ◌∷◌, IfOk, OnOk, OnErr};
 ghost use Rattle.cg_value.specs.Print.{print_lines, print_setting_of};
 ghost use Rattle.cg_value.specs.Records.{records};
 ghost use Rattle.cg_print.specs.Headed.{headed, shown};

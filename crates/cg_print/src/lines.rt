@@ -1,5 +1,4 @@
 //! The canonical texts of lines.
-ghost use Rattle.std.specs.Prelude.{◌≡◌, ◌++◌, ◌∷◌, [], OnOk};
 ghost use Rattle.cg_value.specs.Print.{print_flat_line, print_stat_pair, print_stat_line, print_limit_line, print_weight_line, print_target_line, print_averages, print_nested_pair, print_nested_line};
 
 use crate::canonical::{Canonical, append_bytes, append_labelled, append_spaced};

@@ -1,5 +1,5 @@
 //! The canonical text of a setting.
-ghost use Rattle.std.specs.Prelude.{◌≡◌, ◌++◌, ◌∷◌, [], IfOk, OnOk, codes, decimal};
+ghost use Rattle.std.specs.Prelude.{◌≡◌, ◌++◌, ◌∷◌, IfOk, OnOk, codes, decimal};
 ghost use Rattle.cg_value.specs.Kind.{IsWriteForm};
 ghost use Rattle.cg_value.specs.Settings.{FitsWrite, WriteText};
 ghost use Rattle.cg_value.specs.Print.{print_limit, print_device, print_given, print_device_weight, print_setting_line, print_setting_of};

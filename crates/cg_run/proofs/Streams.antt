@@ -1,5 +1,6 @@
 -- What is right for a run over a stream.
-use Rattle.std.proofs.Common.{◌≡◌, ◌≢◌, ℕ, ◌+◌, ◌<◌, ◌≤◌, ◌⊎◌, Bool, true, false, List, [], ◌∷◌, ◌++◌, length, take, drop, Option, refl, sym, ap, subst, ◌∙◌, append_assoc, append-nil, arith, inl, inr, length-append, length-drop, length-take, take-append-drop}
+use Rattle.std.proofs.Common.{◌≡◌, ◌≢◌, ℕ, ◌+◌, ◌<◌, ◌≤◌, ◌⊎◌, Bool, true, false, List, [], ◌∷◌, ◌++◌, length, take, drop, Option, refl, sym, ap, subst, ◌∙◌, append_assoc, append-nil, arith, inl, inr}
+use Rattle.std.proofs.Common.{length-append, length-drop, length-take, take-append-drop}
 use Rattle.std.proofs.Math.Seq.{take-add}
 use Rattle.std.specs.Io.KnownBytes.{IsAtEnd}
 use Rattle.cg_snap.specs.Stop.{place_of}
@@ -44,7 +45,9 @@ module _ (Took Whole Closes : List ℕ → List (List ℕ) → Type 0) (Unstoppe
     front m = take_past m read piece
 
     -- Memory was refused after these bytes, for the next or for a part.
-    starved : (parts more : List (List ℕ)) → Took ((read ++ take at piece) ++ take n rest) (parts ++ more) → (((length read + (at + n)) < length (read ++ piece)) × Unstopped (take (length read + (at + n) + 1) (read ++ piece))) ⊎ (parts ++ more ≢ []) →
+    starved : (parts more : List (List ℕ)) → Took ((read ++ take at piece) ++ take n rest) (parts ++ more) →
+        (((length read + (at + n)) < length (read ++ piece))
+        × Unstopped (take (length read + (at + n) + 1) (read ++ piece))) ⊎ (parts ++ more ≢ []) →
         IsStreamStarved Whole Closes Unstopped StopsBy r parts
     starved parts more h w =
         let took : Took (read ++ take (at + n) piece) (parts ++ more) = subst (λ (t : List ℕ). Took t (parts ++ more)) (text_on read piece rest at n rest_is) h in
@@ -120,7 +123,9 @@ module _ (Took Whole Closes : List ℕ → List (List ℕ) → Type 0) (Unstoppe
       pub cut_ends : (s : Stop) (o : Outcome) → IsCutAt Whole read s → Wrote first now write_failed (joined parts ++ last_line (out.Stopped s)) (out.Stopped s) o → EndsSo Right read left failed first now write_failed o
       cut_ends s o h w = record { wanted = out.Stopped s; parts = parts; right = cut_right s h; wrote = w }
 
-      pub last_memory_ends : (part : List ℕ) (o : Outcome) → Whole read (parts ++ part ∷ []) → Wrote first now write_failed (joined parts ++ last_line out.OutOfMemory) out.OutOfMemory o → EndsSo Right read left failed first now write_failed o
+      pub last_memory_ends : (part : List ℕ) (o : Outcome) → Whole read (parts ++ part ∷ []) →
+          Wrote first now write_failed (joined parts ++ last_line out.OutOfMemory) out.OutOfMemory o →
+          EndsSo Right read left failed first now write_failed o
       last_memory_ends part o whole w =
           let all : take (length read) read ≡ read = ap (λ (t : List ℕ). take (length read) t) (sym (append-nil read)) ∙ ap (λ (m : ℕ). take m (read ++ [])) (omega arith) ∙ take_past 0 read [] ∙ append-nil read in
           record {

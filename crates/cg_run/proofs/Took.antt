@@ -83,7 +83,9 @@ module _ (piece rest front : List ℕ) (used n : ℕ) (rest_is : rest ≡ drop u
       (rw same at h, omega (arith, room, length-append taken (take (used + n) piece), length-take (used + n) piece))
 
   -- The byte after it was not.
-  pub run_stopped : (L Took : List ℕ → Type 0) → ((taken : List ℕ) → Took taken → Viable L taken) → (max at place : ℕ) (taken : List ℕ) (fault : PushFault) → at ≡ length taken → place ≡ at + used → used ≤ length piece → place + length front ≤ max → n ≤ length front →
+  pub run_stopped : (L Took : List ℕ → Type 0) → ((taken : List ℕ) → Took taken → Viable L taken) →
+      (max at place : ℕ) (taken : List ℕ) (fault : PushFault) → at ≡ length taken → place ≡ at + used →
+      used ≤ length piece → place + length front ≤ max → n ≤ length front →
       Took ((taken ++ take used piece) ++ take n front) → StopsAt L (taken ++ take used piece) front n (Some fault) → TookPiece L Took max taken piece (Some (ending_of fault (place + n)))
   run_stopped L Took viable max at place taken push.Refused e f here room most h stops =
       let same : (taken ++ take used piece) ++ take n front ≡ taken ++ take (used + n) piece = append_assoc taken (take used piece) (take n front) ∙ ap (λ t. taken ++ t) (sym (run_front most)) in

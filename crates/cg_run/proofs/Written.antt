@@ -26,7 +26,9 @@ pub none_written : (a : Option (List ℕ)) → HasWritten a a [] 0
 none_written a = (Appends-nil a, refl)
 
 -- One more part was written.
-pub part_written : (first a b : Option (List ℕ)) (parts : List (List ℕ)) (part : List ℕ) (written more : ℕ) → HasWritten first a parts written → Appends a b part → more ≡ min (written + length part) 18446744073709551615 → HasWritten first b (parts ++ part ∷ []) more
+pub part_written : (first a b : Option (List ℕ)) (parts : List (List ℕ)) (part : List ℕ) (written more : ℕ) →
+    HasWritten first a parts written → Appends a b part → more ≡ min (written + length part) 18446744073709551615 →
+    HasWritten first b (parts ++ part ∷ []) more
 part_written first a b parts part written more h p e =
     (rw (joined_push parts part) (Appends-trans first a b (joined parts) part h.0 p), rw (joined_push parts part, length-append (joined parts) part) (omega (arith, e, h.1)))
 
@@ -43,7 +45,9 @@ take_within (suc n) [] ys le = absurd (omega (arith, le))
 take_within (suc n) (x ∷ xs) ys le = ap (λ t. x ∷ t) (take_within n xs ys (omega (arith, le)))
 
 -- The writer failed in a text that came after the parts, and more of which was to come.
-fault_after : (first a b : Option (List ℕ)) (parts : List (List ℕ)) (text rest : List ℕ) (written n all : ℕ) (failed : Bool) (wanted : Outcome) → HasWritten first a parts written → n ≤ length text → Appends a b (take n text) → failed ≡ true →
+fault_after : (first a b : Option (List ℕ)) (parts : List (List ℕ)) (text rest : List ℕ) (written n all : ℕ)
+    (failed : Bool) (wanted : Outcome) → HasWritten first a parts written → n ≤ length text →
+    Appends a b (take n text) → failed ≡ true →
     all ≡ told (length (joined parts) + n) → Wrote first b failed ((joined parts ++ text) ++ rest) wanted (out.WriteFault all)
 fault_after first a b parts text rest written n all failed wanted h le p f e =
     let here : take (length (joined parts) + n) ((joined parts ++ text) ++ rest) ≡ joined parts ++ take n text =
@@ -56,7 +60,9 @@ fault_after first a b parts text rest written n all failed wanted h le p f e =
     )
 
 -- It failed in a part.
-pub part_fault : (first a b : Option (List ℕ)) (parts : List (List ℕ)) (part rest : List ℕ) (written more all : ℕ) (failed : Bool) (wanted : Outcome) → HasWritten first a parts written → more ≤ length part → Appends a b (take more part) → failed ≡ true →
+pub part_fault : (first a b : Option (List ℕ)) (parts : List (List ℕ)) (part rest : List ℕ) (written more all : ℕ)
+    (failed : Bool) (wanted : Outcome) → HasWritten first a parts written → more ≤ length part →
+    Appends a b (take more part) → failed ≡ true →
     all ≡ min (written + more) 18446744073709551615 → Wrote first b failed (joined (parts ++ part ∷ []) ++ rest) wanted (out.WriteFault all)
 part_fault first a b parts part rest written more all failed wanted h le p f e = rw (joined_push parts part) (fault_after first a b parts part rest written more all failed wanted h le p f (omega (arith, e, h.1)))
 
@@ -68,7 +74,9 @@ line_fault first a b parts line written more all failed wanted h w e =
     (fault_after first a b parts line [] written w.0 all failed wanted h w.1 w.2 w.4 (omega (arith, e, w.3, h.1)))
 
 -- The last line was written, and no writer failed.
-pub line_written : (first a b : Option (List ℕ)) (parts : List (List ℕ)) (line : List ℕ) (written : ℕ) (failed : Bool) (wanted o : Outcome) → HasWritten first a parts written → Wrote a b failed line wanted o → ((n : ℕ) → o ≡ out.WriteFault n → ⊥) →
+pub line_written : (first a b : Option (List ℕ)) (parts : List (List ℕ)) (line : List ℕ) (written : ℕ)
+    (failed : Bool) (wanted o : Outcome) → HasWritten first a parts written → Wrote a b failed line wanted o →
+    ((n : ℕ) → o ≡ out.WriteFault n → ⊥) →
     Wrote first b failed (joined parts ++ line) wanted o
 line_written first a b parts line written failed wanted out.Done h w n = (w.0, Appends-trans first a b (joined parts) line h.0 w.1)
 line_written first a b parts line written failed wanted (out.Findings k) h w n = (w.0, Appends-trans first a b (joined parts) line h.0 w.1)

@@ -39,9 +39,17 @@ module _ (profile : Profile) where
   line_allowed begun x p es b h v =
       elim (cases_eq b 10) [
         | inl e ↦
-            let f : Viable (KindFile h.kind) (unlines (h.lines ++ h.line ∷ [])) = rw (unlines-push h.lines h.line) (subst (λ (c : ℕ). Viable (KindFile h.kind) (unlines h.lines ++ (h.line ++ c ∷ []))) e (file_more h.kind (unlines h.lines) h.line b v)) in
+            let f : Viable (KindFile h.kind) (unlines (h.lines ++ h.line ∷ [])) =
+            rw (unlines-push h.lines h.line)
+            (subst (λ (c : ℕ). Viable (KindFile h.kind) (unlines h.lines ++ (h.line ++ c ∷ []))) e
+            (file_more h.kind (unlines h.lines) h.line b v)) in
             let s = lines_text_snap profile es h.given x.path.items h.kind (h.lines ++ h.line ∷ []) h.entries h.other h.good h.reads_at (some_push h.lines h.line) (all_push (Lacks 10) h.lines h.line h.plain h.plain_line) f in
-            record { rest = []; whole = subst (Snap profile) (ap (λ (t : List ℕ). h.given ++ t) (records-append x.path.items h.lines (h.line ∷ [])) ∙ sym (line_text_end p h.given (records x.path.items h.lines) x.path.items h.line b e h.split)) s }
+            record {
+              rest = [];
+              whole = subst (Snap profile) (ap (λ (t : List ℕ). h.given ++ t)
+                  (records-append x.path.items h.lines (h.line ∷ []))
+                  ∙ sym (line_text_end p h.given (records x.path.items h.lines) x.path.items h.line b e h.split)) s;
+            }
         | inr n ↦
             line_text_viable profile es h.given x.path.items h.kind h.lines (h.line ++ b ∷ []) (p ++ b ∷ []) h.entries h.other h.good h.reads_at h.plain (lacks_push 10 h.line b h.plain_line n)
             (line_goes h.kind h.lines h.line b n h.plain_line h.plain (file_more h.kind (unlines h.lines) h.line b v)) (line_text_more p h.given (records x.path.items h.lines) x.path.items h.line b h.split)

@@ -66,7 +66,9 @@ counted_push old new p b h li lt o (inr z) = record {
 }
 
 -- After a run without a newline.
-pub counted_run : (old new : Meter) (p q : List ℕ) (n : ℕ) → IsCounted old p → new.limits ≡ old.limits → Lacks 10 q → n ≡ length q → n ≤ old.limits.max_stream - old.offset → new.offset ≡ old.offset + n → new.record_len ≡ old.record_len + n →
+pub counted_run : (old new : Meter) (p q : List ℕ) (n : ℕ) → IsCounted old p → new.limits ≡ old.limits →
+    Lacks 10 q → n ≡ length q → n ≤ old.limits.max_stream - old.offset → new.offset ≡ old.offset + n →
+    new.record_len ≡ old.record_len + n →
     IsCounted new (p ++ q)
 counted_run old new p q n h li plain e far o r = record {
   offset = omega (arith, o, e, h.offset, length-append p q);

@@ -82,7 +82,9 @@ module _ (profile : Profile) where
   }
 
   -- After whole entries and whole records of a path came its NUL and the front of a line.
-  abbrev pub nul_closed : (es : List EntryData) (given q : List ℕ) (ls : List (List ℕ)) (line p : List ℕ) → SnapText profile es given → EndsOther es q → IsPath q → AllByRecursion (Lacks 10) ls → Lacks 10 line → p ≡ given ++ (records q ls ++ (q ++ 0 ∷ line)) → Closed profile p es
+  abbrev pub nul_closed : (es : List EntryData) (given q : List ℕ) (ls : List (List ℕ)) (line p : List ℕ) →
+      SnapText profile es given → EndsOther es q → IsPath q → AllByRecursion (Lacks 10) ls → Lacks 10 line →
+      p ≡ given ++ (records q ls ++ (q ++ 0 ∷ line)) → Closed profile p es
   nul_closed es given q ls line p h o g a n e = record {
     given = given;
     present = records q ls ++ (q ++ 0 ∷ line);

@@ -64,20 +64,28 @@ module _ (L : List ℕ → Type 0) (Breaks : List ℕ → ℕ → Why → Type 0
   limit_stops m p b full (stops.Cut at) h u l f v = absurd l
 
   -- The grammar refuses the byte.
-  pub refused_stops : (m : Meter) (p : List ℕ) (b at : ℕ) (why : Why) → IsCounted m p → IsStreamUnstopped L Breaks Many m.limits p → at ≡ m.offset → RefusedBy L Breaks p b (Some why) → StreamStopOf L Breaks Many m.limits (p ++ b ∷ []) (stops.Refused at why)
+  pub refused_stops : (m : Meter) (p : List ℕ) (b at : ℕ) (why : Why) → IsCounted m p →
+      IsStreamUnstopped L Breaks Many m.limits p → at ≡ m.offset → RefusedBy L Breaks p b (Some why) →
+      StreamStopOf L Breaks Many m.limits (p ++ b ∷ []) (stops.Refused at why)
   refused_stops m p b at why h u e r = stop_refused L Breaks Many m.limits p b at why (e ∙ h.offset) u r.0 r.1
 
   -- ---- A piece
 
-  pub stop_in_piece : (limits : Limits) (p piece : List ℕ) (used : ℕ) (stop : Stop) → used < length piece → StreamStopOf L Breaks Many limits ((p ++ take used piece) ++ get_or piece used 0 ∷ []) stop → StreamStopOf L Breaks Many limits (p ++ piece) stop
+  pub stop_in_piece : (limits : Limits) (p piece : List ℕ) (used : ℕ) (stop : Stop) → used < length piece →
+      StreamStopOf L Breaks Many limits ((p ++ take used piece) ++ get_or piece used 0 ∷ []) stop →
+      StreamStopOf L Breaks Many limits (p ++ piece) stop
   stop_in_piece limits p piece used stop lt s =
       subst (λ (t : List ℕ). StreamStopOf L Breaks Many limits t stop) (ap (λ (t : List ℕ). t ++ drop (used + 1) piece) (taken_more p piece used lt) ∙ whole_piece p piece used lt)
       (stop_longer L Breaks Many limits ((p ++ take used piece) ++ get_or piece used 0 ∷ []) (drop (used + 1) piece) stop s)
 
-  pub unstopped_in_piece : (limits : Limits) (p piece : List ℕ) (used : ℕ) → used < length piece → IsStreamUnstopped L Breaks Many limits ((p ++ take used piece) ++ get_or piece used 0 ∷ []) → IsStreamUnstopped L Breaks Many limits (p ++ take (used + 1) piece)
+  pub unstopped_in_piece : (limits : Limits) (p piece : List ℕ) (used : ℕ) → used < length piece →
+      IsStreamUnstopped L Breaks Many limits ((p ++ take used piece) ++ get_or piece used 0 ∷ []) →
+      IsStreamUnstopped L Breaks Many limits (p ++ take (used + 1) piece)
   unstopped_in_piece limits p piece used lt u = subst (IsStreamUnstopped L Breaks Many limits) (taken_more p piece used lt) u
 
-  pub stop_after : (limits : Limits) (p piece : List ℕ) (used : ℕ) (stop : Stop) → used < length piece → StreamStopOf L Breaks Many limits ((p ++ take used piece) ++ get_or piece used 0 ∷ []) stop → IsStreamUnstopped L Breaks Many limits (p ++ take used piece) →
+  pub stop_after : (limits : Limits) (p piece : List ℕ) (used : ℕ) (stop : Stop) → used < length piece →
+      StreamStopOf L Breaks Many limits ((p ++ take used piece) ++ get_or piece used 0 ∷ []) stop →
+      IsStreamUnstopped L Breaks Many limits (p ++ take used piece) →
       place_of stop ≡ length p + used
   stop_after limits p piece used stop lt s u =
       let at : place_of stop ≡ length (p ++ take used piece) = stop_place L Breaks Many limits (p ++ take used piece) (get_or piece used 0) stop u s in

@@ -61,5 +61,7 @@ module _ (profile : Profile) where
   between_path begun o x p es e t h = MatchBool-at_false _ _ t (subst (λ (q : Option Present). At profile begun q p es) e h)
 
   -- The present entry is the last.
-  pub last_entry : (begun : List ℕ) (x : Present) (p : List ℕ) (es : List EntryData) (e : EntryData) (h : AtPath profile begun x p es) → begun ≡ [] → e.path ≡ x.path.items → AreEntryLines profile e h.lines → SnapText profile (es ++ e ∷ []) p
+  pub last_entry : (begun : List ℕ) (x : Present) (p : List ℕ) (es : List EntryData) (e : EntryData)
+      (h : AtPath profile begun x p es) → begun ≡ [] → e.path ≡ x.path.items → AreEntryLines profile e h.lines →
+      SnapText profile (es ++ e ∷ []) p
   last_entry begun x p es e h n q a = subst (SnapText profile (es ++ e ∷ [])) (end_text p h.given (records x.path.items h.lines) begun h.split n) (push_at profile es h.given x.path.items e h.lines q h.entries a h.other)

@@ -43,7 +43,15 @@ toggle = record { on = true; name = codes "a" }
 
 each_toggle : All (λ (t : Toggle). IsControllerWord t.name) (toggle ∷ [])
 unfolding toggle
-each_toggle = All-cons (λ (t : Toggle). IsControllerWord t.name) toggle [] (((λ e. omega (arith, e)), (λ e. omega (arith, e))), (omega arith, ((omega arith, omega arith, (λ e. omega (arith, e))), tt))) (All-nil (λ (t : Toggle). IsControllerWord t.name))
+each_toggle = All-cons (λ (t : Toggle). IsControllerWord t.name) toggle [] (
+  (
+    (λ e. omega (arith, e)),
+    (λ e. omega
+        (arith, e)),
+  ),
+  (omega arith, ((omega arith, omega arith, (λ e. omega (arith, e))), tt)),
+)
+    (All-nil (λ (t : Toggle). IsControllerWord t.name))
 
 -- A setting, with a line of it.
 pub first_setting : (kind : WriteForm) → IsWriteForm kind → (s : Setting) × (line : List ℕ) × WriteLine kind s line

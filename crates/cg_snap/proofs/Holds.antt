@@ -42,7 +42,9 @@ module _ (profile : Profile) where
         omega (arith, c, le),
       )
 
-  line_may : (x : Present) (k : ReadForm) (path : List ℕ) (lines : List (List ℕ)) (line : List ℕ) (m : ℕ) → ReadsAt profile path (Some k) → Reads x.reader k (unlines lines ++ line) → Lacks 10 line → (lines ≢ [] → (v : Value) × ReadLines k v lines) → HoldsFew x m →
+  line_may : (x : Present) (k : ReadForm) (path : List ℕ) (lines : List (List ℕ)) (line : List ℕ) (m : ℕ) →
+      ReadsAt profile path (Some k) → Reads x.reader k (unlines lines ++ line) → Lacks 10 line →
+      (lines ≢ [] → (v : Value) × ReadLines k v lines) → HoldsFew x m →
       (whole : ℕ) × MayHold profile path lines whole × (length path + m ≤ length (path ++ 0 ∷ line) + whole)
   line_may x k path [] line m r t n e b = (0, refl, let c = b.few k line t in omega (arith, c, length-append path (0 ∷ line)))
   line_may x k path (l ∷ lines) line m r t n e b =
@@ -55,11 +57,15 @@ module _ (profile : Profile) where
       let w = line_may x h.kind x.path.items h.lines h.line m h.reads_at h.reads h.plain_line (λ some. line_can_end profile begun x p es h some) b in
       (line_closed profile begun x p es h, x.path.items ++ 0 ∷ h.line, w.0, line_begun profile begun x p es h, w.1, omega (arith, w.2, le, ap length h.nothing_begun))
 
-  by_flag : (begun : List ℕ) (x : Present) (p : List ℕ) (es : List EntryData) (n m : ℕ) (b : Bool) → MatchBool b (AtLine profile begun x p es) (AtPath profile begun x p es) → HoldsFew x m → n ≤ length begun + (length x.path.items + m) → IsHeldFor profile p es n
+  by_flag : (begun : List ℕ) (x : Present) (p : List ℕ) (es : List EntryData) (n m : ℕ) (b : Bool) →
+      MatchBool b (AtLine profile begun x p es) (AtPath profile begun x p es) → HoldsFew x m →
+      n ≤ length begun + (length x.path.items + m) → IsHeldFor profile p es n
   by_flag begun x p es n m true h b le = line_held begun x p es n m h b le
   by_flag begun x p es n m false h b le = path_held begun x p es n m h b le
 
-  pub some_held : (begun : List ℕ) (o : Option Present) (x : Present) (p : List ℕ) (es : List EntryData) (n m : ℕ) → o ≡ Some x → At profile begun o p es → HoldsFew x m → n ≤ length begun + (length x.path.items + m) → IsHeldFor profile p es n
+  pub some_held : (begun : List ℕ) (o : Option Present) (x : Present) (p : List ℕ) (es : List EntryData) (n m : ℕ) →
+      o ≡ Some x → At profile begun o p es → HoldsFew x m → n ≤ length begun + (length x.path.items + m) →
+      IsHeldFor profile p es n
   some_held begun o x p es n m e h b le = by_flag begun x p es n m x.in_line (subst (λ (q : Option Present). At profile begun q p es) e h) b le
 
   pub none_held : (begun : List ℕ) (o : Option Present) (p : List ℕ) (es : List EntryData) (n : ℕ) → o ≡ None → At profile begun o p es → n ≤ length begun → IsHeldFor profile p es n

@@ -95,7 +95,9 @@ module _ (profile : Profile) where
       let others = r.1 in
       (r.0, cc, r.2)
 
-  inner_of : (es fs gs : List EntryData) (q : List ℕ) (kind : ReadForm) (ls : List (List ℕ)) (tail y : List ℕ) → IsPath q → ReadsAt profile q (Some kind) → AllByRecursion (Lacks 10) ls → records q ls ++ tail ≡ q ++ 0 ∷ y → fs ≡ es ++ gs → SnapText profile gs (records q ls ++ tail) → Inner profile es fs q kind ls tail
+  inner_of : (es fs gs : List EntryData) (q : List ℕ) (kind : ReadForm) (ls : List (List ℕ)) (tail y : List ℕ) →
+      IsPath q → ReadsAt profile q (Some kind) → AllByRecursion (Lacks 10) ls → records q ls ++ tail ≡ q ++ 0 ∷ y →
+      fs ≡ es ++ gs → SnapText profile gs (records q ls ++ tail) → Inner profile es fs q kind ls tail
   inner_of es fs [] q kind ls tail y p r a v e g = absurd (not_empty q y 0 (sym v ∙ g))
   inner_of es fs (f ∷ gs) q kind ls tail y p r a v e g =
       let same : f.path ≡ q = first_path q f.path g.0 g.1 y p (entry_path f) g.2.some (sym g.4 ∙ v) in
@@ -119,7 +121,9 @@ module _ (profile : Profile) where
       }
 
   -- A snapshot that goes on from whole entries, and from whole records of q or the first that is begun.
-  pub inner : (es fs : List EntryData) (s : List ℕ) (q : List ℕ) (kind : ReadForm) (ls : List (List ℕ)) (tail y : List ℕ) → IsPath q → ReadsAt profile q (Some kind) → AllByRecursion (Lacks 10) ls → SnapText profile es s → EndsOther es q → records q ls ++ tail ≡ q ++ 0 ∷ y →
+  pub inner : (es fs : List EntryData) (s : List ℕ) (q : List ℕ) (kind : ReadForm) (ls : List (List ℕ))
+      (tail y : List ℕ) → IsPath q → ReadsAt profile q (Some kind) → AllByRecursion (Lacks 10) ls →
+      SnapText profile es s → EndsOther es q → records q ls ++ tail ≡ q ++ 0 ∷ y →
       SnapText profile fs (s ++ (records q ls ++ tail)) → Inner profile es fs q kind ls tail
   inner es fs s q kind ls tail y p r a h o v g =
       let c = strip es fs s (records q ls ++ tail) q y p h o v g in

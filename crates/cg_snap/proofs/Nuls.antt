@@ -69,7 +69,9 @@ module _ (profile : Profile) where
       ]
 
   -- A NUL that ends a path, by the count.
-  pub full_is : (begun : List ℕ) (o : Option Present) (p : List ℕ) (es : List EntryData) (m max : ℕ) (b : Bool) → max ≤ 18446744073709551615 → IsBetween o → At profile begun o p es → IsLineCount begun o m → (b ≡ true → max ≤ m) → (b ≡ false → m < max) → FullIs (Snap profile) (IsManyRecords profile) max p 0 b
+  pub full_is : (begun : List ℕ) (o : Option Present) (p : List ℕ) (es : List EntryData) (m max : ℕ) (b : Bool) →
+      max ≤ 18446744073709551615 → IsBetween o → At profile begun o p es → IsLineCount begun o m →
+      (b ≡ true → max ≤ m) → (b ≡ false → m < max) → FullIs (Snap profile) (IsManyRecords profile) max p 0 b
   full_is begun o p es m max true u i h c s f = λ v.
       let a = between profile begun o p es i h in
       let n = before_nul begun o p es m a c (paths_nul profile begun o p es a v).0 in

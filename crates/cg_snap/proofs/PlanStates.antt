@@ -128,7 +128,9 @@ writes_once profile path k a b =
     none_some k (write_form_of profile b.name) (ap (λ name. write_form_of profile name) (one_name path b.name a.name b.name_is a.name_is) ∙ a.form_is) b.form_is
 
 -- The record of a path and a line of its kind.
-pub record_of : (profile : Profile) (path : List ℕ) (kind : WriteForm) (line rest : List ℕ) → IsPath path → WritesAt profile path (Some kind) → KindWrite kind (line ++ rest) → (l : List ℕ) × HasItem profile path l × (line ++ rest ≡ l ++ 10 ∷ [])
+pub record_of : (profile : Profile) (path : List ℕ) (kind : WriteForm) (line rest : List ℕ) → IsPath path →
+    WritesAt profile path (Some kind) → KindWrite kind (line ++ rest) →
+    (l : List ℕ) × HasItem profile path l × (line ++ rest ≡ l ++ 10 ∷ [])
 record_of profile path kind line rest good writes w =
     (w.1.line, has_item profile path kind w.0 w.1.line good writes (record { line = w.1.line; spelled = w.1.spelled; text_is = refl }), w.1.text_is)
 
@@ -139,7 +141,9 @@ module _ (profile : Profile) where
   line_text p g q l r m e f = rw (e, sym f) (simp append_assoc)
 
   -- Where the line goes on with some bytes, the plan does.
-  pub line_rest_plan : (items : List ItemData) (given path line rest p : List ℕ) (kind : WriteForm) → PlanText profile items given → IsPath path → WritesAt profile path (Some kind) → p ≡ given ++ (path ++ 0 ∷ line) → KindWrite kind (line ++ rest) → Plan profile (p ++ rest)
+  pub line_rest_plan : (items : List ItemData) (given path line rest p : List ℕ) (kind : WriteForm) →
+      PlanText profile items given → IsPath path → WritesAt profile path (Some kind) →
+      p ≡ given ++ (path ++ 0 ∷ line) → KindWrite kind (line ++ rest) → Plan profile (p ++ rest)
   line_rest_plan items given path line rest p kind whole good writes e w =
       let i = record_of profile path kind line rest good writes w in
       (items ++ i.1.item ∷ [], subst (PlanText profile (items ++ i.1.item ∷ [])) (line_text p given path line rest i.0 e i.2) (plan_push profile items given path i.0 i.1 whole))
@@ -159,7 +163,12 @@ module _ (profile : Profile) where
       let writes : WritesAt profile path (Some form.Raw) = record { name = 120 ∷ []; name_is = longer_name begun 120 (λ f. omega (arith, f)); form_is = raw_120 profile } in
       let first = can_be_written form.Raw tt in
       let w = line_rest_plan items h.given path [] first.rest (h.given ++ (path ++ 0 ∷ [])) form.Raw h.whole good writes refl first.whole in
-      record { rest = 47 ∷ 120 ∷ 0 ∷ first.rest; whole = subst (Plan profile) (append_assoc h.given (path ++ 0 ∷ []) first.rest ∙ (ap (λ (t : List ℕ). h.given ++ t) (append_assoc path (0 ∷ []) first.rest) ∙ path_text p h.given begun first.rest h.split)) w }
+      record {
+        rest = 47 ∷ 120 ∷ 0 ∷ first.rest;
+        whole = subst (Plan profile) (append_assoc h.given
+            (path ++ 0 ∷ []) first.rest ∙ (ap (λ (t : List ℕ). h.given ++ t) (append_assoc path (0 ∷ []) first.rest)
+            ∙ path_text p h.given begun first.rest h.split)) w;
+      }
 
   pub items_viable : (begun : List ℕ) (o : Option Writing) (p : List ℕ) (items : List ItemData) → AtItems profile begun o p items → Viable (Plan profile) p
   items_viable begun None p items h = item_path_viable begun p items h
@@ -232,7 +241,9 @@ module _ (profile : Profile) where
   item_newline begun p items b h z =
       (λ v. elim (item_path_byte begun p items b h v) [ inl e ↦ absurd (omega (arith, z, e)) | inr q ↦ q.2 z ], (begun, item_begun begun p items h, (bytes_no_nul begun h.begun_path, z)))
 
-  pub item_line_refused : (begun : List ℕ) (x : Writing) (p : List ℕ) (items : List ItemData) (b : ℕ) (h : AtItemLine profile begun x p items) → (Next (KindWrite h.kind) h.line b → ⊥) → RefusedBy (Plan profile) (IsItemWhy profile) p b (Some whys.Line)
+  pub item_line_refused : (begun : List ℕ) (x : Writing) (p : List ℕ) (items : List ItemData) (b : ℕ)
+      (h : AtItemLine profile begun x p items) → (Next (KindWrite h.kind) h.line b → ⊥) →
+      RefusedBy (Plan profile) (IsItemWhy profile) p b (Some whys.Line)
   item_line_refused begun x p items b h n =
       (λ v. n (item_line_next begun x p items b h v), (x.path.items ++ 0 ∷ h.line, closed_begun p items (items_closed_by begun (Some x) p items h), (x.path.items, h.line, refl)))
 
@@ -250,7 +261,9 @@ module _ (profile : Profile) where
   item_path_next begun p items b h z n lt = item_path_viable (begun ++ b ∷ []) (p ++ b ∷ []) items (item_path_taken begun (begun ++ b ∷ []) p items (b ∷ []) h ((omega arith, lt, n), tt) refl)
 
   -- The NUL of a path.
-  pub item_nul : (begun begun' : List ℕ) (x : Writing) (p : List ℕ) (items : List ItemData) (kind : WriteForm) → AtItemPath profile begun p items → IsOfWriteKind profile begun kind → x.path.items ≡ begun → begun' ≡ [] → Takes x.reader kind [] → AtItemLine profile begun' x (p ++ 0 ∷ []) items
+  pub item_nul : (begun begun' : List ℕ) (x : Writing) (p : List ℕ) (items : List ItemData) (kind : WriteForm) →
+      AtItemPath profile begun p items → IsOfWriteKind profile begun kind → x.path.items ≡ begun → begun' ≡ [] →
+      Takes x.reader kind [] → AtItemLine profile begun' x (p ++ 0 ∷ []) items
   item_nul begun begun' x p items kind h c e n t = record {
     given = h.given;
     line = [];
@@ -271,7 +284,9 @@ module _ (profile : Profile) where
       record { rest = first.rest; whole = line_rest_plan items h.given begun [] first.rest (p ++ 0 ∷ []) kind h.whole (named_path begun h.begun_path c.0) c.1 text first.whole }
 
   -- Bytes of a line.
-  pub item_line_taken : (begun : List ℕ) (x x' : Writing) (p : List ℕ) (items : List ItemData) (bs : List ℕ) (h : AtItemLine profile begun x p items) → x'.path.items ≡ x.path.items → Lacks 10 bs → Takes x'.reader h.kind (h.line ++ bs) → AtItemLine profile begun x' (p ++ bs) items
+  pub item_line_taken : (begun : List ℕ) (x x' : Writing) (p : List ℕ) (items : List ItemData) (bs : List ℕ)
+      (h : AtItemLine profile begun x p items) → x'.path.items ≡ x.path.items → Lacks 10 bs →
+      Takes x'.reader h.kind (h.line ++ bs) → AtItemLine profile begun x' (p ++ bs) items
   item_line_taken begun x x' p items bs h e n t = record {
     given = h.given;
     line = h.line ++ bs;
@@ -304,7 +319,9 @@ module _ (profile : Profile) where
   end_text p g q l e = rw e (simp append_assoc)
 
   -- The newline of a line.
-  pub item_ended : (begun : List ℕ) (x : Writing) (p : List ℕ) (items : List ItemData) (h : AtItemLine profile begun x p items) (item : ItemData) → item.path ≡ x.path.items → IsItemLine profile item h.line → AtItemPath profile begun (p ++ 10 ∷ []) (items ++ item ∷ [])
+  pub item_ended : (begun : List ℕ) (x : Writing) (p : List ℕ) (items : List ItemData)
+      (h : AtItemLine profile begun x p items) (item : ItemData) → item.path ≡ x.path.items →
+      IsItemLine profile item h.line → AtItemPath profile begun (p ++ 10 ∷ []) (items ++ item ∷ [])
   item_ended begun x p items h item e s =
       let i : HasItem profile x.path.items h.line = record { item = item; path_is = e; spells = s } in
       record {
@@ -320,7 +337,9 @@ module _ (profile : Profile) where
   pub whole_write : (x : Writing) (kind : WriteForm) (line : List ℕ) → Lacks 10 line → Takes x.reader kind (line ++ 10 ∷ []) → KindWrite kind (line ++ 10 ∷ [])
   whole_write x kind line plain t = let v = takes_viable x.reader kind (line ++ 10 ∷ []) t in write_ends kind line v.rest plain v.whole
 
-  pub item_as : (item : ItemData) (path : List ℕ) (kind : WriteForm) (s : Setting) (line : List ℕ) → item.path ≡ path → item.setting ≡ s → WritesAt profile path (Some kind) → WriteText kind s (line ++ 10 ∷ []) → (item.path ≡ path) × IsItemLine profile item line
+  pub item_as : (item : ItemData) (path : List ℕ) (kind : WriteForm) (s : Setting) (line : List ℕ) →
+      item.path ≡ path → item.setting ≡ s → WritesAt profile path (Some kind) → WriteText kind s (line ++ 10 ∷ []) →
+      (item.path ≡ path) × IsItemLine profile item line
   item_as item path kind s line q w writes t =
       let same : line ≡ t.line = (push_one line t.line 10 10 t.text_is).0 in (
         q,

@@ -113,10 +113,14 @@ module _ (profile : Profile) where
       let r = records_start x.path.items h.lines (begun ++ rest) h.some in
       inner profile es fs h.given x.path.items h.kind h.lines (begun ++ rest) r.0 h.good h.reads_at h.plain h.entries h.other r.1 (subst (SnapText profile fs) (ap (λ (t : List ℕ). t ++ rest) h.split ∙ simp append_assoc) g)
 
-  pub line_inner : (begun : List ℕ) (x : Present) (p : List ℕ) (es fs : List EntryData) (rest : List ℕ) (h : AtLine profile begun x p es) → SnapText profile fs (p ++ rest) → Inner profile es fs x.path.items h.kind h.lines (x.path.items ++ 0 ∷ (h.line ++ rest))
+  pub line_inner : (begun : List ℕ) (x : Present) (p : List ℕ) (es fs : List EntryData) (rest : List ℕ)
+      (h : AtLine profile begun x p es) → SnapText profile fs (p ++ rest) →
+      Inner profile es fs x.path.items h.kind h.lines (x.path.items ++ 0 ∷ (h.line ++ rest))
   line_inner begun x p es fs rest h g =
       let r = line_start x.path.items h.lines (h.line ++ rest) in
-      inner profile es fs h.given x.path.items h.kind h.lines (x.path.items ++ 0 ∷ (h.line ++ rest)) r.0 h.good h.reads_at h.plain h.entries h.other r.1 (subst (SnapText profile fs) (ap (λ (t : List ℕ). t ++ rest) h.split ∙ simp append_assoc) g)
+      inner profile es fs h.given x.path.items h.kind h.lines
+      (x.path.items ++ 0 ∷ (h.line ++ rest)) r.0 h.good h.reads_at h.plain h.entries h.other r.1
+      (subst (SnapText profile fs) (ap (λ (t : List ℕ). t ++ rest) h.split ∙ simp append_assoc) g)
 
   -- ---- The refusals
 
@@ -135,7 +139,9 @@ module _ (profile : Profile) where
       let i = path_inner begun x p es g.1 (b ∷ g.0) h g.2 in
       (g.0, inner_head es g.1 x.path.items h.kind h.lines (begun ++ b ∷ g.0) h.good h.reads_at i (λ e. not_empty begun g.0 b e))
 
-  same_in : (q : List ℕ) (k : ReadForm) (ls ms : List (List ℕ)) (gs : List EntryData) (w : List ℕ) (v : Value) (rest : List ℕ) → IsPath q → StartsOther q gs → SnapText profile gs w → AllByRecursion (Lacks 10) ms → ReadLines k v (ls ++ ms) → q ++ 0 ∷ rest ≡ records q ms ++ w → CanEndLine k ls []
+  same_in : (q : List ℕ) (k : ReadForm) (ls ms : List (List ℕ)) (gs : List EntryData) (w : List ℕ) (v : Value)
+      (rest : List ℕ) → IsPath q → StartsOther q gs → SnapText profile gs w → AllByRecursion (Lacks 10) ms →
+      ReadLines k v (ls ++ ms) → q ++ 0 ∷ rest ≡ records q ms ++ w → CanEndLine k ls []
   same_in q k ls [] gs w v rest p o h a f e = absurd (not_of profile q gs w p o h rest (sym e))
   same_in q k ls (m ∷ ms) gs w v rest p o h a f e =
       (m, a.0, record { rest = unlines ms; whole = subst (KindFile k) (unlines-append ls (m ∷ ms) ∙ more_text (unlines ls) m (unlines ms) (unlines (m ∷ ms)) refl) (file_of k v (ls ++ m ∷ ms) f) })
@@ -147,7 +153,9 @@ module _ (profile : Profile) where
       let i = path_inner begun x p es g.1 (0 ∷ g.0) h g.2 in
       same_in x.path.items h.kind h.lines i.more i.others i.rest i.entry.value g.0 h.good i.other i.snap i.plain i.file (subst (λ (c : List ℕ). c ++ 0 ∷ g.0 ≡ records x.path.items i.more ++ i.rest) s i.text)
 
-  line_in : (q : List ℕ) (k : ReadForm) (ls ms : List (List ℕ)) (gs : List EntryData) (w : List ℕ) (v : Value) (line rest : List ℕ) (b : ℕ) → IsPath q → StartsOther q gs → SnapText profile gs w → Lacks 10 line → AllByRecursion (Lacks 10) ms → ReadLines k v (ls ++ ms) →
+  line_in : (q : List ℕ) (k : ReadForm) (ls ms : List (List ℕ)) (gs : List EntryData) (w : List ℕ) (v : Value)
+      (line rest : List ℕ) (b : ℕ) → IsPath q → StartsOther q gs → SnapText profile gs w → Lacks 10 line →
+      AllByRecursion (Lacks 10) ms → ReadLines k v (ls ++ ms) →
       q ++ 0 ∷ (line ++ b ∷ rest) ≡ records q ms ++ w → Viable (KindFile k) ((unlines ls ++ line) ++ b ∷ [])
   line_in q k ls [] gs w v line rest b p o h l a f e = absurd (not_of profile q gs w p o h (line ++ b ∷ rest) (sym e))
   line_in q k ls (m ∷ ms) gs w v line rest b p o h l a f e =

@@ -131,20 +131,26 @@ module _ (profile : Profile) where
   line_state begun x p es t h = MatchBool-at_true _ _ t h
 
   -- Bytes of a line that the reader took.
-  pub line_taken : (begun : List ℕ) (x x' : Present) (p : List ℕ) (es : List EntryData) (bs : List ℕ) → x.in_line ≡ true → At profile begun (Some x) p es → Lacks 10 bs → x'.path.items ≡ x.path.items → x'.lines ≡ x.lines → x'.in_line ≡ true →
+  pub line_taken : (begun : List ℕ) (x x' : Present) (p : List ℕ) (es : List EntryData) (bs : List ℕ) →
+      x.in_line ≡ true → At profile begun (Some x) p es → Lacks 10 bs → x'.path.items ≡ x.path.items →
+      x'.lines ≡ x.lines → x'.in_line ≡ true →
       ((k : ReadForm) (t : List ℕ) → Reads x.reader k t → Reads x'.reader k (t ++ bs)) → At profile begun (Some x') (p ++ bs) es
   line_taken begun x x' p es bs t h n e c i r =
       let l = line_state begun x p es t h in
       at_true (AtLine profile begun x' (p ++ bs) es) (AtPath profile begun x' (p ++ bs) es) x'.in_line i (line_run profile begun x x' p es bs l n e c (r l.kind (unlines l.lines ++ l.line) l.reads))
 
-  pub line_ended : (begun : List ℕ) (x x' : Present) (p : List ℕ) (es : List EntryData) (b : ℕ) → x.in_line ≡ true → At profile begun (Some x) p es → b ≡ 10 → x'.path.items ≡ x.path.items → x'.lines ≡ told (x.lines + 1) → x'.in_line ≡ false →
+  pub line_ended : (begun : List ℕ) (x x' : Present) (p : List ℕ) (es : List EntryData) (b : ℕ) → x.in_line ≡ true →
+      At profile begun (Some x) p es → b ≡ 10 → x'.path.items ≡ x.path.items → x'.lines ≡ told (x.lines + 1) →
+      x'.in_line ≡ false →
       ((k : ReadForm) (t : List ℕ) → Reads x.reader k t → Reads x'.reader k (t ++ b ∷ [])) → At profile begun (Some x') (p ++ b ∷ []) es
   line_ended begun x x' p es b t h n e c i r =
       let l = line_state begun x p es t h in
       at_false (AtLine profile begun x' (p ++ b ∷ []) es) (AtPath profile begun x' (p ++ b ∷ []) es) x'.in_line i (line_end profile begun x x' p es b l n e c (r l.kind (unlines l.lines ++ l.line) l.reads))
 
   -- A reader that is as it was.
-  pub line_same : (begun : List ℕ) (x x' : Present) (p : List ℕ) (es : List EntryData) → x.in_line ≡ true → At profile begun (Some x) p es → x'.path.items ≡ x.path.items → x'.lines ≡ x.lines → x'.in_line ≡ true → ((k : ReadForm) (t : List ℕ) → Reads x.reader k t → Reads x'.reader k t) → At profile begun (Some x') p es
+  pub line_same : (begun : List ℕ) (x x' : Present) (p : List ℕ) (es : List EntryData) → x.in_line ≡ true →
+      At profile begun (Some x) p es → x'.path.items ≡ x.path.items → x'.lines ≡ x.lines → x'.in_line ≡ true →
+      ((k : ReadForm) (t : List ℕ) → Reads x.reader k t → Reads x'.reader k t) → At profile begun (Some x') p es
   line_same begun x x' p es t h e c i r =
       let l = line_state begun x p es t h in
       at_true (AtLine profile begun x' p es) (AtPath profile begun x' p es) x'.in_line i (line_kept profile begun x x' p es l e c (r l.kind (unlines l.lines ++ l.line) l.reads))
@@ -165,7 +171,9 @@ module _ (profile : Profile) where
   pub at_none : (begun : List ℕ) (o : Option Present) (p : List ℕ) (es : List EntryData) → o ≡ None → At profile begun o p es → AtStart begun p es
   at_none begun o p es e h = subst (λ (q : Option Present). At profile begun q p es) e h
 
-  pub no_more : (begun : List ℕ) (x : Present) (p : List ℕ) (es : List EntryData) (k : ReadForm) → AtPath profile begun x p es → IsOfKind profile begun k → begun ≡ x.path.items → ((k : ReadForm) (t : List ℕ) → Reads x.reader k t → TakesLine k t → ⊥) →
+  pub no_more : (begun : List ℕ) (x : Present) (p : List ℕ) (es : List EntryData) (k : ReadForm) →
+      AtPath profile begun x p es → IsOfKind profile begun k → begun ≡ x.path.items →
+      ((k : ReadForm) (t : List ℕ) → Reads x.reader k t → TakesLine k t → ⊥) →
       (Next (Snap profile) p 0 → ⊥) × IsWhyAfter profile p 0 whys.NoMoreLines
   no_more begun x p es k h c s f =
       (λ v. f h.kind (unlines h.lines) h.reads (more_takes h.kind h.lines (same_nul profile begun x p es h s v)), (begun, path_begun profile begun x p es h, (bytes_no_nul begun h.begun_path, refl, c.0, (k, c.1))))
@@ -177,7 +185,9 @@ module _ (profile : Profile) where
       let r = paths_begun begun o p es a in
       (λ v. path_named begun (paths_nul begun o p es a v).0 c, (begun, r.0, (bytes_no_nul begun r.1, refl, c)))
 
-  pub not_readable_refused : (begun : List ℕ) (o : Option Present) (p : List ℕ) (es : List EntryData) → (IsNameless begun → ⊥) → ReadsAt profile begun None → IsBetween o → At profile begun o p es → (Next (Snap profile) p 0 → ⊥) × IsWhyAfter profile p 0 whys.NotReadable
+  pub not_readable_refused : (begun : List ℕ) (o : Option Present) (p : List ℕ) (es : List EntryData) →
+      (IsNameless begun → ⊥) → ReadsAt profile begun None → IsBetween o → At profile begun o p es →
+      (Next (Snap profile) p 0 → ⊥) × IsWhyAfter profile p 0 whys.NotReadable
   not_readable_refused begun o p es c n i h =
       let a = between begun o p es i h in
       let r = paths_begun begun o p es a in

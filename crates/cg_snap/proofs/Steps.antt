@@ -193,7 +193,9 @@ start_byte begun begun' p es b q e h = record {
 text_goes : (u l d x y : List ℕ) (b : ℕ) → x ≡ d ++ 10 ∷ y → (u ++ (l ++ b ∷ [])) ++ x ≡ (u ++ ((l ++ b ∷ []) ++ (d ++ 10 ∷ []))) ++ y
 text_goes u l d x y b e = rw e (simp append_assoc)
 
-goes_in : (kind : ReadForm) (ls : List (List ℕ)) (line : List ℕ) (b : ℕ) (x : List ℕ) (ms : List (List ℕ)) → b ≢ 10 → Lacks 10 line → AllByRecursion (Lacks 10) ms → line ++ b ∷ x ≡ unlines ms → KindFile kind ((unlines ls ++ (line ++ b ∷ [])) ++ x) →
+goes_in : (kind : ReadForm) (ls : List (List ℕ)) (line : List ℕ) (b : ℕ) (x : List ℕ) (ms : List (List ℕ)) →
+    b ≢ 10 → Lacks 10 line → AllByRecursion (Lacks 10) ms → line ++ b ∷ x ≡ unlines ms →
+    KindFile kind ((unlines ls ++ (line ++ b ∷ [])) ++ x) →
     CanEndLine kind ls (line ++ b ∷ [])
 goes_in kind ls line b x [] n w p e f = absurd (not_empty line x b e)
 goes_in kind ls line b x (m ∷ ms) n w p e f =
@@ -217,7 +219,9 @@ last_of b [] = ([], b, refl)
 last_of b (c ∷ q) = let r = last_of c q in (b ∷ r.0, r.1, ap (λ (t : List ℕ). b ∷ t) r.2)
 
 -- Where some bytes of a line came, it can end.
-pub run_can_end : (kind : ReadForm) (ls : List (List ℕ)) (line q : List ℕ) → Lacks 10 line → Lacks 10 q → AllByRecursion (Lacks 10) ls → CanEndLine kind ls line → Viable (KindFile kind) (unlines ls ++ (line ++ q)) → CanEndLine kind ls (line ++ q)
+pub run_can_end : (kind : ReadForm) (ls : List (List ℕ)) (line q : List ℕ) → Lacks 10 line → Lacks 10 q →
+    AllByRecursion (Lacks 10) ls → CanEndLine kind ls line → Viable (KindFile kind) (unlines ls ++ (line ++ q)) →
+    CanEndLine kind ls (line ++ q)
 run_can_end kind ls line [] w n a g v = rw (append-nil line) g
 run_can_end kind ls line (b ∷ q) w n a g v =
     let l = last_of b q in
@@ -265,7 +269,9 @@ module _ (profile : Profile) where
     count = h.count;
   }
 
-  pub line_run : (begun : List ℕ) (x x' : Present) (p : List ℕ) (es : List EntryData) (bs : List ℕ) (h : AtLine profile begun x p es) → Lacks 10 bs → x'.path.items ≡ x.path.items → x'.lines ≡ x.lines → Reads x'.reader h.kind ((unlines h.lines ++ h.line) ++ bs) → AtLine profile begun x' (p ++ bs) es
+  pub line_run : (begun : List ℕ) (x x' : Present) (p : List ℕ) (es : List EntryData) (bs : List ℕ)
+      (h : AtLine profile begun x p es) → Lacks 10 bs → x'.path.items ≡ x.path.items → x'.lines ≡ x.lines →
+      Reads x'.reader h.kind ((unlines h.lines ++ h.line) ++ bs) → AtLine profile begun x' (p ++ bs) es
   line_run begun x x' p es bs h n e c r =
       let reads : Reads x'.reader h.kind (unlines h.lines ++ (h.line ++ bs)) = rw append_assoc at r in
       record {
@@ -287,7 +293,9 @@ module _ (profile : Profile) where
       }
 
   -- The same where the reader took nothing.
-  pub line_kept : (begun : List ℕ) (x x' : Present) (p : List ℕ) (es : List EntryData) (h : AtLine profile begun x p es) → x'.path.items ≡ x.path.items → x'.lines ≡ x.lines → Reads x'.reader h.kind (unlines h.lines ++ h.line) → AtLine profile begun x' p es
+  pub line_kept : (begun : List ℕ) (x x' : Present) (p : List ℕ) (es : List EntryData)
+      (h : AtLine profile begun x p es) → x'.path.items ≡ x.path.items → x'.lines ≡ x.lines →
+      Reads x'.reader h.kind (unlines h.lines ++ h.line) → AtLine profile begun x' p es
   line_kept begun x x' p es h e c r = record {
     given = h.given;
     lines = h.lines;
@@ -306,7 +314,9 @@ module _ (profile : Profile) where
     count = c ∙ h.count;
   }
 
-  pub line_end : (begun : List ℕ) (x x' : Present) (p : List ℕ) (es : List EntryData) (b : ℕ) (h : AtLine profile begun x p es) → b ≡ 10 → x'.path.items ≡ x.path.items → x'.lines ≡ told (x.lines + 1) → Reads x'.reader h.kind ((unlines h.lines ++ h.line) ++ b ∷ []) → AtPath profile begun x' (p ++ b ∷ []) es
+  pub line_end : (begun : List ℕ) (x x' : Present) (p : List ℕ) (es : List EntryData) (b : ℕ)
+      (h : AtLine profile begun x p es) → b ≡ 10 → x'.path.items ≡ x.path.items → x'.lines ≡ told (x.lines + 1) →
+      Reads x'.reader h.kind ((unlines h.lines ++ h.line) ++ b ∷ []) → AtPath profile begun x' (p ++ b ∷ []) es
   line_end begun x x' p es b h n e c r = record {
     given = h.given;
     lines = h.lines ++ h.line ∷ [];
@@ -325,7 +335,9 @@ module _ (profile : Profile) where
 
   -- ---- The NUL of a path
 
-  pub start_path : (begun begun' p : List ℕ) (x' : Present) (es : List EntryData) (b : ℕ) (k : ReadForm) → b ≡ 0 → begun' ≡ [] → x'.path.items ≡ begun → x'.lines ≡ 0 → IsPath begun → ReadsAt profile begun (Some k) → Reads x'.reader k [] → AtStart begun p es → AtLine profile begun' x' (p ++ b ∷ []) es
+  pub start_path : (begun begun' p : List ℕ) (x' : Present) (es : List EntryData) (b : ℕ) (k : ReadForm) → b ≡ 0 →
+      begun' ≡ [] → x'.path.items ≡ begun → x'.lines ≡ 0 → IsPath begun → ReadsAt profile begun (Some k) →
+      Reads x'.reader k [] → AtStart begun p es → AtLine profile begun' x' (p ++ b ∷ []) es
   start_path begun begun' p x' es b k z n e c g r t h = record {
     given = [];
     lines = [];
@@ -344,7 +356,10 @@ module _ (profile : Profile) where
     count = c;
   }
 
-  pub same_path : (begun begun' : List ℕ) (x x' : Present) (p : List ℕ) (es : List EntryData) (b : ℕ) (h : AtPath profile begun x p es) → b ≡ 0 → begun' ≡ [] → begun ≡ x.path.items → x'.path.items ≡ x.path.items → x'.lines ≡ x.lines → x'.reader ≡ x.reader → CanEndLine h.kind h.lines [] → AtLine profile begun' x' (p ++ b ∷ []) es
+  pub same_path : (begun begun' : List ℕ) (x x' : Present) (p : List ℕ) (es : List EntryData) (b : ℕ)
+      (h : AtPath profile begun x p es) → b ≡ 0 → begun' ≡ [] → begun ≡ x.path.items →
+      x'.path.items ≡ x.path.items → x'.lines ≡ x.lines → x'.reader ≡ x.reader → CanEndLine h.kind h.lines [] →
+      AtLine profile begun' x' (p ++ b ∷ []) es
   same_path begun begun' x x' p es b h z n s e c r g = record {
     given = h.given;
     lines = h.lines;
@@ -363,7 +378,9 @@ module _ (profile : Profile) where
     count = c ∙ h.count;
   }
 
-  pub next_path : (begun begun' : List ℕ) (x x' : Present) (p : List ℕ) (es : List EntryData) (b : ℕ) (k : ReadForm) (e : EntryData) (h : AtPath profile begun x p es) → b ≡ 0 → begun' ≡ [] → x.path.items ≢ begun → x'.path.items ≡ begun → x'.lines ≡ 0 → IsPath begun → ReadsAt profile begun (Some k) → Reads x'.reader k [] →
+  pub next_path : (begun begun' : List ℕ) (x x' : Present) (p : List ℕ) (es : List EntryData) (b : ℕ) (k : ReadForm)
+      (e : EntryData) (h : AtPath profile begun x p es) → b ≡ 0 → begun' ≡ [] → x.path.items ≢ begun →
+      x'.path.items ≡ begun → x'.lines ≡ 0 → IsPath begun → ReadsAt profile begun (Some k) → Reads x'.reader k [] →
       e.path ≡ x.path.items → AreEntryLines profile e h.lines → AtLine profile begun' x' (p ++ b ∷ []) (es ++ e ∷ [])
   next_path begun begun' x x' p es b k e h z n s i c g r t q a = record {
     given = h.given ++ records x.path.items h.lines;
@@ -427,14 +444,18 @@ module _ (profile : Profile) where
       record { rest = r.0; whole = ((es ++ e.0 ∷ []) ++ r.1 ∷ [], subst (SnapText profile ((es ++ e.0 ∷ []) ++ r.1 ∷ [])) (path_text p h.given (records x.path.items h.lines) begun r.0 h.split) whole) }
 
   -- Whole lines, with which a file of the kind begins, can end there.
-  pub lines_text_snap : (es : List EntryData) (given q : List ℕ) (k : ReadForm) (lines : List (List ℕ)) → SnapText profile es given → EndsOther es q → IsPath q → ReadsAt profile q (Some k) → lines ≢ [] → AllByRecursion (Lacks 10) lines → Viable (KindFile k) (unlines lines) →
+  pub lines_text_snap : (es : List EntryData) (given q : List ℕ) (k : ReadForm) (lines : List (List ℕ)) →
+      SnapText profile es given → EndsOther es q → IsPath q → ReadsAt profile q (Some k) → lines ≢ [] →
+      AllByRecursion (Lacks 10) lines → Viable (KindFile k) (unlines lines) →
       Snap profile (given ++ records q lines)
   lines_text_snap es given q k lines h o g r some a f =
       let v = lines_can_end k lines some a f in
       let e = has_entry profile q k v.0 lines g r some v.1 in
       (es ++ e.entry ∷ [], push_at profile es given q e.entry lines e.path_is h e.are o)
 
-  pub line_text_viable : (es : List EntryData) (given q : List ℕ) (k : ReadForm) (lines : List (List ℕ)) (line p : List ℕ) → SnapText profile es given → EndsOther es q → IsPath q → ReadsAt profile q (Some k) → AllByRecursion (Lacks 10) lines → Lacks 10 line → CanEndLine k lines line →
+  pub line_text_viable : (es : List EntryData) (given q : List ℕ) (k : ReadForm) (lines : List (List ℕ))
+      (line p : List ℕ) → SnapText profile es given → EndsOther es q → IsPath q → ReadsAt profile q (Some k) →
+      AllByRecursion (Lacks 10) lines → Lacks 10 line → CanEndLine k lines line →
       p ≡ given ++ (records q lines ++ (q ++ 0 ∷ line)) → Viable (Snap profile) p
   line_text_viable es given q k lines line p h o g r a b c split =
       let m = c.0 in

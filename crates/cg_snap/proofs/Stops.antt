@@ -70,14 +70,18 @@ module _ (L : List ℕ → Type 0) (Breaks : List ℕ → ℕ → Why → Type 0
     pub stop_refused : (p : List ℕ) (b at : ℕ) (why : Why) → at ≡ length p → IsStreamUnstopped L Breaks Many limits p → (Next L p b → ⊥) → BreaksAfter Breaks p b why → StreamStopOf L Breaks Many limits (p ++ b ∷ []) (stops.Refused at why)
     stop_refused p b at why e u n w = stop_at p b (stops.Refused at why) u (e, rw (all_of p b) n, rw (all_of p b) (w.0, b, record { front = p; whole = refl; begins = w.1 }, w.2))
 
-    pub stop_long : (p : List ℕ) (b at : ℕ) → at ≡ length p → IsStreamUnstopped L Breaks Many limits p → IsLongRecord limits.max_record (p ++ b ∷ []) (length p) → Next L p b → StreamStopOf L Breaks Many limits (p ++ b ∷ []) (stops.TooLong at)
+    pub stop_long : (p : List ℕ) (b at : ℕ) → at ≡ length p → IsStreamUnstopped L Breaks Many limits p →
+        IsLongRecord limits.max_record (p ++ b ∷ []) (length p) → Next L p b →
+        StreamStopOf L Breaks Many limits (p ++ b ∷ []) (stops.TooLong at)
     stop_long p b at e u l v = stop_at p b (stops.TooLong at) u (e, rw (all_of p b) v, rw (all_of p b) l)
 
     pub stop_many : (p : List ℕ) (b at : ℕ) → at ≡ length p → IsStreamUnstopped L Breaks Many limits p → (IsLongRecord limits.max_record (p ++ b ∷ []) (length p) → ⊥) → Many limits.max_lines (p ++ b ∷ []) (length p) → Next L p b →
         StreamStopOf L Breaks Many limits (p ++ b ∷ []) (stops.TooMany at)
     stop_many p b at e u s m v = stop_at p b (stops.TooMany at) u (e, rw (all_of p b) v, rw (all_of p b) s, rw (all_of p b) m)
 
-    pub stop_much : (p : List ℕ) (b at : ℕ) → at ≡ length p → IsStreamUnstopped L Breaks Many limits p → (IsLongRecord limits.max_record (p ++ b ∷ []) (length p) → ⊥) → (Many limits.max_lines (p ++ b ∷ []) (length p) → ⊥) → length p ≡ limits.max_stream → Next L p b →
+    pub stop_much : (p : List ℕ) (b at : ℕ) → at ≡ length p → IsStreamUnstopped L Breaks Many limits p →
+        (IsLongRecord limits.max_record (p ++ b ∷ []) (length p) → ⊥) →
+        (Many limits.max_lines (p ++ b ∷ []) (length p) → ⊥) → length p ≡ limits.max_stream → Next L p b →
         StreamStopOf L Breaks Many limits (p ++ b ∷ []) (stops.TooMuch at)
     stop_much p b at e u s f m v = stop_at p b (stops.TooMuch at) u (e, rw (all_of p b) v, rw (all_of p b) s, rw (all_of p b) f, m)
 

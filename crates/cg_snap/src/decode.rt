@@ -1,6 +1,5 @@
 //! One snapshot, or one plan, as a whole.
-ghost use Rattle.std.specs.Prelude.{◌≡◌, ℕ, List, [], length, MatchOption, MatchResult};
-ghost use Rattle.cg_value.specs.Entry.{EntryData};
+ghost use Rattle.std.specs.Prelude.{◌≡◌, ℕ, List, [], MatchOption, MatchResult};
 ghost use Rattle.cg_snap.specs.Course.{IsAlong};
 ghost use Rattle.cg_snap.specs.Decode.{IsDecoded, IsPlanDecoded, IsPlanFault, IsSnapFault, IsStreamFault};
 ghost use Rattle.cg_snap.specs.Decoder.{AreAlong};

@@ -1,5 +1,5 @@
 //! The records of a snapshot.
-ghost use Rattle.std.specs.Prelude.{◌≡◌, List, []};
+ghost use Rattle.std.specs.Prelude.{◌≡◌, []};
 
 use crate::present::{Present, is_full, step};
 use crate::records::{Records, Stepped};

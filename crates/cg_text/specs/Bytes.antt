@@ -1,5 +1,5 @@
 -- Sets of bytes, as a mark for each byte.
-use Rattle.std.specs.Prelude.{◌≡◌, ℕ, zero, suc, Bool, true, false, List, [], ◌∷◌, IsTrue, slice_index_or, count_by, replicate}
+use Rattle.std.specs.Prelude.{ℕ, Bool, false, List, IsTrue, slice_index_or, count_by, replicate}
 
 -- The byte is in the set.
 abbrev pub HasByte : List Bool → ℕ → Type 0

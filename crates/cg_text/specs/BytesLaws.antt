@@ -1,5 +1,5 @@
 -- What holds of sets of bytes.
-use Rattle.std.proofs.Common.{◌≡◌, ℕ, zero, suc, Bool, true, false, List, [], ◌∷◌, IsTrue, refl}
+use Rattle.std.proofs.Common.{◌≡◌, ℕ, zero, suc, false, refl}
 use Rattle.std.specs.Prelude.{slice_index_or, replicate}
 use Rattle.cg_text.specs.Bytes.{HasByte, no_bytes}
 

@@ -1,11 +1,12 @@
 -- What holds of decimal texts.
-use Rattle.std.proofs.Common.{◌≡◌, ℕ, zero, suc, ◌+◌, ◌-◌, ◌*◌, ◌/◌, ◌%◌, ◌^◌, ◌≤◌, ◌<◌, ◌⊎◌, inl, inr, Bool, true, false, cond, eqb, ltb, leb, ◌&&◌, ◌||◌, List, [], ◌∷◌, ◌++◌, length, refl, sym, ◌∙◌, ap, arith, leb-true, le-leb, ltb-true, lt-ltb, max, IsTrue, ◌↔◌}
+use Rattle.std.proofs.Common.{◌≡◌, ℕ, zero, suc, ◌+◌, ◌-◌, ◌*◌, ◌/◌, ◌%◌, ◌^◌, ◌≤◌, ◌<◌, inl, inr, Bool, true, false, ltb, leb, ◌&&◌, ◌||◌, List, [], ◌∷◌, ◌++◌, length, refl, sym, ◌∙◌, arith, leb-true}
+use Rattle.std.proofs.Common.{le-leb, ltb-true, lt-ltb, max, IsTrue, ◌↔◌}
 use Rattle.std.proofs.lemmas.Bool.{and_from, and_parts}
-use Rattle.std.proofs.Math.Nat.{pow-succ', mul-le-mul_left, mul-le-mul_right, one-le-pow}
+use Rattle.std.proofs.Math.Nat.{pow-succ', mul-le-mul_left, mul-le-mul_right}
 use native.Mathlib.Decide.{dec_lt}
 use Prim.{yes, no}
 use Rattle.cg_text.specs.Token.{AreBytes}
-use Rattle.cg_text.specs.Decimal.{IsDecimal, AreDigits, read_on, IsNumeral}
+use Rattle.cg_text.specs.Decimal.{AreDigits, read_on, IsNumeral}
 use Rattle.cg_text.specs.DecimalState.{Spans, Reaches, some_below, reaches, IsDecimalRest, is_open, decimal_ends}
 use Rattle.cg_text.specs.declared.decimal.Progress.{Progress}
 use Rattle.cg_text.specs.declared.decimal.Progress.TheVariants.{Start, Zero, Number}

@@ -225,13 +225,17 @@ hundredths_completes form most (Tenth base) w = (48 ∷ [], record { count = bas
 hundredths_completes form most (Hundredth base) w = ([], record { count = base }, (w, (refl, refl)))
 
 -- Nothing need follow exactly where the empty rest has a number.
-whole_ends_from : (form : Form) (most : ℕ) (P : List ℕ → ℕ → Type 0) (e : Bool) → IsTrue e ↔ ((n : ℕ) × P [] n) → ((rest : List ℕ) (n : ℕ) → P rest n → 100 * n ≤ most) → IsTrue (may_leave_out form && e) → (h : Hundredths) × ((h.count ≤ most) × WholeRest form P [] h.count)
+whole_ends_from : (form : Form) (most : ℕ) (P : List ℕ → ℕ → Type 0) (e : Bool) → IsTrue e ↔ ((n : ℕ) × P [] n) →
+    ((rest : List ℕ) (n : ℕ) → P rest n → 100 * n ≤ most) → IsTrue (may_leave_out form && e) →
+    (h : Hundredths) × ((h.count ≤ most) × WholeRest form P [] h.count)
 whole_ends_from form most P e is w t =
     let both = and_parts (may_leave_out form) e t in
     let n = is.0 both.1 in
     (record { count = 100 * n.0 }, (w [] n.0 n.1, record { whole = n.0; front = []; back = []; text_is = refl; begins = n.1; ends = (both.0, refl) }))
 
-whole_ends_at : (form : Form) (P : List ℕ → ℕ → Type 0) (e : Bool) → IsTrue e ↔ ((n : ℕ) × P [] n) → (front back : List ℕ) (whole count : ℕ) → [] ≡ front ++ back → P front whole → AfterWhole form whole back count → IsTrue (may_leave_out form && e)
+whole_ends_at : (form : Form) (P : List ℕ → ℕ → Type 0) (e : Bool) → IsTrue e ↔ ((n : ℕ) × P [] n) →
+    (front back : List ℕ) (whole count : ℕ) → [] ≡ front ++ back → P front whole →
+    AfterWhole form whole back count → IsTrue (may_leave_out form && e)
 whole_ends_at form P e is [] [] whole count t p h = and_from (may_leave_out form) e h.0 (is.1 (whole, p))
 whole_ends_at form P e is [] (c ∷ back) whole count t p h = absurd (cc)
 whole_ends_at form P e is (x ∷ front) back whole count t p h = absurd (cc)

@@ -1,7 +1,8 @@
 -- The texts that are always the same (cgroup-v2.rst, "Interface Files"; psi.rst).
 use Rattle.std.specs.Prelude.{ℕ, List, codes}
 use Rattle.cg_text.specs.declared.keyword.Keyword.{Keyword}
-use Rattle.cg_text.specs.declared.keyword.Keyword.TheVariants.{Max, Default, Some, Full, Domain, DomainThreaded, DomainInvalid, Threaded, Member, Root, Isolated, Invalid, Opening, Rbps, Wbps, Riops, Wiops, Target, Swappiness, Avg10, Avg60, Avg300, Total}
+use Rattle.cg_text.specs.declared.keyword.Keyword.TheVariants.{Max, Default, Some, Full, Domain, DomainThreaded, DomainInvalid, Threaded, Member, Root, Isolated, Invalid, Opening, Rbps, Wbps, Riops}
+use Rattle.cg_text.specs.declared.keyword.Keyword.TheVariants.{Wiops, Target, Swappiness, Avg10, Avg60, Avg300, Total}
 
 abbrev pub text_of : Keyword → List ℕ
 text_of Max = codes "max"

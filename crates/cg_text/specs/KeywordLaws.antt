@@ -6,7 +6,8 @@ use Rattle.cg_text.specs.Texts.{Lacks}
 use Rattle.cg_text.specs.Token.{AreBytes}
 use Rattle.cg_text.specs.Keyword.{text_of}
 use Rattle.cg_text.specs.declared.keyword.Keyword.{Keyword}
-use Rattle.cg_text.specs.declared.keyword.Keyword.TheVariants.{Max, Default, Some, Full, Domain, DomainThreaded, DomainInvalid, Threaded, Member, Root, Isolated, Invalid, Opening, Rbps, Wbps, Riops, Wiops, Target, Swappiness, Avg10, Avg60, Avg300, Total}
+use Rattle.cg_text.specs.declared.keyword.Keyword.TheVariants.{Max, Default, Some, Full, Domain, DomainThreaded, DomainInvalid, Threaded, Member, Root, Isolated, Invalid, Opening, Rbps, Wbps, Riops}
+use Rattle.cg_text.specs.declared.keyword.Keyword.TheVariants.{Wiops, Target, Swappiness, Avg10, Avg60, Avg300, Total}
 
 tested_bytes : (xs : List ℕ) → list_all (λ b. nat_lt b 256) xs ≡ true → AreBytes xs
 tested_bytes [] e = tt

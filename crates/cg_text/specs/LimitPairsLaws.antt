@@ -1,5 +1,6 @@
 -- What holds of the pairs of a write of io.max.
-use Rattle.std.proofs.Common.{◌≡◌, ℕ, zero, suc, ◌+◌, ◌*◌, ◌≤◌, ◌<◌, ◌⊎◌, ◌↔◌, inl, inr, Bool, true, false, cond, ◌&&◌, ltb, Option, Some, None, MatchOption, List, [], ◌∷◌, ◌++◌, length, take, drop, get_or, codes, refl, sym, ◌∙◌, ap, subst, arith, append_assoc, ltb-true, lt-ltb, leb-true, le-leb, length-append, IsTrue}
+use Rattle.std.proofs.Common.{◌≡◌, ℕ, zero, suc, ◌+◌, ◌*◌, ◌≤◌, ◌<◌, ◌⊎◌, ◌↔◌, inl, inr, Bool, true, false, cond, ◌&&◌, ltb, Option, Some, None, MatchOption, List, [], ◌∷◌, ◌++◌, length, take, drop}
+use Rattle.std.proofs.Common.{get_or, codes, refl, sym, ◌∙◌, ap, subst, arith, append_assoc, ltb-true, lt-ltb, leb-true, le-leb, length-append, IsTrue}
 use Rattle.std.proofs.lemmas.Bool.{and_from, and_parts}
 use Rattle.cg_text.specs.Token.{AreBytes, Follows, NoneBegins}
 use Rattle.cg_text.specs.Decimal.{AreDigits, IsDecimal}
@@ -304,7 +305,9 @@ module _ (given : LimitPairs) (P P' : List ℕ → LimitKey × Limit → Type 0)
   pairs_taken_from (p ∷ ps) text h = cut_taken_to (λ x. P x p) (λ x. P' x p) (AfterPair (with_limit (p.0) (p.1) given) ps) byte text (λ x. (f x p).1)
       (λ x k. not_space (after_space (with_limit (p.0) (p.1) given) ps byte x k)) h
 
-taken : (given : LimitPairs) (part next : PairPart) (byte : ℕ) → (byte ≡ 32 → ⊥) → is_live given next ≡ true → ((x : List ℕ) (p : LimitKey × Limit) → PairRest given next x p ↔ PairRest given part (byte ∷ x) p) → IsNextPart given part byte given next
+taken : (given : LimitPairs) (part next : PairPart) (byte : ℕ) → (byte ≡ 32 → ⊥) → is_live given next ≡ true →
+    ((x : List ℕ) (p : LimitKey × Limit) → PairRest given next x p ↔ PairRest given part (byte ∷ x) p) →
+    IsNextPart given part byte given next
 taken given part next byte not_space live f = (
   live,
   λ rest v. (
@@ -364,7 +367,9 @@ key_whole given like key at byte e g =
       λ h. (let s = start_split (p.0) key h.1.0 x (sym h.1.1 ∙ same ∙ start_text key x) in (s.0, rw s.1 at h.1.2)),
     )))
 
-pub key_refuses : (given : LimitPairs) (like : LimitKey) (at byte : ℕ) → is_live given (InKey like at) ≡ true → ((key : LimitKey) → GoesOn given like at byte key → ⊥) → (rest : List ℕ) (v : LimitPairs) → LimitsRest given (InKey like at) (byte ∷ rest) v → ⊥
+pub key_refuses : (given : LimitPairs) (like : LimitKey) (at byte : ℕ) → is_live given (InKey like at) ≡ true →
+    ((key : LimitKey) → GoesOn given like at byte key → ⊥) → (rest : List ℕ) (v : LimitPairs) →
+    LimitsRest given (InKey like at) (byte ∷ rest) v → ⊥
 key_refuses given like at byte live none rest v h =
     let b = begun given (PairRest given (InKey like at)) h.0 byte rest h.2 in
     elim b.1 [
@@ -373,11 +378,16 @@ key_refuses given like at byte live none rest v h =
     ]
 
 -- A limit, one byte further.
-pub limit_next : (given : LimitPairs) (key : LimitKey) (part next : LimitPart) (byte : ℕ) → is_free key given ≡ true → (byte ≡ 32 → ⊥) → ((x : List ℕ) (v : Limit) → LimitRest next x v ↔ LimitRest part (byte ∷ x) v) → IsNextPart given (InLimit key part) byte given (InLimit key next)
+pub limit_next : (given : LimitPairs) (key : LimitKey) (part next : LimitPart) (byte : ℕ) →
+    is_free key given ≡ true → (byte ≡ 32 → ⊥) →
+    ((x : List ℕ) (v : Limit) → LimitRest next x v ↔ LimitRest part (byte ∷ x) v) →
+    IsNextPart given (InLimit key part) byte given (InLimit key next)
 limit_next given key part next byte free not_space f =
     taken given (InLimit key part) (InLimit key next) byte not_space free (λ x p. (λ h. (h.0, (f x (p.1)).0 h.1), λ h. (h.0, (f x (p.1)).1 h.1)))
 
-pub limit_refuses : (given : LimitPairs) (key : LimitKey) (part : LimitPart) (byte : ℕ) → (byte ≡ 32 → ⊥) → ((x : List ℕ) (v : Limit) → LimitRest part (byte ∷ x) v → ⊥) → (rest : List ℕ) (v : LimitPairs) → LimitsRest given (InLimit key part) (byte ∷ rest) v → ⊥
+pub limit_refuses : (given : LimitPairs) (key : LimitKey) (part : LimitPart) (byte : ℕ) → (byte ≡ 32 → ⊥) →
+    ((x : List ℕ) (v : Limit) → LimitRest part (byte ∷ x) v → ⊥) → (rest : List ℕ) (v : LimitPairs) →
+    LimitsRest given (InLimit key part) (byte ∷ rest) v → ⊥
 limit_refuses given key part byte not_space f rest v h =
     let b = begun given (PairRest given (InLimit key part)) h.0 byte rest h.2 in
     elim b.1 [ inl k ↦ f k.0 (b.0.1) k.1.1 | inr k ↦ not_space k.1 ]
@@ -394,7 +404,9 @@ open_refuses given key part e rest v h =
 value_same : (key : LimitKey) (part : LimitPart) (limit : Limit) (p : LimitKey × Limit) → LimitRest part [] limit → (p.0 ≡ key) × LimitRest part [] (p.1) → p ≡ (key, limit)
 value_same key part limit p value h = pairs_same p (key, limit) h.0 (limit_rest_one part [] (p.1) limit h.1 value)
 
-pub full_refuses : (given all : LimitPairs) (key : LimitKey) (part : LimitPart) (limit : Limit) → all ≡ with_limit key limit given → LimitRest part [] limit → ((k : LimitKey) → is_free k all ≡ false) → (rest : List ℕ) (v : LimitPairs) → LimitsRest given (InLimit key part) (32 ∷ rest) v → ⊥
+pub full_refuses : (given all : LimitPairs) (key : LimitKey) (part : LimitPart) (limit : Limit) →
+    all ≡ with_limit key limit given → LimitRest part [] limit → ((k : LimitKey) → is_free k all ≡ false) →
+    (rest : List ℕ) (v : LimitPairs) → LimitsRest given (InLimit key part) (32 ∷ rest) v → ⊥
 full_refuses given all key part limit e value none rest v h =
     let b = begun given (PairRest given (InLimit key part)) h.0 32 rest h.2 in
     elim b.1 [
@@ -411,7 +423,9 @@ after_more : (all : LimitPairs) (next : LimitKey) (us : List (LimitKey × Limit)
 after_more all next [] rest = (λ h. absurd (cc), λ h. absurd h)
 after_more all next (p ∷ us) rest = (λ h. (let e : h.0 ≡ rest = sym (tails 32 32 rest h.0 h.1) in rw e at h.2), λ h. (rest, refl, h))
 
-close_from : (given : LimitPairs) (key next : LimitKey) (part : LimitPart) (limit : Limit) → LimitRest part [] limit → (ps : List (LimitKey × Limit)) (rest : List ℕ) (v : LimitPairs) → v ≡ with_pairs given ps → PairsRest given (PairRest given (InLimit key part)) ps (32 ∷ rest) →
+close_from : (given : LimitPairs) (key next : LimitKey) (part : LimitPart) (limit : Limit) →
+    LimitRest part [] limit → (ps : List (LimitKey × Limit)) (rest : List ℕ) (v : LimitPairs) →
+    v ≡ with_pairs given ps → PairsRest given (PairRest given (InLimit key part)) ps (32 ∷ rest) →
     LimitsRest (with_limit key limit given) (InKey next 0) rest v
 close_from given key next part limit value [] rest v e h = absurd h
 close_from given key next part limit value (p ∷ ps) rest v e h = elim (cut_begun (λ x. PairRest given (InLimit key part) x p) (λ x. PairRest given (InLimit key part) x p) (AfterPair (with_limit (p.0) (p.1) given) ps) 32 rest h) [
@@ -422,7 +436,9 @@ close_from given key next part limit value (p ∷ ps) rest v e h = elim (cut_beg
       subst Q (value_same key part limit p value k.0) r)
 ]
 
-pub close_next : (given all : LimitPairs) (key next : LimitKey) (part : LimitPart) (limit : Limit) → all ≡ with_limit key limit given → LimitRest part [] limit → is_free next all ≡ true → IsNextPart given (InLimit key part) 32 all (InKey next 0)
+pub close_next : (given all : LimitPairs) (key next : LimitKey) (part : LimitPart) (limit : Limit) →
+    all ≡ with_limit key limit given → LimitRest part [] limit → is_free next all ≡ true →
+    IsNextPart given (InLimit key part) 32 all (InKey next 0)
 close_next given all key next part limit e value free = (
   and_from _ _ free (start_some next),
   λ rest v. rw e (

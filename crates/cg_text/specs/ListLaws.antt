@@ -17,7 +17,9 @@ IsSetFrom_prop least (r ∷ rs) = let more : IsProp (IsSetFrom (r.1 + 2) rs) = I
 pub IsSound_prop : (items : List (ℕ × ℕ)) (most : ℕ) (low : Option ℕ) (P : List ℕ → ℕ → Type 0) → IsProp (IsSound items most low P)
 IsSound_prop items most low P = hlevel (props, IsSetFrom_prop)
 
-pub list_digit : (most byte : ℕ) (P P' : List ℕ → ℕ → Type 0) → 48 ≤ byte → ((x : List ℕ) (n : ℕ) → P' x n ↔ P (byte ∷ x) n) → (items new : List (ℕ × ℕ)) (low : Option ℕ) → front new ≡ front items → 0 < length new → (rest : List ℕ) (all : List (ℕ × ℕ)) →
+pub list_digit : (most byte : ℕ) (P P' : List ℕ → ℕ → Type 0) → 48 ≤ byte →
+    ((x : List ℕ) (n : ℕ) → P' x n ↔ P (byte ∷ x) n) → (items new : List (ℕ × ℕ)) (low : Option ℕ) →
+    front new ≡ front items → 0 < length new → (rest : List ℕ) (all : List (ℕ × ℕ)) →
     IsListRest new most low P' rest all ↔ IsListRest items most low P (byte ∷ rest) all
 list_digit most byte P P' digit f items new low e some rest all = rw e (rest_digit true most byte P P' digit f items new low some (λ rs. all ≡ front items ++ rs) rest)
 
@@ -116,12 +118,16 @@ texts_of : (most least : ℕ) (r : ℕ × ℕ) (rs : List (ℕ × ℕ)) (text : 
 texts_of most least r [] text s h = then_low most (AfterRange true most (r.1) []) least r text (s.0, s.1, text, [], sym (append_nil text), h, refl)
 texts_of most least r (q ∷ rs) text s h = then_low most (AfterRange true most (r.1) (q ∷ rs)) least r text (s.0, s.1, h.0, 44 ∷ h.1, h.2, h.3, (h.1, refl, texts_of most (r.1 + 2) q rs h.1 s.2 h.4))
 
-texts_from : (most : ℕ) (rs : List (ℕ × ℕ)) (text : List ℕ) {Q : Type 0} → IsSetFrom 0 rs → AreRangeTexts most rs text → (RangesRest true most None (λ x n. IsDecimal 0 most n x) rs text → Q) → Q ⊎ ((◌≡◌ {A = ℕ} 0 0) × (rs ≡ []) × (text ≡ []))
+texts_from : (most : ℕ) (rs : List (ℕ × ℕ)) (text : List ℕ) {Q : Type 0} → IsSetFrom 0 rs →
+    AreRangeTexts most rs text → (RangesRest true most None (λ x n. IsDecimal 0 most n x) rs text → Q) →
+    Q ⊎ ((◌≡◌ {A = ℕ} 0 0) × (rs ≡ []) × (text ≡ []))
 texts_from most [] text s h f = inr (refl, refl, h)
 texts_from most (r ∷ rs) text s h f = inl (f (texts_of most 0 r rs text s h))
 
 -- A new token.
-pub list_new : (most : ℕ) (P : List ℕ → ℕ → Type 0) → ((x : List ℕ) (n : ℕ) → P x n ↔ IsDecimal 0 most n x) → (items : List (ℕ × ℕ)) → items ≡ [] → (rest : List ℕ) (all : List (ℕ × ℕ)) → IsListRest items most None P rest all ↔ IsStrictList most all rest
+pub list_new : (most : ℕ) (P : List ℕ → ℕ → Type 0) → ((x : List ℕ) (n : ℕ) → P x n ↔ IsDecimal 0 most n x) →
+    (items : List (ℕ × ℕ)) → items ≡ [] → (rest : List ℕ) (all : List (ℕ × ℕ)) →
+    IsListRest items most None P rest all ↔ IsStrictList most all rest
 list_new most P f items e rest all = rw e (
   λ h. elim h.2 [
     | inl k ↦ (let t = texts_to most 0 h.0 rest (ranges_same true most P (λ x n. IsDecimal 0 most n x) (λ x n. (f x n).0) None h.0 rest k) in rw h.1 t)
@@ -139,7 +145,9 @@ set_widen : (least a b c : ℕ) (xs : List (ℕ × ℕ)) → IsSetFrom least (xs
 set_widen least a b c [] s h = (s.0, omega (arith, s.1, h), tt)
 set_widen least a b c (x ∷ xs) s h = (s.0, s.1, set_widen (x.1 + 2) a b c xs s.2 h)
 
-pub sound_comma : (items new : List (ℕ × ℕ)) (most : ℕ) (low : Option ℕ) (P P' : List ℕ → ℕ → Type 0) (end : ℕ) → new ≡ (front items ++ (begin_of low end, end) ∷ []) ++ (0, 0) ∷ [] → P [] end → ((x : List ℕ) (n : ℕ) → P' x n ↔ IsDecimal (end + 2) most n x) →
+pub sound_comma : (items new : List (ℕ × ℕ)) (most : ℕ) (low : Option ℕ) (P P' : List ℕ → ℕ → Type 0) (end : ℕ) →
+    new ≡ (front items ++ (begin_of low end, end) ∷ []) ++ (0, 0) ∷ [] → P [] end →
+    ((x : List ℕ) (n : ℕ) → P' x n ↔ IsDecimal (end + 2) most n x) →
     IsSound items most low P → IsSound new most None P'
 sound_comma items new most low P P' end e p f s rest n h =
     let done : front new ≡ front items ++ (begin_of low end, end) ∷ [] = ap front e ∙ front_push (front items ++ (begin_of low end, end) ∷ []) (0, 0) in

@@ -39,13 +39,17 @@ adds_two xs a b c d s le le' = (added_one xs a b ((c, d) ∷ []) (inserted c d (
 adds_same : (xs rs v w : List (ℕ × ℕ)) → Adds xs rs v → Adds xs rs w → v ≡ w
 adds_same xs rs v w h k = same_ranges 0 v w h.0 k.0 (λ n. (λ x. (k.1 n).1 ((h.1 n).0 x), λ x. (h.1 n).1 ((k.1 n).0 x)))
 
-pub list_digit : (most byte : ℕ) (P P' : List ℕ → ℕ → Type 0) → 48 ≤ byte → ((x : List ℕ) (n : ℕ) → P' x n ↔ P (byte ∷ x) n) → (items new : List (ℕ × ℕ)) (low : Option ℕ) → front new ≡ front items → 0 < length new → (rest : List ℕ) (all : List (ℕ × ℕ)) →
+pub list_digit : (most byte : ℕ) (P P' : List ℕ → ℕ → Type 0) → 48 ≤ byte →
+    ((x : List ℕ) (n : ℕ) → P' x n ↔ P (byte ∷ x) n) → (items new : List (ℕ × ℕ)) (low : Option ℕ) →
+    front new ≡ front items → 0 < length new → (rest : List ℕ) (all : List (ℕ × ℕ)) →
     IsLooseRest new most low P' rest all ↔ IsLooseRest items most low P (byte ∷ rest) all
 list_digit most byte P P' digit f items new low e some rest all = rw e (rest_digit false most byte P P' digit f items new low some (λ rs. Adds (front items) rs all) rest)
 
 -- A comma or a dash after a number that has ended.
 module _ (most n : ℕ) (P : List ℕ → ℕ → Type 0) (ended : P [] n) (one : (m : ℕ) → P [] m → m ≡ n) (digits : (x : List ℕ) (m : ℕ) → P x m → AreDigits x) where
-  pub list_comma : (P' : List ℕ → ℕ → Type 0) → ((x : List ℕ) (m : ℕ) → P' x m ↔ IsDecimal 0 most m x) → (items new : List (ℕ × ℕ)) (low : Option ℕ) → IsSet (front items) → begin_of low n ≤ n → new ≡ inserted (begin_of low n) n (front items) ++ (0, 0) ∷ [] →
+  pub list_comma : (P' : List ℕ → ℕ → Type 0) → ((x : List ℕ) (m : ℕ) → P' x m ↔ IsDecimal 0 most m x) →
+      (items new : List (ℕ × ℕ)) (low : Option ℕ) → IsSet (front items) → begin_of low n ≤ n →
+      new ≡ inserted (begin_of low n) n (front items) ++ (0, 0) ∷ [] →
       (rest : List ℕ) (all : List (ℕ × ℕ)) → IsLooseRest new most None P' rest all ↔ IsLooseRest items most low P (44 ∷ rest) all
   list_comma P' f items new low set le e rest all =
       let done : front new ≡ inserted (begin_of low n) n (front items) = ap front e ∙ front_push (inserted (begin_of low n) n (front items)) (0, 0) in
@@ -56,18 +60,34 @@ module _ (most n : ℕ) (P : List ℕ → ℕ → Type 0) (ended : P [] n) (one 
       (rest : List ℕ) (all : List (ℕ × ℕ)) → IsLooseRest items most (Some n) P' rest all ↔ IsLooseRest items most None P (45 ∷ rest) all
   list_dash P' f items fresh rest all = rest_dash false most n P ended one digits P' f items fresh (λ rs. Adds (front items) rs all) rest
 
-pub list_completes : (items : List (ℕ × ℕ)) (most : ℕ) (low : Option ℕ) (P : List ℕ → ℕ → Type 0) → IsSet (front items) → IsSound most low P → ((rest : List ℕ) × (n : ℕ) × P rest n) → (rest : List ℕ) × (all : List (ℕ × ℕ)) × IsLooseRest items most low P rest all
-list_completes items most low P s o h = (h.0, inserted (begin_of low h.1) h.1 (front items), ((begin_of low h.1, h.1) ∷ [], adds_one (front items) (begin_of low h.1) h.1 s (o h.0 h.1 h.2).1, inl (ranges_complete false most low P h.0 h.1 h.2)))
+pub list_completes : (items : List (ℕ × ℕ)) (most : ℕ) (low : Option ℕ) (P : List ℕ → ℕ → Type 0) →
+    IsSet (front items) → IsSound most low P → ((rest : List ℕ) × (n : ℕ) × P rest n) →
+    (rest : List ℕ) × (all : List (ℕ × ℕ)) × IsLooseRest items most low P rest all
+list_completes items most low P s o h = (
+  h.0,
+  inserted (begin_of low h.1) h.1 (front
+      items),
+  (
+    (begin_of low h.1, h.1) ∷ [],
+    adds_one (front items) (begin_of low h.1) h.1 s (o h.0 h.1
+        h.2).1,
+    inl (ranges_complete false most low P h.0 h.1 h.2),
+  ),
+)
 
 -- The value of the empty rest.
-pub list_value : (items new : List (ℕ × ℕ)) (most : ℕ) (low : Option ℕ) (P : List ℕ → ℕ → Type 0) (n : ℕ) → IsSet (front items) → begin_of low n ≤ n → P [] n → new ≡ inserted (begin_of low n) n (front items) → IsLooseRest items most low P [] new
+pub list_value : (items new : List (ℕ × ℕ)) (most : ℕ) (low : Option ℕ) (P : List ℕ → ℕ → Type 0) (n : ℕ) →
+    IsSet (front items) → begin_of low n ≤ n → P [] n → new ≡ inserted (begin_of low n) n (front items) →
+    IsLooseRest items most low P [] new
 list_value items new most low P n s le h e = rw e ((begin_of low n, n) ∷ [], adds_one (front items) (begin_of low n) n s le, inl (ranges_complete false most low P [] n h))
 
 pub list_no_value : (items : List (ℕ × ℕ)) (most : ℕ) (low : Option ℕ) (P : List ℕ → ℕ → Type 0) → length items ≡ 0 → IsLooseRest items most low P [] items
 list_no_value [] most low P e = ([], adds_none [] tt, inr (refl, refl, refl))
 list_no_value (r ∷ rs) most low P e = absurd (omega (arith, e))
 
-pub list_ends : (items : List (ℕ × ℕ)) (most : ℕ) (low : Option ℕ) (P : List ℕ → ℕ → Type 0) (e : Bool) → IsSet (front items) → IsSound most low P → IsTrue e ↔ ((n : ℕ) × P [] n) → IsTrue (nat_eq (length items) 0 || e) ↔ ((all : List (ℕ × ℕ)) × IsLooseRest items most low P [] all)
+pub list_ends : (items : List (ℕ × ℕ)) (most : ℕ) (low : Option ℕ) (P : List ℕ → ℕ → Type 0) (e : Bool) →
+    IsSet (front items) → IsSound most low P → IsTrue e ↔ ((n : ℕ) × P [] n) →
+    IsTrue (nat_eq (length items) 0 || e) ↔ ((all : List (ℕ × ℕ)) × IsLooseRest items most low P [] all)
 list_ends [] most low P e s o f = (λ h. ([], list_no_value [] most low P refl), λ h. refl)
 list_ends (r ∷ rs) most low P e s o f = rw (not_zero (length rs)) (
   λ h. (let k = f.0 h in (inserted (begin_of low k.0) k.0 (front (r ∷ rs)), list_value (r ∷ rs) (inserted (begin_of low k.0) k.0 (front (r ∷ rs))) most low P k.0 s (o [] k.0 k.1).1 k.1 refl)),
@@ -80,8 +100,20 @@ pub list_one : (most : ℕ) (P : List ℕ → ℕ → Type 0) → ((x : List ℕ
 list_one most P digits one items low fresh rest v w h k = adds_same (front items) h.0 v w h.1 (rw (← (rest_one false most P digits one items low fresh rest (λ rs. Adds (front items) rs v) (λ rs. Adds (front items) rs w) h k)) at k.1)
 
 -- What begins a rest can be completed.
-pub begun_list : (items : List (ℕ × ℕ)) (most : ℕ) (low : Option ℕ) (P : List ℕ → ℕ → Type 0) (byte : ℕ) → IsSet (front items) → IsSound most low P → Begun false most low P byte → (rest : List ℕ) × (all : List (ℕ × ℕ)) × IsLooseRest items most low P (byte ∷ rest) all
-begun_list items most low P byte s o (inl h) = (h.0, inserted (begin_of low h.1) h.1 (front items), ((begin_of low h.1, h.1) ∷ [], adds_one (front items) (begin_of low h.1) h.1 s (o (byte ∷ h.0) h.1 h.2).1, inl (ranges_complete false most low P (byte ∷ h.0) h.1 h.2)))
+pub begun_list : (items : List (ℕ × ℕ)) (most : ℕ) (low : Option ℕ) (P : List ℕ → ℕ → Type 0) (byte : ℕ) →
+    IsSet (front items) → IsSound most low P → Begun false most low P byte →
+    (rest : List ℕ) × (all : List (ℕ × ℕ)) × IsLooseRest items most low P (byte ∷ rest) all
+begun_list items most low P byte s o (inl h) = (
+  h.0,
+  inserted (begin_of low h.1) h.1 (front
+      items),
+  (
+    (begin_of low h.1, h.1) ∷ [],
+    adds_one (front items) (begin_of low h.1) h.1 s (o
+        (byte ∷ h.0) h.1 h.2).1,
+    inl (ranges_complete false most low P (byte ∷ h.0) h.1 h.2),
+  ),
+)
 begun_list items most None P byte s o (inr (inl h)) =
     let t = some_decimal 0 most (omega arith) in (
       t.0,
@@ -154,7 +186,9 @@ members_to : (rs all : List (ℕ × ℕ)) → Adds [] rs all → (n : ℕ) → H
 members_to rs all h n = (λ k. elim ((h.1 n).0 k) [ inl z ↦ absurd z | inr z ↦ z ], λ k. (h.1 n).1 (inr k))
 
 -- A new token.
-pub list_new : (most : ℕ) (P : List ℕ → ℕ → Type 0) → ((x : List ℕ) (n : ℕ) → P x n ↔ IsDecimal 0 most n x) → (items : List (ℕ × ℕ)) → items ≡ [] → (rest : List ℕ) (all : List (ℕ × ℕ)) → IsLooseRest items most None P rest all ↔ IsLooseList most all rest
+pub list_new : (most : ℕ) (P : List ℕ → ℕ → Type 0) → ((x : List ℕ) (n : ℕ) → P x n ↔ IsDecimal 0 most n x) →
+    (items : List (ℕ × ℕ)) → items ≡ [] → (rest : List ℕ) (all : List (ℕ × ℕ)) →
+    IsLooseRest items most None P rest all ↔ IsLooseList most all rest
 list_new most P f items e rest all = rw e (
   λ h. (
     h.1.0,

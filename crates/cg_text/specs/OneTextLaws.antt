@@ -1,8 +1,8 @@
 -- A value has one text in its read form.
-use Rattle.std.proofs.Common.{◌≡◌, ℕ, zero, suc, ◌+◌, ◌-◌, ◌*◌, ◌^◌, ◌≤◌, inl, inr, List, [], ◌∷◌, length, refl, sym, ◌∙◌, arith}
+use Rattle.std.proofs.Common.{◌≡◌, ℕ, List, sym, ◌∙◌, arith}
 use Rattle.cg_text.specs.Amount.{IsAmount}
 use Rattle.cg_text.specs.Clamp.{IsClamp}
-use Rattle.cg_text.specs.Decimal.{IsDecimal, AreDigits, read_on, IsNumeral}
+use Rattle.cg_text.specs.Decimal.{IsDecimal}
 use Rattle.cg_text.specs.Device.{IsDevice}
 use Rattle.cg_text.specs.Hundredths.{IsHundredths, HasTwoDigits}
 use Rattle.cg_text.specs.Limit.{IsLimit}

@@ -87,8 +87,15 @@ module _ (strict : Bool) (most byte : ℕ) (P P' : List ℕ → ℕ → Type 0) 
 
   ranges_digit_from : (low : Option ℕ) (rs : List (ℕ × ℕ)) (text : List ℕ) → RangesRest strict most low P rs (byte ∷ text) → RangesRest strict most low P' rs text
   ranges_digit_from low [] text h = h
-  ranges_digit_from None (r ∷ rs) text h = cut_taken_to (λ x. P x (r.0)) (λ x. P' x (r.0)) (LowNext strict most (AfterRange strict most (r.1) rs) r) byte text (λ x. (f x (r.0)).1) (λ x k. absurd (omega (arith, digit, low_next strict most r rs byte x k))) h
-  ranges_digit_from (Some a) (r ∷ rs) text h = (h.0, cut_taken_to (λ x. P x (r.1)) (λ x. P' x (r.1)) (AfterRange strict most (r.1) rs) byte text (λ x. (f x (r.1)).1) (λ x k. absurd (omega (arith, digit, after_comma strict most (r.1) rs byte x k))) h.1)
+  ranges_digit_from None (r ∷ rs) text h =
+      cut_taken_to (λ x. P x (r.0)) (λ x. P' x (r.0))
+      (LowNext strict most (AfterRange strict most (r.1) rs) r) byte text (λ x. (f x (r.0)).1)
+      (λ x k. absurd (omega (arith, digit, low_next strict most r rs byte x k))) h
+  ranges_digit_from (Some a) (r ∷ rs) text h = (
+    h.0,
+    cut_taken_to (λ x. P x (r.1)) (λ x. P' x (r.1)) (AfterRange strict most (r.1) rs) byte text (λ x.
+        (f x (r.1)).1) (λ x k. absurd (omega (arith, digit, after_comma strict most (r.1) rs byte x k))) h.1,
+  )
 
   pub rest_digit : (items new : List (ℕ × ℕ)) (low : Option ℕ) → 0 < length new → (A : List (ℕ × ℕ) → Type 0) (rest : List ℕ) → ListRest strict new most low P' A rest ↔ ListRest strict items most low P A (byte ∷ rest)
   rest_digit items new low some A rest = (
@@ -117,7 +124,9 @@ length_pushed xs x [] e h = absurd (not_nil xs x e)
 length_pushed xs x (y ∷ ys) e h = absurd (omega (arith, h))
 
 -- P by another relation.
-pub ranges_same : (strict : Bool) (most : ℕ) (P P' : List ℕ → ℕ → Type 0) → ((x : List ℕ) (n : ℕ) → P x n → P' x n) → (low : Option ℕ) (rs : List (ℕ × ℕ)) (text : List ℕ) → RangesRest strict most low P rs text → RangesRest strict most low P' rs text
+pub ranges_same : (strict : Bool) (most : ℕ) (P P' : List ℕ → ℕ → Type 0) →
+    ((x : List ℕ) (n : ℕ) → P x n → P' x n) → (low : Option ℕ) (rs : List (ℕ × ℕ)) (text : List ℕ) →
+    RangesRest strict most low P rs text → RangesRest strict most low P' rs text
 ranges_same strict most P P' f low [] text h = h
 ranges_same strict most P P' f None (r ∷ rs) text h = (h.0, h.1, h.2, f h.0 (r.0) h.3, h.4)
 ranges_same strict most P P' f (Some a) (r ∷ rs) text h = (h.0, (h.1.0, h.1.1, h.1.2, f h.1.0 (r.1) h.1.3, h.1.4))
@@ -234,7 +243,9 @@ ranges_begun strict most (Some a) P (r ∷ rs) byte text h = elim (cut_begun (λ
   | inr k ↦ high_begun strict most P (Some a) (r.1) rs byte text k.0 k.1
 ]
 
-pub rest_begun : (strict : Bool) (items : List (ℕ × ℕ)) (most : ℕ) (low : Option ℕ) (P : List ℕ → ℕ → Type 0) (byte : ℕ) (A : List (ℕ × ℕ) → Type 0) (rest : List ℕ) → ListRest strict items most low P A (byte ∷ rest) → Begun strict most low P byte
+pub rest_begun : (strict : Bool) (items : List (ℕ × ℕ)) (most : ℕ) (low : Option ℕ) (P : List ℕ → ℕ →
+    Type 0) (byte : ℕ) (A : List (ℕ × ℕ) → Type 0) (rest : List ℕ) →
+    ListRest strict items most low P A (byte ∷ rest) → Begun strict most low P byte
 rest_begun strict items most low P byte A rest h = elim h.2 [ inl k ↦ ranges_begun strict most low P h.0 byte rest k | inr k ↦ absurd (let q = k.2 in cc) ]
 
 -- Every state can be completed.
@@ -287,7 +298,10 @@ next_one strict most r q rs qs text e (inr h) (inr k) =
     let same : h.0 ≡ k.0 = tails 45 45 h.0 k.0 (sym h.1 ∙ k.1) in
     let c = h.2 in
     let d = k.2 in
-    let s = split_one c.0 c.1 d.0 d.1 (decimal_digits (after_dash_from strict (r.0)) most (r.1) c.0 c.3) (decimal_digits (after_dash_from strict (q.0)) most (q.1) d.0 d.3) (after_stopped strict most (r.1) rs c.1 c.4) (after_stopped strict most (q.1) qs d.1 d.4) (sym c.2 ∙ same ∙ d.2) in
+    let s = split_one c.0 c.1 d.0 d.1 (decimal_digits (after_dash_from strict (r.0)) most (r.1) c.0 c.3)
+    (decimal_digits (after_dash_from strict (q.0)) most (q.1) d.0 d.3)
+    (after_stopped strict most (r.1) rs c.1 c.4) (after_stopped strict most (q.1) qs d.1 d.4)
+    (sym c.2 ∙ same ∙ d.2) in
     (IsDecimalRest_one (after_dash_from strict (r.0)) most Start c.0 (r.1) (q.1) c.3 (rw (← s.0, ← e) at d.3), c.1, c.4, rw (← s.1) at d.4)
 
 module _ (strict : Bool) (most : ℕ) (P : List ℕ → ℕ → Type 0) (digits : (x : List ℕ) (m : ℕ) → P x m → AreDigits x) (one : (x : List ℕ) (m n : ℕ) → P x m → P x n → m ≡ n) where
@@ -314,7 +328,10 @@ after_one strict most b [] (q ∷ qs) text h k = absurd (let e = k.1 in cc)
 after_one strict most b (r ∷ rs) [] text h k = absurd (let e = h.1 in cc)
 after_one strict most b (r ∷ rs) (q ∷ qs) text h k =
     let same : h.0 ≡ k.0 = tails 44 44 h.0 k.0 (sym h.1 ∙ k.1) in
-    let o = low_one strict most (λ x n. IsDecimal (after_comma_from strict b) most n x) (λ x m. decimal_digits (after_comma_from strict b) most m x) (λ x m n. IsDecimalRest_one (after_comma_from strict b) most Start x m n) r q rs qs h.0 h.2 (rw (← same) at k.2) in
+    let o = low_one strict most (λ x n. IsDecimal (after_comma_from strict b) most n x)
+    (λ x m. decimal_digits (after_comma_from strict b) most m x)
+    (λ x m n. IsDecimalRest_one (after_comma_from strict b) most Start x m n) r q rs qs h.0 h.2
+    (rw (← same) at k.2) in
     let rest : rs ≡ qs = after_one strict most (r.1) rs qs o.1 o.2 (after_at strict most (r.1) (q.1) qs o.1 (ap (λ (z : ℕ × ℕ). z.1) o.0) o.3) in
     let e : r ≡ q = o.0 in
     cc
@@ -342,7 +359,10 @@ module _ (strict : Bool) (most : ℕ) (P : List ℕ → ℕ → Type 0) (digits 
   rest_one_of items low fresh rest rs qs (inr h) (inr k) = h.1 ∙ sym k.1
 
   -- The ranges to come are determined.
-  pub rest_one : (items : List (ℕ × ℕ)) (low : Option ℕ) → (length items ≡ 0 → (n : ℕ) → P [] n → ⊥) → (rest : List ℕ) (A B : List (ℕ × ℕ) → Type 0) (h : ListRest strict items most low P A rest) (k : ListRest strict items most low P B rest) → h.0 ≡ k.0
+  pub rest_one : (items : List (ℕ × ℕ)) (low : Option ℕ) → (length items ≡ 0 → (n : ℕ) → P [] n → ⊥) →
+      (rest : List ℕ) (A B : List (ℕ × ℕ) →
+      Type 0) (h : ListRest strict items most low P A rest) (k : ListRest strict items most low P B rest) →
+      h.0 ≡ k.0
   rest_one items low fresh rest A B h k = rest_one_of items low fresh rest h.0 k.0 h.2 k.2
 
 -- What begins a rest can be completed.
@@ -408,19 +428,29 @@ next_bytes : (strict : Bool) (most : ℕ) (N : List ℕ → Type 0) (r : ℕ × 
 next_bytes strict most N r g text (inl h) = g text h.1
 next_bytes strict most N r g text (inr h) = rw h.1 (omega arith, cut_bytes (λ x. IsDecimal (after_dash_from strict (r.0)) most (r.1) x) N (λ x k. digits_bytes x (decimal_digits (after_dash_from strict (r.0)) most (r.1) x k)) g h.0 h.2)
 
-low_bytes : (strict : Bool) (most : ℕ) (P : List ℕ → ℕ → Type 0) (N : List ℕ → Type 0) (r : ℕ × ℕ) → ((x : List ℕ) (n : ℕ) → P x n → AreDigits x) → ((x : List ℕ) → N x → AreBytes x) → (text : List ℕ) → LowRest strict most P N r text → AreBytes text
+low_bytes : (strict : Bool) (most : ℕ) (P : List ℕ → ℕ → Type 0) (N : List ℕ → Type 0) (r : ℕ × ℕ) →
+    ((x : List ℕ) (n : ℕ) → P x n → AreDigits x) → ((x : List ℕ) → N x → AreBytes x) → (text : List ℕ) →
+    LowRest strict most P N r text → AreBytes text
 low_bytes strict most P N r f g text h = cut_bytes (λ x. P x (r.0)) (LowNext strict most N r) (λ x k. digits_bytes x (f x (r.0) k)) (next_bytes strict most N r g) text h
 
 after_bytes : (strict : Bool) (most b : ℕ) (rs : List (ℕ × ℕ)) (text : List ℕ) → AfterRange strict most b rs text → AreBytes text
 after_bytes strict most b [] text h = rw h tt
-after_bytes strict most b (r ∷ rs) text h = rw h.1 (omega arith, low_bytes strict most (λ x n. IsDecimal (after_comma_from strict b) most n x) (AfterRange strict most (r.1) rs) r (λ x n k. decimal_digits (after_comma_from strict b) most n x k) (after_bytes strict most (r.1) rs) h.0 h.2)
+after_bytes strict most b (r ∷ rs) text h =
+    rw h.1 (
+      omega arith,
+      low_bytes strict most (λ x n. IsDecimal
+          (after_comma_from strict b) most n x) (AfterRange strict most (r.1) rs) r
+          (λ x n k. decimal_digits (after_comma_from strict b) most n x k) (after_bytes strict most (r.1) rs) h.0 h.2,
+    )
 
 ranges_bytes : (strict : Bool) (most : ℕ) (low : Option ℕ) (P : List ℕ → ℕ → Type 0) → ((x : List ℕ) (n : ℕ) → P x n → AreDigits x) → (rs : List (ℕ × ℕ)) (text : List ℕ) → RangesRest strict most low P rs text → AreBytes text
 ranges_bytes strict most low P f [] text h = absurd h
 ranges_bytes strict most None P f (r ∷ rs) text h = low_bytes strict most P (AfterRange strict most (r.1) rs) r f (after_bytes strict most (r.1) rs) text h
 ranges_bytes strict most (Some a) P f (r ∷ rs) text h = cut_bytes (λ x. P x (r.1)) (AfterRange strict most (r.1) rs) (λ x k. digits_bytes x (f x (r.1) k)) (after_bytes strict most (r.1) rs) text h.1
 
-pub rest_bytes : (strict : Bool) (items : List (ℕ × ℕ)) (most : ℕ) (low : Option ℕ) (P : List ℕ → ℕ → Type 0) → ((x : List ℕ) (n : ℕ) → P x n → AreDigits x) → (A : List (ℕ × ℕ) → Type 0) (rest : List ℕ) → ListRest strict items most low P A rest → AreBytes rest
+pub rest_bytes : (strict : Bool) (items : List (ℕ × ℕ)) (most : ℕ) (low : Option ℕ) (P : List ℕ → ℕ → Type 0) →
+    ((x : List ℕ) (n : ℕ) → P x n → AreDigits x) → (A : List (ℕ × ℕ) → Type 0) (rest : List ℕ) →
+    ListRest strict items most low P A rest → AreBytes rest
 rest_bytes strict items most low P f A rest h = elim h.2 [ inl k ↦ ranges_bytes strict most low P f h.0 rest k | inr k ↦ rw k.2 tt ]
 
 pub turn_begun : (strict : Bool) (most : ℕ) (low : Option ℕ) (old : DecimalText) (byte : ℕ) (t : ListByte) → IsListByte strict most low old byte t → (t ≡ Refused → ⊥) → Begun strict most low (number_rest old) byte

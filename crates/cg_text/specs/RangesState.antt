@@ -63,5 +63,8 @@ number_rest d rest n = IsDecimalRest d.lo d.hi d.progress rest n
 abbrev pub IsListByte : Bool → ℕ → Option ℕ → DecimalText → ℕ → ListByte → Type 0
 IsListByte strict most low old byte (Digit new) = (rest : List ℕ) (n : ℕ) → number_rest new rest n ↔ number_rest old (byte ∷ rest) n
 IsListByte strict most low old byte (Comma end new) = (byte ≡ 44) × number_rest old [] end × (after_comma_from strict end ≤ most) × ((rest : List ℕ) (n : ℕ) → number_rest new rest n ↔ IsDecimal (after_comma_from strict end) most n rest)
-IsListByte strict most low old byte (Dash end new) = (byte ≡ 45) × number_rest old [] end × (after_dash_from strict end ≤ most) × ((rest : List ℕ) (n : ℕ) → number_rest new rest n ↔ IsDecimal (after_dash_from strict end) most n rest) × (low ≡ None)
+IsListByte strict most low old byte (Dash end new) =
+    (byte ≡ 45) × number_rest old [] end × (after_dash_from strict end ≤ most)
+    × ((rest : List ℕ) (n : ℕ) → number_rest new rest n ↔ IsDecimal (after_dash_from strict end) most n rest)
+    × (low ≡ None)
 IsListByte strict most low old byte Refused = Begun strict most low (number_rest old) byte → ⊥

@@ -1,6 +1,6 @@
 -- Sets of texts: what begins a text of a set, which byte may come next, and the first bad byte.
 -- A text is a list of bytes. A set is given by the fact that a text is in it.
-use Rattle.std.specs.Prelude.{◌≡◌, ◌≢◌, ℕ, ◌+◌, ◌<◌, List, [], ◌∷◌, ◌++◌, length, take}
+use Rattle.std.specs.Prelude.{◌≢◌, ℕ, ◌+◌, ◌<◌, List, [], ◌∷◌, ◌++◌, length, take}
 
 -- The texts that a relation gives a value.
 abbrev pub TextOf : {V : Type 0} → (List ℕ → V → Type 0) → List ℕ → Type 0

@@ -73,7 +73,9 @@ begun_times byte (Some a) P w (inl h) = (h.0, record { stall = a; window = h.1 }
 begun_times byte None P w (inr h) = let t = some_decimal h.2 10000000 h.4 in (t.0, record { stall = h.2; window = 10000000 }, ([], t.0, ap (λ x. x ∷ t.0) h.0, h.3, t.1))
 begun_times byte (Some a) P w (inr h) = absurd (let e = h.1 in cc)
 
-pub turn_begins : (byte : ℕ) (stall : Option ℕ) (old : DecimalText) (t : TimesByte) → IsWithin (number_rest old) → IsTimesByte stall old byte t → (t ≡ Refused → ⊥) → (text : List ℕ) × (v : Times) × TimesRest stall (number_rest old) (byte ∷ text) v
+pub turn_begins : (byte : ℕ) (stall : Option ℕ) (old : DecimalText) (t : TimesByte) → IsWithin (number_rest old) →
+    IsTimesByte stall old byte t → (t ≡ Refused → ⊥) →
+    (text : List ℕ) × (v : Times) × TimesRest stall (number_rest old) (byte ∷ text) v
 turn_begins byte stall old (Digit new) w h f =
     let k = IsDecimalRest_completes new.lo new.hi new.progress new.range new.live in
     begun_times byte stall (number_rest old) w (inl (k.0, k.1, (h k.0 k.1).0 k.2))
@@ -88,7 +90,9 @@ pub times_end_is : (stall : Option ℕ) (P : List ℕ → ℕ → Type 0) (e : B
 times_end_is None P e f = (λ h. absurd (cc), λ h. absurd (not_nil h.1.0 32 h.1.1 h.1.2))
 times_end_is (Some a) P e f = (λ h. (let k = f.0 h in (record { stall = a; window = k.0 }, (refl, k.1))), λ h. f.1 (h.0.window, h.1.1))
 
-pub times_one : (stall : Option ℕ) (P : List ℕ → ℕ → Type 0) → ((x : List ℕ) (m : ℕ) → P x m → AreDigits x) → ((x : List ℕ) (m n : ℕ) → P x m → P x n → m ≡ n) → (text : List ℕ) (v w : Times) → TimesRest stall P text v → TimesRest stall P text w → v ≡ w
+pub times_one : (stall : Option ℕ) (P : List ℕ → ℕ → Type 0) → ((x : List ℕ) (m : ℕ) → P x m → AreDigits x) →
+    ((x : List ℕ) (m n : ℕ) → P x m → P x n → m ≡ n) → (text : List ℕ) (v w : Times) → TimesRest stall P text v →
+    TimesRest stall P text w → v ≡ w
 times_one None P digits one text v w h k =
     let s = split_one h.0 (32 ∷ h.1) k.0 (32 ∷ k.1) (digits h.0 v.stall h.3) (digits k.0 w.stall k.3) (omega arith) (omega arith) (sym h.2 ∙ k.2) in
     let e : v.stall ≡ w.stall = one h.0 v.stall w.stall h.3 (rw (← s.0) at k.3) in

@@ -1,5 +1,5 @@
 //! One byte.
-ghost use Rattle.std.specs.Prelude.{◌≡◌, ℕ, ◌≤◌, ◌<◌, ◌↔◌, false, List, [], ◌∷◌, refl};
+ghost use Rattle.std.specs.Prelude.{◌≡◌, ◌<◌, false, [], ◌∷◌, refl};
 ghost use Rattle.cg_text.specs.Token.{Spells};
 ghost use Rattle.cg_text.specs.ByteLaws.{left};
 

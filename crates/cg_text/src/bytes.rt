@@ -1,5 +1,5 @@
 //! Sets of bytes.
-ghost use Rattle.std.specs.Prelude.{◌≡◌, ◌↔◌, ◌⊎◌, ◌<◌, ◌^◌, ℕ, IsTrue, length};
+ghost use Rattle.std.specs.Prelude.{◌≡◌, ◌↔◌, ◌⊎◌, ℕ, IsTrue};
 ghost use Rattle.cg_text.specs.Bytes.{HasByte, no_bytes, count_of};
 
 use std::marker::Model;

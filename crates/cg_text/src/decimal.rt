@@ -1,5 +1,5 @@
 //! Decimal numbers of a range.
-ghost use Rattle.std.specs.Prelude.{◌≡◌, ℕ, ◌+◌, ◌*◌, ◌≤◌, ◌<◌, ◌↔◌, false, List, ◌∷◌, IsTrue, MatchOption, ⊤, refl, ◌^◌};
+ghost use Rattle.std.specs.Prelude.{◌+◌, ◌*◌, ◌≤◌, ◌<◌, ◌↔◌, false, IsTrue, MatchOption, ⊤, refl, ◌^◌};
 ghost use Rattle.cg_text.specs.Decimal.{IsDecimal};
 ghost use Rattle.cg_text.specs.DecimalState.{Reaches, IsDecimalRest, is_open, decimal_ends};
 ghost use Rattle.cg_text.specs.Token.{Follows, NoneBegins, Spells};

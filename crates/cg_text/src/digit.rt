@@ -1,5 +1,5 @@
 //! One more digit of a number.
-ghost use Rattle.std.specs.Prelude.{◌≡◌, ◌↔◌, List, ◌∷◌, MatchOption};
+ghost use Rattle.std.specs.Prelude.{MatchOption};
 ghost use Rattle.cg_text.specs.NumberRest.{number_rest};
 ghost use Rattle.cg_text.specs.Token.{Follows, NoneBegins};
 

@@ -1,5 +1,5 @@
 //! A text that is always the same.
-ghost use Rattle.std.specs.Prelude.{◌≡◌, ℕ, ◌≤◌, ◌↔◌, false, List, length, drop, refl, nat_eq};
+ghost use Rattle.std.specs.Prelude.{◌≡◌, ◌≤◌, false, length, drop, refl, nat_eq};
 ghost use Rattle.cg_text.specs.Token.{Spells, AreBytes};
 ghost use Rattle.cg_text.specs.TokenLaws.{AreBytes_prop};
 

@@ -1,5 +1,5 @@
 //! Numbers with two decimals.
-ghost use Rattle.std.specs.Prelude.{◌≡◌, ℕ, ◌+◌, ◌*◌, ◌/◌, ◌-◌, ◌≤◌, ◌<◌, ◌↔◌, ◌⊎◌, false, List, [], ◌∷◌, IsTrue, MatchOption, ⊤, refl};
+ghost use Rattle.std.specs.Prelude.{◌≡◌, ◌+◌, ◌*◌, ◌/◌, ◌-◌, ◌≤◌, ◌<◌, false, [], IsTrue, MatchOption, ⊤, refl};
 ghost use Rattle.cg_text.specs.Hundredths.{IsHundredths, IsDigit};
 ghost use Rattle.cg_text.specs.DecimalState.{IsDecimalRest};
 ghost use Rattle.cg_text.specs.HundredthsState.{HundredthsRest, IsWithin, hundredths_ends, may_leave_out, whole_ends};

@@ -1,5 +1,5 @@
 //! Lists of numbers and ranges.
-ghost use Rattle.std.specs.Prelude.{◌≡◌, ℕ, ◌+◌, ◌≤◌, ◌<◌, ◌↔◌, ◌||◌, true, List, [], ◌++◌, ◌∷◌, length, nat_eq, IsTrue, OnOk, OnErr, vec_len, vec_capacity, MatchOption};
+ghost use Rattle.std.specs.Prelude.{◌≡◌, ℕ, ◌+◌, ◌≤◌, ◌<◌, ◌||◌, true, List, [], ◌++◌, ◌∷◌, length, nat_eq, OnOk, OnErr, vec_len, vec_capacity};
 ghost use Rattle.cg_text.specs.Token.{Spells};
 ghost use Rattle.cg_text.specs.List.{IsStrictList};
 ghost use Rattle.cg_text.specs.ListState.{IsListRest, IsSound};

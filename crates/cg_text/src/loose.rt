@@ -1,5 +1,5 @@
 //! Lists of numbers and ranges in any order.
-ghost use Rattle.std.specs.Prelude.{◌≡◌, ℕ, ◌+◌, ◌≤◌, ◌<◌, ◌↔◌, ◌||◌, true, false, List, [], ◌++◌, ◌∷◌, length, nat_eq, IsTrue, OnOk, OnErr, vec_len, vec_capacity, MatchOption};
+ghost use Rattle.std.specs.Prelude.{◌≡◌, ℕ, ◌+◌, ◌≤◌, ◌<◌, ◌||◌, true, false, [], ◌++◌, ◌∷◌, length, nat_eq, OnOk, OnErr, vec_len, vec_capacity};
 ghost use Rattle.cg_text.specs.Token.{Spells};
 ghost use Rattle.cg_text.specs.List.{IsLooseList};
 ghost use Rattle.cg_text.specs.RangesState.{front, number_rest};

@@ -1,5 +1,5 @@
 //! Sets of numbers.
-ghost use Rattle.std.specs.Prelude.{◌≡◌, ℕ, ◌+◌, ◌≤◌, ◌<◌, ◌↔◌, ◌⊎◌, List, [], IsTrue, IsFalse, IfOk, IsOk, OnOk, OnErr, length, vec_len, vec_capacity};
+ghost use Rattle.std.specs.Prelude.{◌≡◌, ℕ, ◌+◌, ◌≤◌, ◌<◌, ◌↔◌, ◌⊎◌, List, [], IsTrue, IfOk, IsOk, OnOk, OnErr, vec_len, vec_capacity};
 ghost use Rattle.cg_text.specs.Numbers.{IsSet, Has, size_of, IsCount};
 ghost use Rattle.cg_text.specs.NumbersLaws.{inserted};
 

@@ -1,5 +1,5 @@
 //! The pairs of a write of `io.max`.
-ghost use Rattle.std.specs.Prelude.{◌≡◌, ℕ, suc, ◌+◌, ◌≤◌, ◌<◌, ◌↔◌, false, List, [], ◌++◌, ◌∷◌, length, IsTrue, MatchOption, refl};
+ghost use Rattle.std.specs.Prelude.{◌≡◌, ℕ, ◌+◌, ◌<◌, ◌↔◌, false, List, [], ◌∷◌, length, IsTrue, MatchOption, refl};
 ghost use Rattle.cg_text.specs.Token.{Follows, NoneBegins, Spells};
 ghost use Rattle.cg_text.specs.LimitPairs.{AreLimits};
 ghost use Rattle.cg_text.specs.LimitPairsState.{key_start, is_none, is_free, with_limit, LimitRest, LimitsRest, limit_ends, limits_end, is_live, GoesOn, IsNextPart};

@@ -1,5 +1,5 @@
 //! Raw lines.
-ghost use Rattle.std.specs.Prelude.{◌≡◌, ℕ, ◌≤◌, ◌<◌, ◌↔◌, true, List, [], IsTrue, length};
+ghost use Rattle.std.specs.Prelude.{◌≡◌, ◌<◌, ◌↔◌, true, IsTrue, length};
 ghost use Rattle.cg_text.specs.Raw.{IsRawLine};
 ghost use Rattle.cg_text.specs.RawState.{IsRawByte, IsRawRest};
 ghost use Rattle.cg_text.specs.Token.{Spells};

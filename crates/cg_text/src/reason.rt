@@ -1,7 +1,7 @@
 //! The reason of an invalid partition, and the closing parenthesis behind it.
-ghost use Rattle.std.specs.Prelude.{◌≡◌, ℕ, ◌≤◌, ◌<◌, ◌↔◌, true, List, [], ◌++◌, IsTrue, length};
+ghost use Rattle.std.specs.Prelude.{◌≡◌, ◌<◌, true, ◌++◌, length};
 ghost use Rattle.cg_text.specs.Raw.{IsRawLine, IsReason};
-ghost use Rattle.cg_text.specs.RawState.{IsRawByte, is_closed};
+ghost use Rattle.cg_text.specs.RawState.{is_closed};
 ghost use Rattle.cg_text.specs.RawLaws.{IsRawLine_prop};
 ghost use Rattle.cg_text.specs.Token.{Spells};
 

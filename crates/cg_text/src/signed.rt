@@ -1,5 +1,5 @@
 //! Signed decimal numbers of a range.
-ghost use Rattle.std.specs.Prelude.{◌≡◌, ℕ, ◌≤◌, ◌<◌, ◌↔◌, false, List, ◌∷◌, IsTrue, MatchOption, ⊤, refl, ℤ, pos, ◌≤ℤ◌, ◌<ℤ◌};
+ghost use Rattle.std.specs.Prelude.{◌≤◌, ◌<◌, false, IsTrue, MatchOption, ⊤, refl, ℤ, pos, ◌≤ℤ◌, ◌<ℤ◌};
 ghost use Rattle.cg_text.specs.Signed.{IsSigned};
 ghost use Rattle.cg_text.specs.SignedState.{SignedRest, IsMagnitude, LacksPlain, LacksNegative, IsBounded, is_live, signed_ends};
 ghost use Rattle.cg_text.specs.SignedLaws.{IsBounded_prop};

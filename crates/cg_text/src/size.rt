@@ -1,5 +1,5 @@
 //! Sizes with a suffix.
-ghost use Rattle.std.specs.Prelude.{◌≡◌, ℕ, ◌≤◌, ◌<◌, ◌↔◌, false, List, ◌∷◌, IsTrue, MatchOption, ⊤, refl};
+ghost use Rattle.std.specs.Prelude.{◌≡◌, ℕ, ◌<◌, false, MatchOption, ⊤, refl};
 ghost use Rattle.cg_text.specs.Size.{HasFactor, IsSize};
 ghost use Rattle.cg_text.specs.SizeState.{SizeRest, EndsSize, IsSmall, size_ends};
 ghost use Rattle.cg_text.specs.SizeLaws.{IsSmall_prop};

@@ -1,5 +1,5 @@
 //! What every token keeps.
-ghost use Rattle.std.specs.Prelude.{◌≡◌, ℕ, ◌+◌, ◌≤◌, ◌↔◌, Bool, List, [], ◌∷◌, IsTrue, IsFalse, OnErr};
+ghost use Rattle.std.specs.Prelude.{◌≡◌, ℕ, ◌+◌, ◌≤◌, ◌↔◌, Bool, List, [], IsTrue, IsFalse, OnErr};
 ghost use Rattle.cg_text.specs.Token.{Follows, Begins, NoneBegins, Ends, Same, Completes, HasOneValue, HoldsBytes, IfTaken, IfRefused, UnlessTaken, told};
 
 use crate::memory::OutOfMemory;

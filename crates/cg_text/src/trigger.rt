@@ -1,5 +1,5 @@
 //! The times of a pressure trigger.
-ghost use Rattle.std.specs.Prelude.{◌≡◌, ℕ, ◌+◌, ◌≤◌, ◌<◌, ◌↔◌, false, List, [], ◌∷◌, IsTrue, refl};
+ghost use Rattle.std.specs.Prelude.{◌≡◌, ◌<◌, false, refl};
 ghost use Rattle.cg_text.specs.Token.{Spells};
 ghost use Rattle.cg_text.specs.Trigger.{AreTimes};
 ghost use Rattle.cg_text.specs.RangesState.{number_rest};

@@ -1,5 +1,5 @@
 //! Words.
-ghost use Rattle.std.specs.Prelude.{◌≡◌, ℕ, ◌≤◌, ◌<◌, ◌↔◌, true, List, [], IsTrue, length, nat_lt};
+ghost use Rattle.std.specs.Prelude.{◌≡◌, ◌<◌, ◌↔◌, true, IsTrue, length, nat_lt};
 ghost use Rattle.cg_text.specs.Word.{IsWordText, IsWordByte, IsNoSign};
 ghost use Rattle.cg_text.specs.WordState.{IsWordFront, IsWordRest, is_taken};
 ghost use Rattle.cg_text.specs.WordLaws.{IsWordFront_prop};

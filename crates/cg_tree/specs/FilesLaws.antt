@@ -86,10 +86,22 @@ ends_later d fs s e inside front back =
 -- What passes a test stands together.
 span : {X : Type 0} (p : X → Bool) (xs : List X) (s e : ℕ) → s ≤ e → e ≤ length xs → AllWithin (λ x. p x ≡ false) xs 0 s → AllWithin (λ x. p x ≡ true) xs s e → AllWithin (λ x. p x ≡ false) xs e (length xs) → drop s (take e xs) ≡ filter p xs
 span p [] s e h k front mid back = ap (drop s) (take-nil e) ∙ drop-nil s
-span p (x ∷ xs) zero zero h k front mid back = rw (back 0 x (omega arith) (omega arith)) (span p xs zero zero (omega arith) (omega arith) (λ i d a b. absurd (omega (arith, b))) (λ i d a b. absurd (omega (arith, b))) (λ i d a b. back (suc i) d (omega arith) (omega (arith, b))))
-span p (x ∷ xs) zero (suc e) h k front mid back = rw (mid 0 x (omega arith) (omega arith)) (ap (λ t. x ∷ t) (span p xs zero e (omega arith) (omega (arith, k)) (λ i d a b. absurd (omega (arith, b))) (λ i d a b. mid (suc i) d (omega arith) (omega (arith, b))) (λ i d a b. back (suc i) d (omega (arith, a)) (omega (arith, b)))))
+span p (x ∷ xs) zero zero h k front mid back =
+    rw (back 0 x (omega arith) (omega arith))
+    (span p xs zero zero (omega arith) (omega arith) (λ i d a b. absurd (omega (arith, b)))
+    (λ i d a b. absurd (omega (arith, b))) (λ i d a b. back (suc i) d (omega arith) (omega (arith, b))))
+span p (x ∷ xs) zero (suc e) h k front mid back =
+    rw (mid 0 x (omega arith) (omega arith))
+    (ap (λ t. x ∷ t) (span p xs zero e (omega arith) (omega (arith, k)) (λ i d a b. absurd (omega (arith, b)))
+    (λ i d a b. mid (suc i) d (omega arith) (omega (arith, b)))
+    (λ i d a b. back (suc i) d (omega (arith, a)) (omega (arith, b)))))
 span p (x ∷ xs) (suc s) zero h k front mid back = absurd (omega (arith, h))
-span p (x ∷ xs) (suc s) (suc e) h k front mid back = rw (front 0 x (omega arith) (omega arith)) (span p xs s e (omega (arith, h)) (omega (arith, k)) (λ i d a b. front (suc i) d (omega arith) (omega (arith, b))) (λ i d a b. mid (suc i) d (omega (arith, a)) (omega (arith, b))) (λ i d a b. back (suc i) d (omega (arith, a)) (omega (arith, b))))
+span p (x ∷ xs) (suc s) (suc e) h k front mid back =
+    rw (front 0 x (omega arith) (omega arith))
+    (span p xs s e (omega (arith, h)) (omega (arith, k))
+    (λ i d a b. front (suc i) d (omega arith) (omega (arith, b)))
+    (λ i d a b. mid (suc i) d (omega (arith, a)) (omega (arith, b)))
+    (λ i d a b. back (suc i) d (omega (arith, a)) (omega (arith, b))))
 
 same_front : (o : Ordering) → is_lt o ≡ true → is_eq o ≡ false
 same_front Less e = refl
@@ -107,7 +119,9 @@ same_back Equal e = absurd (true≢false e)
 same_back Greater e = refl
 
 -- The files of a directory are those between the ends.
-pub within_found : (d : List ℕ) (fs : List FileData) (s e : ℕ) → s ≤ length fs → e ≤ length fs → IsPartitionPoint (λ f. before d f ≡ true) (λ f. before d f ≡ false) fs s → IsPartitionPoint (λ f. upto d f ≡ true) (λ f. upto d f ≡ false) fs e → drop s (take e fs) ≡ within d fs
+pub within_found : (d : List ℕ) (fs : List FileData) (s e : ℕ) → s ≤ length fs → e ≤ length fs →
+    IsPartitionPoint (λ f. before d f ≡ true) (λ f. before d f ≡ false) fs s →
+    IsPartitionPoint (λ f. upto d f ≡ true) (λ f. upto d f ≡ false) fs e → drop s (take e fs) ≡ within d fs
 within_found d fs s e h k first last =
     span (λ f. bytes_eq f.directory d) fs s e (ends_later d fs s e h first.0 last.1) k
     (λ i x a b. sym (is_eq-slice_cmp _ d) ∙ same_front _ (first.0 i x a b))

@@ -14,12 +14,17 @@ picked_push test make xs x =
     rw (numbered_push 0 xs x, filter-append test (enumerate_from 0 xs) ((0 + length xs, x) ∷ []), map-append make (filter test (enumerate_from 0 xs)) (filter test ((0 + length xs, x) ∷ [])))
     (ap (λ m. picked test make xs ++ map make (cond (test (m, x)) ((m, x) ∷ []) [])) (omega arith))
 
-picked_next : {X Y : Type 0} (test : ℕ × X → Bool) (make : ℕ × X → Y) (xs : List X) (i : ℕ) (x : X) → i < length xs → x ≡ get_or xs i x → picked test make (take (i + 1) xs) ≡ picked test make (take i xs) ++ map make (cond (test (i, x)) ((i, x) ∷ []) [])
+picked_next : {X Y : Type 0} (test : ℕ × X → Bool) (make : ℕ × X → Y) (xs : List X) (i : ℕ) (x : X) →
+    i < length xs → x ≡ get_or xs i x →
+    picked test make (take (i + 1) xs)
+    ≡ picked test make (take i xs) ++ map make (cond (test (i, x)) ((i, x) ∷ []) [])
 picked_next test make xs i x h e =
     ap (picked test make) (take_more xs i x h ∙ ap (λ y. take i xs ++ y ∷ []) (sym e)) ∙ picked_push test make (take i xs) x
     ∙ ap (λ m. picked test make (take i xs) ++ map make (cond (test (m, x)) ((m, x) ∷ []) [])) (omega (arith, length-take i xs))
 
-pub picked_more : {X Y : Type 0} (test : ℕ × X → Bool) (make : ℕ × X → Y) (xs : List X) (i : ℕ) (x : X) → i < length xs → x ≡ get_or xs i x → test (i, x) ≡ true → picked test make (take (i + 1) xs) ≡ picked test make (take i xs) ++ make (i, x) ∷ []
+pub picked_more : {X Y : Type 0} (test : ℕ × X → Bool) (make : ℕ × X → Y) (xs : List X) (i : ℕ) (x : X) →
+    i < length xs → x ≡ get_or xs i x → test (i, x) ≡ true →
+    picked test make (take (i + 1) xs) ≡ picked test make (take i xs) ++ make (i, x) ∷ []
 picked_more test make xs i x h e t =
     picked_next test make xs i x h e ∙ ap (λ b. picked test make (take i xs) ++ map make (cond b ((i, x) ∷ []) [])) t
 

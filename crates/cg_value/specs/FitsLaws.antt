@@ -170,4 +170,5 @@ pub raw_fits : (ls : List (List ℕ)) → HasLines (AllZip IsRaw ls) ↔ Fits fo
 raw_fits ls = through form.Raw (value.Raw ls) (of_on IsRaw value.Raw (λ x y e. cc) ls) (of_back IsRaw value.Raw (λ x y e. cc) ls)
 
 -- The lemmas on the kinds.
-pub ruleset fits_laws = (number_fits, signed_fits, limit_fits, mode_fits, cpu_max_fits, clamp_fits, numbers_fit, words_fit, flat_fits, stats_fit, limits_fit, weights_fit, targets_fit, set_fits, partition_fits, pressure_fits, nested_fits, raw_fits)
+pub ruleset fits_laws =
+    (number_fits, signed_fits, limit_fits, mode_fits, cpu_max_fits, clamp_fits, numbers_fit, words_fit, flat_fits, stats_fit, limits_fit, weights_fit, targets_fit, set_fits, partition_fits, pressure_fits, nested_fits, raw_fits)

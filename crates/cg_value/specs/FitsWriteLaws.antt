@@ -335,5 +335,8 @@ same_times v w a b = same_two v.stall w.stall v.window w.window a b
 pub times_fit : (full : Bool) (stall window : ℕ) → AreTimesWithin stall window ↔ FitsWrite form.Trigger (setting.Trigger full stall window)
 times_fit full stall window = (
   λ h. record { line = pressure_word full ++ 32 ∷ (decimal stall ++ 32 ∷ decimal window); spelled = record { x = (full, times_of stall window); value = refl; spelled = times_print full (times_of stall window) h } },
-  λ h. times_within full (times_of stall window) h.line (made IsTrigger (λ (x : Bool × Times). setting.Trigger (x.0) x.1.stall x.1.window) (λ x y e. same_pair x y (cc) (same_times (x.1) (y.1) (cc) (cc))) (full, times_of stall window) h.line h.spelled),
+  λ h. times_within full (times_of stall window) h.line
+      (made IsTrigger (λ (x : Bool × Times). setting.Trigger (x.0) x.1.stall x.1.window)
+      (λ x y e. same_pair x y (cc) (same_times (x.1) (y.1) (cc) (cc)))
+      (full, times_of stall window) h.line h.spelled),
 )

@@ -1,5 +1,6 @@
 -- What follows from the definitions of flat keyed files, and what an index of their pairs is.
-use Rattle.std.proofs.Common.{◌≡◌, ℕ, zero, suc, ◌+◌, ◌-◌, ◌*◌, ◌/◌, ◌<◌, ◌≤◌, ◌^◌, ◌⊎◌, inl, inr, List, [], ◌∷◌, ◌++◌, length, get_or, Option, Some, None, Bool, true, false, cond, option_map, is_some, refl, sym, ap, ◌∙◌, add-one, zero-add, arith}
+use Rattle.std.proofs.Common.{◌≡◌, ℕ, zero, suc, ◌+◌, ◌-◌, ◌*◌, ◌/◌, ◌<◌, ◌≤◌, ◌^◌, ◌⊎◌, inl, inr, List, [], ◌∷◌, ◌++◌, length, get_or, Option, Some, None, Bool, true, false, cond, option_map, is_some}
+use Rattle.std.proofs.Common.{refl, sym, ap, ◌∙◌, add-one, zero-add, arith}
 use Rattle.std.proofs.Math.Nat.{mul-le-mul_right, mul_assoc, mul_comm, pow-succ'}
 use Rattle.std.proofs.Math.Pow.{pow_mono}
 use Rattle.std.proofs.lemmas.Bool.{cases_lt, cases_order, cond-true, cond-false, false_from_ne_true}
@@ -202,7 +203,15 @@ module _ {pairs : List FlatPair} {order : List ℕ} (index : IsIndex pairs order
   pub order_within : (k d : ℕ) → k < length order → get_or order k d < length pairs
   order_within k d h =
       let n = length pairs in
-      let each : All (λ x. x < n) (range_with_len 0 n) = All-from_get_or (λ x. x < n) (range_with_len 0 n) 0 (λ i l. omega (arith, get_or-range_with_len 0 n i 0 (omega (arith, length-range_with_len 0 n, l)), length-range_with_len 0 n, l)) in
+      let each : All (λ x. x < n) (range_with_len 0 n) =
+      All-from_get_or (λ x. x < n) (range_with_len 0 n) 0
+      (λ i l. omega (
+        arith,
+        get_or-range_with_len 0 n i 0 (omega
+            (arith, length-range_with_len 0 n, l)),
+        length-range_with_len 0 n,
+        l,
+      )) in
       All-permutation (λ x. x < n) _ _ index.places each k d h
 
   pub order_reaches : (p : ℕ) → p < length pairs → (k : ℕ) × (k < length order) × (get_or order k 0 ≡ p)
@@ -254,7 +263,9 @@ module _ {pairs : List FlatPair} {order : List ℕ} (index : IsIndex pairs order
           | inr more ↦ before_apart _ _ (b.above place.0 more place.1) (sym (ap (key_at pairs) place.2 ∙ e))
         ]
 
-all_pairs_insert : {X : Type 0} (R : X → X → Type 0) (xs : List X) (at : ℕ) (y : X) → AllPairs R xs → at ≤ length xs → ((k : ℕ) (d : X) → k < at → R (get_or xs k d) y) → ((k : ℕ) (d : X) → at ≤ k → k < length xs → R y (get_or xs k d)) → AllPairs R (insert xs at y)
+all_pairs_insert : {X : Type 0} (R : X → X → Type 0) (xs : List X) (at : ℕ) (y : X) → AllPairs R xs →
+    at ≤ length xs → ((k : ℕ) (d : X) → k < at → R (get_or xs k d) y) →
+    ((k : ℕ) (d : X) → at ≤ k → k < length xs → R y (get_or xs k d)) → AllPairs R (insert xs at y)
 all_pairs_insert {X} R xs at y all within below above = λ i j d less h.
     let n = length-insert xs at y within in
     let after : (k : ℕ) → at < k → get_or (insert xs at y) k d ≡ get_or xs (k - 1) d =

@@ -50,7 +50,10 @@ led_given Riops (Some l) = ap (λ t. codes " riops=" ++ t) (append_nil (print_li
 led_given Wiops (Some l) = ap (λ t. codes " wiops=" ++ t) (append_nil (print_limit l))
 
 -- What is printed of the limits is their pairs, each with a space before it.
-pub limits_led : (front : List ℕ) (v : LimitPairs) → front ++ print_given (codes " rbps=") print_limit v.rbps ++ print_given (codes " wbps=") print_limit v.wbps ++ print_given (codes " riops=") print_limit v.riops ++ print_given (codes " wiops=") print_limit v.wiops ≡ front ++ led (pairs_of v)
+pub limits_led : (front : List ℕ) (v : LimitPairs) →
+    front ++ print_given (codes " rbps=") print_limit v.rbps ++ print_given
+    (codes " wbps=") print_limit v.wbps ++ print_given (codes " riops=") print_limit v.riops ++ print_given
+    (codes " wiops=") print_limit v.wiops ≡ front ++ led (pairs_of v)
 limits_led front v =
     let last = led_both (given Riops v.riops) (given Wiops v.wiops) in
     let more = led_both (given Wbps v.wbps) (given Riops v.riops ++ given Wiops v.wiops) in

@@ -182,7 +182,12 @@ after_last_number b = (
   of_two (Next (File One (codes "cpuset.cpus")) (codes "65534")) 45 10 b
       (record {
         rest = codes "65535\n";
-        whole = (value.Set ((65534, 65535) ∷ []), file (read.Set 65535) (codes "65534-65535" ∷ []) refl (one_line ((65534, 65535) ∷ []) (codes "65534-65535") ((omega arith, omega arith, tt), range 65534 65535 (codes "65534") (codes "65535") refl)) refl);
+        whole = (
+          value.Set ((65534, 65535) ∷ []),
+          file (read.Set 65535) (codes "65534-65535" ∷ []) refl (one_line
+              ((65534, 65535) ∷ []) (codes "65534-65535")
+              ((omega arith, omega arith, tt), range 65534 65535 (codes "65534") (codes "65535") refl)) refl,
+        );
       })
       (record { rest = []; whole = (value.Set ((65534, 65534) ∷ []), set_file 65534 (codes "65534") (omega arith) refl) }),
 )
@@ -229,7 +234,17 @@ after_last_comma b = (
       whole = (
         value.Set ((65533, 65533) ∷ (65535, 65535) ∷ []),
         file (read.Set 65535) (codes "65533,65535" ∷ []) refl
-            (one_line ((65533, 65533) ∷ (65535, 65535) ∷ []) (codes "65533,65535") ((omega arith, omega arith, (omega arith, omega arith, tt)), (codes "65533", codes "65535", refl, alone 65533 (codes "65533") refl, alone 65535 (codes "65535") refl))) refl,
+            (one_line ((65533, 65533) ∷ (65535, 65535) ∷ []) (codes "65533,65535") (
+              (omega arith, omega arith, (omega arith, omega arith, tt)),
+              (
+                codes "65533",
+                codes "65535",
+                refl,
+                alone 65533 (codes
+                    "65533") refl,
+                alone 65535 (codes "65535") refl,
+              ),
+            )) refl,
       );
     })
     | inr e ↦ absurd e
@@ -274,7 +289,9 @@ pub after_dash : AfterDash
 unfolding read_form_of
 after_dash b = (
   next_read One (codes "cpuset.cpus") (codes "3-") b (read.Set 65535) refl (λ v lines h. h)
-      (λ set tail h. (let after = dash_parts 65535 3 (codes "3") (b ∷ tail) set refl h.1 in let bounds = first_byte after.last b tail after.digits after.more (omega (arith, after.above)) after.spelled.2 after.text_is in some_digit b bounds.0 bounds.1))
+      (λ set tail h. (let after = dash_parts 65535 3 (codes "3") (b ∷ tail) set refl h.1 in let bounds =
+      first_byte after.last b tail after.digits after.more
+      (omega (arith, after.above)) after.spelled.2 after.text_is in some_digit b bounds.0 bounds.1))
       (λ set e h. (let after = dash_parts 65535 3 (codes "3") [] set refl h.1 in absurd (no_text after.last after.digits after.more after.spelled.2 after.text_is))),
   λ h. (
       let bounds = bounded 49 57 b (codes "123456789") refl h in
@@ -405,7 +422,12 @@ later_mark b (inl e) = subst (Next (File Two (codes "cpuset.cpus")) (codes "6553
 })
 later_mark b (inr (inl e)) = subst (Next (File Two (codes "cpuset.cpus")) (codes "65534")) (sym e) (record {
   rest = codes "65535\n";
-  whole = (value.Set ((65534, 65535) ∷ []), file (read.Set 1048575) (codes "65534-65535" ∷ []) refl (one_line ((65534, 65535) ∷ []) (codes "65534-65535") ((omega arith, omega arith, tt), range 65534 65535 (codes "65534") (codes "65535") refl)) refl);
+  whole = (
+    value.Set ((65534, 65535) ∷ []),
+    file (read.Set 1048575) (codes "65534-65535" ∷ []) refl (one_line
+        ((65534, 65535) ∷ []) (codes "65534-65535")
+        ((omega arith, omega arith, tt), range 65534 65535 (codes "65534") (codes "65535") refl)) refl,
+  );
 })
 later_mark b (inr (inr (inl e))) = subst (Next (File Two (codes "cpuset.cpus")) (codes "65534")) (sym e) (record {
   rest = [];

@@ -169,7 +169,10 @@ HasName t = IsControllerWord t.name
 toggles_raw : (ts : List Toggle) → All HasName ts → IsRawLine (toggles_line ts)
 toggles_raw [] h = tt
 toggles_raw (t ∷ []) h = toggle_raw t.on t.name (controller_raw t.name (All-head HasName t [] h))
-toggles_raw (t ∷ u ∷ ts) h = raw_append (sign_of t.on ∷ t.name) (32 ∷ toggles_line (u ∷ ts)) (toggle_raw t.on t.name (controller_raw t.name (All-head HasName t (u ∷ ts) h))) (raw_one 32 (toggles_line (u ∷ ts)) (omega arith) (omega arith) (toggles_raw (u ∷ ts) (All-tail HasName t (u ∷ ts) h)))
+toggles_raw (t ∷ u ∷ ts) h = raw_append (sign_of t.on ∷ t.name) (32 ∷ toggles_line (u ∷ ts))
+    (toggle_raw t.on t.name (controller_raw t.name (All-head HasName t (u ∷ ts) h)))
+    (raw_one 32 (toggles_line (u ∷ ts)) (omega arith) (omega arith)
+    (toggles_raw (u ∷ ts) (All-tail HasName t (u ∷ ts) h)))
 
 quota_raw : (quota : Limit) (period : Option ℕ) (line : List ℕ) → IsQuota quota period line → IsRawLine line
 quota_raw quota None line h = limit_raw 1000 any_u64 quota line h

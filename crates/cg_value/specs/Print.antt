@@ -150,7 +150,10 @@ print_setting_line setting.Threaded = codes "threaded"
 print_setting_line (setting.Controllers ts) = toggles_line ts
 print_setting_line (setting.CpuMax quota period) = print_limit quota ++ print_given (codes " ") decimal period
 print_setting_line (setting.Reclaim size swappiness) = decimal size ++ print_given (codes " swappiness=") decimal swappiness
-print_setting_line (setting.DeviceLimits device rbps wbps riops wiops) = print_device device ++ print_given (codes " rbps=") print_limit rbps ++ print_given (codes " wbps=") print_limit wbps ++ print_given (codes " riops=") print_limit riops ++ print_given (codes " wiops=") print_limit wiops
+print_setting_line (setting.DeviceLimits device rbps wbps riops wiops) =
+    print_device device ++ print_given (codes " rbps=") print_limit rbps ++ print_given
+    (codes " wbps=") print_limit wbps ++ print_given (codes " riops=") print_limit riops ++ print_given
+    (codes " wiops=") print_limit wiops
 print_setting_line (setting.DefaultWeight weight) = codes "default " ++ decimal weight
 print_setting_line (setting.DeviceWeight device weight) = print_device device ++ print_device_weight weight
 print_setting_line (setting.DeviceTarget device target) = print_device device ++ codes " target=" ++ decimal target

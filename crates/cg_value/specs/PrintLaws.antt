@@ -18,7 +18,8 @@ use Rattle.cg_value.specs.Kind.{any_u64, IsListEnd, IsReadForm}
 use Rattle.cg_value.specs.Laws.{HasNoLine, HasNoByte}
 use Rattle.cg_value.specs.Lines.{unlines, IsOneLine, AreLinesOf}
 use Rattle.cg_value.specs.Print.{print_limit, print_clamp, print_set, print_flat_line, print_stat_line, print_limit_line, print_weight_line, print_target_line, print_partition, print_pressure_line, print_nested_line, print_lines, print_of}
-use Rattle.cg_value.specs.PrintLineLaws.{decimal_text_is, limit_text_is, clamp_text_is, signed_text_is, set_text_is, cpu_max_line_is, flat_line_is, stat_line_is, limit_line_is, default_line_is, weight_line_is, target_line_is, partition_line_is, pressure_line_is, nested_line_is}
+use Rattle.cg_value.specs.PrintLineLaws.{decimal_text_is, limit_text_is, clamp_text_is, signed_text_is, set_text_is, cpu_max_line_is, flat_line_is, stat_line_is, limit_line_is, default_line_is}
+use Rattle.cg_value.specs.PrintLineLaws.{weight_line_is, target_line_is, partition_line_is, pressure_line_is, nested_line_is}
 use Rattle.cg_value.specs.ReadLine.{mode_text, words_line, IsMode, IsCpuMax, IsFlatLine, AreFlatLines, IsStatLine, IsLimitLine, IsWeightLine, AreWeightLines, IsTargetLine, IsPartition, ArePressureLines, IsNestedLine, AreNestedLines, IsRaw}
 use Rattle.cg_value.specs.declared.kind.ReadForm.{ReadForm}
 use Rattle.cg_value.specs.declared.kind.ReadForm.TheVariants as form

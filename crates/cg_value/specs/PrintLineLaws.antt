@@ -23,7 +23,8 @@ use Rattle.cg_text.specs.declared.values.Limit.{Limit}
 use Rattle.cg_text.specs.declared.values.Limit.TheVariants as limit
 use Rattle.cg_value.specs.Kind.{any_u64}
 use Rattle.cg_value.specs.Lines.{HasParts, IsKey, AreLed}
-use Rattle.cg_value.specs.Print.{print_limit, print_hundredths, print_clamp, print_amount, print_device, print_range, print_set, print_led, print_flat_line, print_stat_pair, print_stat_line, print_limit_line, print_default_line, print_weight_line, print_target_line, print_partition, print_averages, print_nested_pair, print_nested_line}
+use Rattle.cg_value.specs.Print.{print_limit, print_hundredths, print_clamp, print_amount, print_device, print_range, print_set, print_led, print_flat_line, print_stat_pair, print_stat_line}
+use Rattle.cg_value.specs.Print.{print_limit_line, print_default_line, print_weight_line, print_target_line, print_partition, print_averages, print_nested_pair, print_nested_line}
 use Rattle.cg_value.specs.ReadLine.{role_text, IsCpuMax, IsFlatLine, IsStatPair, IsStatLine, IsLimitLine, IsDefaultLine, IsWeightLine, IsTargetLine, IsPartition, AreAverages, IsPressureLine, IsNestedPair, IsNestedLine}
 use Rattle.cg_value.specs.declared.flat.FlatPair.{FlatPair}
 use Rattle.cg_value.specs.declared.value.Averages.{Averages}

@@ -12,7 +12,8 @@ use Rattle.cg_text.specs.declared.hundredths.Form.TheVariants.{Written}
 use Rattle.cg_text.specs.declared.trigger.Times.{Times}
 use Rattle.cg_text.specs.declared.values.Device.{Device}
 use Rattle.cg_text.specs.declared.values.Limit.{Limit}
-use Rattle.cg_value.specs.FitsWriteLaws.{limit_within, size_limit_within, size_limit_prints, clamp_within, quota_within, quota_prints, reclaim_within, reclaim_prints, weight_within, weight_prints, target_within, target_prints, times_within, times_print, set_within, set_prints, list_end_small, limit_write_within, limit_write_prints}
+use Rattle.cg_value.specs.FitsWriteLaws.{limit_within, size_limit_within, size_limit_prints, clamp_within, quota_within, quota_prints, reclaim_within, reclaim_prints, weight_within, weight_prints}
+use Rattle.cg_value.specs.FitsWriteLaws.{target_within, target_prints, times_within, times_print, set_within, set_prints, list_end_small, limit_write_within, limit_write_prints}
 use Rattle.cg_value.specs.Kind.{IsWriteForm}
 use Rattle.cg_value.specs.Lines.{IsLineOf}
 use Rattle.cg_value.specs.Print.{print_setting_line, print_setting_of}

@@ -30,7 +30,8 @@ use Rattle.cg_text.specs.declared.values.Limit.TheVariants as limit
 use Rattle.cg_value.specs.Files.{ReadLines}
 use Rattle.cg_value.specs.Kind.{any_u64}
 use Rattle.cg_value.specs.Lines.{HasParts, IsKey, AreLed}
-use Rattle.cg_value.specs.ReadLine.{mode_text, words_line, pad_text, role_text, IsCpuMax, AreWords, IsFlatLine, IsStatPair, IsStatLine, IsLimitLine, IsDefaultLine, IsWeightLine, AreWeightLines, IsTargetLine, IsPartition, AreAverages, IsPressureLine, ArePressureLines, IsNestedPair, IsNestedLine, IsRaw}
+use Rattle.cg_value.specs.ReadLine.{mode_text, words_line, pad_text, role_text, IsCpuMax, AreWords, IsFlatLine, IsStatPair, IsStatLine, IsLimitLine, IsDefaultLine, IsWeightLine, AreWeightLines}
+use Rattle.cg_value.specs.ReadLine.{IsTargetLine, IsPartition, AreAverages, IsPressureLine, ArePressureLines, IsNestedPair, IsNestedLine, IsRaw}
 use Rattle.cg_value.specs.declared.flat.FlatPair.{FlatPair}
 use Rattle.cg_value.specs.declared.kind.ReadForm.{ReadForm}
 use Rattle.cg_value.specs.declared.kind.ReadForm.TheVariants as form
@@ -166,7 +167,10 @@ pad_raw false = tt
 
 stat_raw : (s : StatLine) (line : List ℕ) → IsStatLine s line → IsRawLine line
 stat_raw s line h =
-    along (h.device ++ pad_text s.pad ++ h.pairs) line h.line_is (raw_append (h.device ++ pad_text s.pad) h.pairs (raw_append h.device (pad_text s.pad) (device_raw s.device h.device h.device_is) (pad_raw s.pad)) (led_raw IsStatPair stat_pair_raw s.pairs h.pairs h.pairs_are))
+    along (h.device ++ pad_text s.pad ++ h.pairs) line h.line_is
+    (raw_append (h.device ++ pad_text s.pad) h.pairs
+    (raw_append h.device (pad_text s.pad) (device_raw s.device h.device h.device_is) (pad_raw s.pad))
+    (led_raw IsStatPair stat_pair_raw s.pairs h.pairs h.pairs_are))
 
 -- What comes before, a text, and what comes after.
 then_raw : (front mark back : List ℕ) → list_all (λ b. nat_lt 31 b && nat_lt b 127) mark ≡ true → IsRawLine front → IsRawLine back → IsRawLine (front ++ mark ++ back)

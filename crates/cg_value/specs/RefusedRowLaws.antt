@@ -22,7 +22,8 @@ use Rattle.cg_value.specs.ReadLine.{words_line, AreWeightLines, IsPartition, Are
 use Rattle.cg_value.specs.RowBegins.{open_none, ended_none, none_read, none_read_end, begins, none_left, refused, some_one, is_open, is_dead, dead_decimal, marked, marks_differ, numeral_lacks, numeral_value, word_lacks}
 use Rattle.cg_value.specs.RowFacts.{is_digit, is_numeral, numeral_tested, decimal_tested, controller_tested, unlike}
 use Rattle.cg_value.specs.RowLaws.{file, one_line, range, alone, full_clamp, device_weight_rows, full_pressure}
-use Rattle.cg_value.specs.Rows.{WeightAbove, LeadingZero, NoDigit, SecondLine, NoBytes, NumberAbove, ClampAbove, AdjacentRanges, CommaAtEnd, DashAtEnd, CommaAtLaterEnd, DashBeforeLaterEnd, RepeatedWord, SpaceAtEnd, NoDefault, InvalidMember, AfterFull, hundredths, averages, device_weights}
+use Rattle.cg_value.specs.Rows.{WeightAbove, LeadingZero, NoDigit, SecondLine, NoBytes, NumberAbove, ClampAbove, AdjacentRanges, CommaAtEnd, DashAtEnd, CommaAtLaterEnd, DashBeforeLaterEnd}
+use Rattle.cg_value.specs.Rows.{RepeatedWord, SpaceAtEnd, NoDefault, InvalidMember, AfterFull, hundredths, averages, device_weights}
 use Rattle.cg_value.specs.Table.{read_form_of}
 use Rattle.cg_value.specs.declared.kind.ReadForm.{ReadForm}
 use Rattle.cg_value.specs.declared.kind.ReadForm.TheVariants as form
@@ -199,13 +200,20 @@ pub comma_at_later_end : CommaAtLaterEnd
 unfolding read_form_of
 comma_at_later_end = refused (codes "\n") (value.Set ((1048574, 1048574) ∷ [])) refl
     (file (form.Set 1048575) (codes "1048574" ∷ []) refl (one_line ((1048574, 1048574) ∷ []) (codes "1048574") ((omega arith, omega arith, tt), alone 1048574 (codes "1048574") refl)) refl)
-    (none_read Two (codes "cpuset.cpus") (codes "1048574,") (form.Set 1048575) refl (λ v lines h. h) (open_none (IsStrictList 1048575) (codes "1048574,") refl (λ set tail. comma_none 1048575 1048574 (codes "1048574") tail set refl (omega arith))))
+    (none_read Two (codes "cpuset.cpus") (codes "1048574,") (form.Set 1048575) refl (λ v lines h. h)
+    (open_none (IsStrictList 1048575) (codes "1048574,") refl
+    (λ set tail. comma_none 1048575 1048574 (codes "1048574") tail set refl (omega arith))))
 
 pub dash_before_later_end : DashBeforeLaterEnd
 unfolding read_form_of
 dash_before_later_end = record {
   rest = codes "65536\n";
-  whole = (value.Set ((65535, 65536) ∷ []), file (form.Set 1048575) (codes "65535-65536" ∷ []) refl (one_line ((65535, 65536) ∷ []) (codes "65535-65536") ((omega arith, omega arith, tt), range 65535 65536 (codes "65535") (codes "65536") refl)) refl);
+  whole = (
+    value.Set ((65535, 65536) ∷ []),
+    file (form.Set 1048575) (codes "65535-65536" ∷ []) refl (one_line
+        ((65535, 65536) ∷ []) (codes "65535-65536")
+        ((omega arith, omega arith, tt), range 65535 65536 (codes "65535") (codes "65536") refl)) refl,
+  );
 }
 
 -- 4 is next to 3.

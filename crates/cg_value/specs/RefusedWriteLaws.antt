@@ -159,7 +159,9 @@ large_swappiness = refused (codes "\n") (setting.Reclaim 1073741824 (Some 20)) r
       front_is = gibibyte_size;
       back_is = decimal_tested 0 200 20 (codes "20") refl;
     })) refl)
-    (none_written One (codes "memory.reclaim") (codes "1G swappiness=201") form.Reclaim refl (none_line_of (open_none (λ (x : ℕ × Option ℕ) l. IsReclaim (x.0) (x.1) l) (codes "1G swappiness=201") refl (λ x tail h. swappiness_none (x.0) (x.1) tail h))))
+    (none_written One (codes "memory.reclaim") (codes "1G swappiness=201") form.Reclaim refl
+    (none_line_of (open_none (λ (x : ℕ × Option ℕ) l. IsReclaim (x.0) (x.1) l) (codes "1G swappiness=201") refl
+    (λ x tail h. swappiness_none (x.0) (x.1) tail h))))
 
 other : (a b : ℕ) → (69 ≡ a → ⊥) → (69 ≡ b → ⊥) → (69 ≡ a) ⊎ (69 ≡ b) → ⊥
 other a b h k (inl e) = h e

@@ -1,5 +1,6 @@
 -- How texts are refused: no text of a relation begins with given bytes.
-use Rattle.std.proofs.Common.{◌≡◌, ℕ, ◌+◌, ◌-◌, ◌*◌, ◌≤◌, ◌<◌, ◌⊎◌, inl, inr, Bool, true, false, not, nat_eq, nat_le, nat_lt, ◌&&◌, ◌||◌, List, [], ◌∷◌, ◌++◌, take, length, Some, codes, subst, refl, sym, ◌∙◌, ap, append_assoc, arith, ltb-true, le-leb, eqb-true}
+use Rattle.std.proofs.Common.{◌≡◌, ℕ, ◌+◌, ◌-◌, ◌*◌, ◌≤◌, ◌<◌, ◌⊎◌, inl, inr, Bool, true, false, not, nat_eq, nat_le, nat_lt, ◌&&◌, ◌||◌, List, [], ◌∷◌, ◌++◌, take, length, Some, codes, subst, refl}
+use Rattle.std.proofs.Common.{sym, ◌∙◌, ap, append_assoc, arith, ltb-true, le-leb, eqb-true}
 use Rattle.std.proofs.lemmas.Bool.{and_parts, and_from}
 use Rattle.std.specs.List.{list_all, AllZip}
 use Rattle.cg_text.specs.Decimal.{AreDigits, read_on, IsNumeral, IsDecimal}

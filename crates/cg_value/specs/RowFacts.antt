@@ -63,7 +63,9 @@ decimal_tested lo hi n text e =
 pub printed : (n : ℕ) (text : List ℕ) → n ≤ 18446744073709551615 → is_numeral n text ≡ true → decimal n ≡ text
 printed n text small e = sym (numeral_is_decimal n text (omega arith) (numeral_tested n text e))
 
-pub device_tested : (major minor : ℕ) (front back : List ℕ) → (nat_le major 4095 && is_numeral major front) ≡ true → (nat_le minor 1048575 && is_numeral minor back) ≡ true → IsDevice (record { major = major; minor = minor }) (front ++ 58 ∷ back)
+pub device_tested : (major minor : ℕ) (front back : List ℕ) → (nat_le major 4095 && is_numeral major front) ≡ true →
+    (nat_le minor 1048575 && is_numeral minor back) ≡ true →
+    IsDevice (record { major = major; minor = minor }) (front ++ 58 ∷ back)
 device_tested major minor front back e f =
     let first = and_parts _ _ e in
     let second = and_parts _ _ f in

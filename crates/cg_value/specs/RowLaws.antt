@@ -15,7 +15,8 @@ use Rattle.cg_value.specs.ReadLine.{IsStatLine, IsLimitLine, AreAverages, IsNest
 use Rattle.cg_value.specs.RowFacts.{is_numeral, are_word_bytes, numeral_tested, decimal_tested, device_tested, two_digits_tested, unlike, word_tested, controller_tested, raw_tested}
 use Rattle.cg_value.specs.Rows.{device, hundredths, averages, stat_pair, stat_line, limit_line, weight_line, nested_pair, nested_line, flat_pair}
 use Rattle.cg_value.specs.Rows.{FirstRun, LargestNumber, Idle, ProcessNumbers, NoProcess, NoQuota, FullClamp, EmptySet, RangesApart, LastListNumber, MoreListNumbers}
-use Rattle.cg_value.specs.Rows.{NoWords, NoWordsLine, TwoWords, OneKey, DeviceStats, RateIs, DevicePads, DeviceLimits, DeviceWeights, OwnWeight, DefaultWeight, InvalidRoot, EmptyReason, ReasonOfParentheses, FullPressure, SomePressure, Mode, Nested, RawNested, OtherName, HighByte, QuotedKey, NoWordsPrint, NotReadable}
+use Rattle.cg_value.specs.Rows.{NoWords, NoWordsLine, TwoWords, OneKey, DeviceStats, RateIs, DevicePads, DeviceLimits, DeviceWeights, OwnWeight, DefaultWeight, InvalidRoot, EmptyReason}
+use Rattle.cg_value.specs.Rows.{ReasonOfParentheses, FullPressure, SomePressure, Mode, Nested, RawNested, OtherName, HighByte, QuotedKey, NoWordsPrint, NotReadable}
 use Rattle.cg_value.specs.Table.{read_form_of}
 use Rattle.cg_value.specs.declared.kind.ReadForm.{ReadForm}
 use Rattle.cg_value.specs.declared.kind.ReadForm.TheVariants as form

@@ -16,7 +16,9 @@ use Rattle.cg_value.specs.Kind.{any_u64}
 use Rattle.cg_value.specs.Lines.{IsLineOf}
 use Rattle.cg_value.specs.RowFacts.{is_numeral, numeral_tested, decimal_tested, device_tested, controller_tested, printed}
 use Rattle.cg_value.specs.Rows.{device, hundredths}
-use Rattle.cg_value.specs.SettingRows.{toggle, LowestNicePrints, KillPrints, OnlyQuotaPrints, TriggerPrints, NoMembersPrint, DeviceDefaultPrints, TogglesPrint, LowestNice, Kill, ShortClamp, ShortClampPrints, OnlyQuota, Reclaim, ReclaimPrints, LargestSuffix, LargestSuffixPrints, Trigger, LooseSet, LooseSetPrints, NoMembers, WeightAlone, WeightAlonePrints, DeviceDefault, TwoLimits, TwoLimitsPrint, Toggles, NotWritable}
+use Rattle.cg_value.specs.SettingRows.{toggle, LowestNicePrints, KillPrints, OnlyQuotaPrints, TriggerPrints, NoMembersPrint, DeviceDefaultPrints, TogglesPrint, LowestNice, Kill, ShortClamp}
+use Rattle.cg_value.specs.SettingRows.{ShortClampPrints, OnlyQuota, Reclaim, ReclaimPrints, LargestSuffix, LargestSuffixPrints, Trigger, LooseSet, LooseSetPrints, NoMembers, WeightAlone}
+use Rattle.cg_value.specs.SettingRows.{WeightAlonePrints, DeviceDefault, TwoLimits, TwoLimitsPrint, Toggles, NotWritable}
 use Rattle.cg_value.specs.Settings.{SettingText}
 use Rattle.cg_value.specs.Table.{write_form_of}
 use Rattle.cg_value.specs.WriteLine.{WriteLine}

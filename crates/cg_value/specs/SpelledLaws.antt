@@ -1,5 +1,6 @@
 -- Which parts of values some text spells.
-use Rattle.std.proofs.Common.{◌≡◌, ℕ, ◌+◌, ◌-◌, ◌/◌, ◌%◌, ◌≤◌, ◌<◌, ◌≢◌, ◌↔◌, inl, inr, Bool, true, false, cond, ℤ, ◌≤ℤ◌, pos, negsuc, suc, List, [], ◌∷◌, ◌++◌, Option, Some, None, All, map, drop, take, length, length-drop, drop-cons, add-one, get_or, codes, zero, refl, sym, ap, arith}
+use Rattle.std.proofs.Common.{◌≡◌, ℕ, ◌+◌, ◌-◌, ◌/◌, ◌%◌, ◌≤◌, ◌<◌, ◌≢◌, ◌↔◌, inl, inr, Bool, true, false, cond, ℤ, ◌≤ℤ◌, pos, negsuc, suc, List, [], ◌∷◌, ◌++◌, Option, Some, None, All, map, drop}
+use Rattle.std.proofs.Common.{take, length, length-drop, drop-cons, add-one, get_or, codes, zero, refl, sym, ap, arith}
 use Rattle.std.proofs.lemmas.List.Elements.{All-nil, All-cons, All-head, All-tail}
 use Rattle.std.proofs.lemmas.Bool.{cases_lt, or_parts, or_cases}
 use Rattle.std.proofs.lemmas.List.{take_all, drop-map}
@@ -31,7 +32,8 @@ use Rattle.cg_text.specs.declared.values.Limit.TheVariants as limit
 use Rattle.cg_value.specs.Flat.{number_of, HasDistinctKeys}
 use Rattle.cg_value.specs.Kind.{any_u64}
 use Rattle.cg_value.specs.Lines.{HasParts, IsKey, AreLed}
-use Rattle.cg_value.specs.ReadLine.{AreWords, words_line, IsFlatLine, IsStatPair, pad_text, IsStatLine, IsLimitLine, IsWeightLine, IsTargetLine, role_text, CanBeInvalid, IsPartition, AreAverages, IsPressureLine, ArePressureLines, IsNestedPair, IsNestedLine, IsRaw}
+use Rattle.cg_value.specs.ReadLine.{AreWords, words_line, IsFlatLine, IsStatPair, pad_text, IsStatLine, IsLimitLine, IsWeightLine, IsTargetLine, role_text, CanBeInvalid, IsPartition, AreAverages}
+use Rattle.cg_value.specs.ReadLine.{IsPressureLine, ArePressureLines, IsNestedPair, IsNestedLine, IsRaw}
 use Rattle.cg_value.specs.declared.flat.FlatPair.{FlatPair}
 use Rattle.cg_value.specs.declared.value.Averages.{Averages}
 use Rattle.cg_value.specs.declared.value.LimitLine.{LimitLine}

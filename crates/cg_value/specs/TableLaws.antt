@@ -27,7 +27,9 @@ longest_is (name ∷ names) zero h = omega arith
 longest_is (name ∷ names) (suc k) h = omega (arith, longest_is names k (omega (arith, h)))
 
 -- So is one that was found in the table.
-pub found_short : {X : Type 0} (found : Option X) (now : X → List ℕ) (place : ℕ) → MatchOption found (length table_names ≤ place) (λ name. (place < length table_names) × (now name ≡ table_name_at place)) → IfSome found (λ name. length (now name) ≤ longest table_names)
+pub found_short : {X : Type 0} (found : Option X) (now : X → List ℕ) (place : ℕ) →
+    MatchOption found (length table_names ≤ place) (λ name. (place < length table_names)
+    × (now name ≡ table_name_at place)) → IfSome found (λ name. length (now name) ≤ longest table_names)
 found_short None now place row = tt
 found_short (Some name) now place row = rw row.1 (longest_is table_names place row.0)
 
@@ -57,7 +59,9 @@ reads_same profile [] (q ∷ qs) name a = absurd a
 reads_same profile (r ∷ rs) [] name a = absurd a
 reads_same profile (r ∷ rs) (q ∷ qs) name a = rw (← a.0) (pick_reads profile r.reads r.writes (bytes_eq r.name name) q.reads a.1 (forms_in rs name) (reads_in qs name) (reads_same profile rs qs name a.3))
   where
-    pick_reads : (profile : Profile) (o : Option ReadForm) (p : Option WriteForm) (b : Bool) (u : Option ReadForm) → option_map (read_in profile) o ≡ u → (y : Option Forms) (v : Option ReadForm) → reads_of profile y ≡ v → reads_of profile (cond b (Some (record { reads = o; writes = p })) y) ≡ cond b u v
+    pick_reads : (profile : Profile) (o : Option ReadForm) (p : Option WriteForm) (b : Bool) (u : Option ReadForm) →
+        option_map (read_in profile) o ≡ u → (y : Option Forms) (v : Option ReadForm) → reads_of profile y ≡ v →
+        reads_of profile (cond b (Some (record { reads = o; writes = p })) y) ≡ cond b u v
     pick_reads profile o p true u e y v g = e
     pick_reads profile o p false u e y v g = g
 
@@ -67,13 +71,18 @@ writes_same profile [] (q ∷ qs) name a = absurd a
 writes_same profile (r ∷ rs) [] name a = absurd a
 writes_same profile (r ∷ rs) (q ∷ qs) name a = rw (← a.0) (pick_writes profile r.reads r.writes (bytes_eq r.name name) q.writes a.2 (forms_in rs name) (writes_in qs name) (writes_same profile rs qs name a.3))
   where
-    pick_writes : (profile : Profile) (o : Option ReadForm) (p : Option WriteForm) (b : Bool) (u : Option WriteForm) → option_map (write_in profile) p ≡ u → (y : Option Forms) (v : Option WriteForm) → writes_of profile y ≡ v → writes_of profile (cond b (Some (record { reads = o; writes = p })) y) ≡ cond b u v
+    pick_writes : (profile : Profile) (o : Option ReadForm) (p : Option WriteForm) (b : Bool)
+        (u : Option WriteForm) → option_map (write_in profile) p ≡ u → (y : Option Forms) (v : Option WriteForm) →
+        writes_of profile y ≡ v → writes_of profile (cond b (Some (record { reads = o; writes = p })) y)
+        ≡ cond b u v
     pick_writes profile o p true u e y v g = e
     pick_writes profile o p false u e y v g = g
 
 agree : (profile : Profile) → Agree profile (rows Two) (rows profile)
-agree One = (refl, refl, refl, (refl, refl, refl, (refl, refl, refl, (refl, refl, refl, (refl, refl, refl, (refl, refl, refl, (refl, refl, refl, (refl, refl, refl, (refl, refl, refl, (refl, refl, refl, (refl, refl, refl, (refl, refl, refl, (refl, refl, refl, (refl, refl, refl, (refl, refl, refl, (refl, refl, refl, (refl, refl, refl, (refl, refl, refl, (refl, refl, refl, (refl, refl, refl, (refl, refl, refl, (refl, refl, refl, (refl, refl, refl, (refl, refl, refl, (refl, refl, refl, (refl, refl, refl, (refl, refl, refl, (refl, refl, refl, (refl, refl, refl, (refl, refl, refl, (refl, refl, refl, (refl, refl, refl, (refl, refl, refl, (refl, refl, refl, (refl, refl, refl, (refl, refl, refl, (refl, refl, refl, (refl, refl, refl, (refl, refl, refl, (refl, refl, refl, (refl, refl, refl, (refl, refl, refl, (refl, refl, refl, (refl, refl, refl, (refl, refl, refl, (refl, refl, refl, (refl, refl, refl, (refl, refl, refl, (refl, refl, refl, (refl, refl, refl, (refl, refl, refl, (refl, refl, refl, (refl, refl, refl, (refl, refl, refl, (refl, refl, refl, (refl, refl, refl, (refl, refl, refl, (refl, refl, refl, (refl, refl, refl, (refl, refl, refl, tt))))))))))))))))))))))))))))))))))))))))))))))))))))))))))))
-agree Two = (refl, refl, refl, (refl, refl, refl, (refl, refl, refl, (refl, refl, refl, (refl, refl, refl, (refl, refl, refl, (refl, refl, refl, (refl, refl, refl, (refl, refl, refl, (refl, refl, refl, (refl, refl, refl, (refl, refl, refl, (refl, refl, refl, (refl, refl, refl, (refl, refl, refl, (refl, refl, refl, (refl, refl, refl, (refl, refl, refl, (refl, refl, refl, (refl, refl, refl, (refl, refl, refl, (refl, refl, refl, (refl, refl, refl, (refl, refl, refl, (refl, refl, refl, (refl, refl, refl, (refl, refl, refl, (refl, refl, refl, (refl, refl, refl, (refl, refl, refl, (refl, refl, refl, (refl, refl, refl, (refl, refl, refl, (refl, refl, refl, (refl, refl, refl, (refl, refl, refl, (refl, refl, refl, (refl, refl, refl, (refl, refl, refl, (refl, refl, refl, (refl, refl, refl, (refl, refl, refl, (refl, refl, refl, (refl, refl, refl, (refl, refl, refl, (refl, refl, refl, (refl, refl, refl, (refl, refl, refl, (refl, refl, refl, (refl, refl, refl, (refl, refl, refl, (refl, refl, refl, (refl, refl, refl, (refl, refl, refl, (refl, refl, refl, (refl, refl, refl, (refl, refl, refl, (refl, refl, refl, (refl, refl, refl, (refl, refl, refl, tt))))))))))))))))))))))))))))))))))))))))))))))))))))))))))))
+agree One =
+    (refl, refl, refl, (refl, refl, refl, (refl, refl, refl, (refl, refl, refl, (refl, refl, refl, (refl, refl, refl, (refl, refl, refl, (refl, refl, refl, (refl, refl, refl, (refl, refl, refl, (refl, refl, refl, (refl, refl, refl, (refl, refl, refl, (refl, refl, refl, (refl, refl, refl, (refl, refl, refl, (refl, refl, refl, (refl, refl, refl, (refl, refl, refl, (refl, refl, refl, (refl, refl, refl, (refl, refl, refl, (refl, refl, refl, (refl, refl, refl, (refl, refl, refl, (refl, refl, refl, (refl, refl, refl, (refl, refl, refl, (refl, refl, refl, (refl, refl, refl, (refl, refl, refl, (refl, refl, refl, (refl, refl, refl, (refl, refl, refl, (refl, refl, refl, (refl, refl, refl, (refl, refl, refl, (refl, refl, refl, (refl, refl, refl, (refl, refl, refl, (refl, refl, refl, (refl, refl, refl, (refl, refl, refl, (refl, refl, refl, (refl, refl, refl, (refl, refl, refl, (refl, refl, refl, (refl, refl, refl, (refl, refl, refl, (refl, refl, refl, (refl, refl, refl, (refl, refl, refl, (refl, refl, refl, (refl, refl, refl, (refl, refl, refl, (refl, refl, refl, (refl, refl, refl, (refl, refl, refl, (refl, refl, refl, (refl, refl, refl, tt))))))))))))))))))))))))))))))))))))))))))))))))))))))))))))
+agree Two =
+    (refl, refl, refl, (refl, refl, refl, (refl, refl, refl, (refl, refl, refl, (refl, refl, refl, (refl, refl, refl, (refl, refl, refl, (refl, refl, refl, (refl, refl, refl, (refl, refl, refl, (refl, refl, refl, (refl, refl, refl, (refl, refl, refl, (refl, refl, refl, (refl, refl, refl, (refl, refl, refl, (refl, refl, refl, (refl, refl, refl, (refl, refl, refl, (refl, refl, refl, (refl, refl, refl, (refl, refl, refl, (refl, refl, refl, (refl, refl, refl, (refl, refl, refl, (refl, refl, refl, (refl, refl, refl, (refl, refl, refl, (refl, refl, refl, (refl, refl, refl, (refl, refl, refl, (refl, refl, refl, (refl, refl, refl, (refl, refl, refl, (refl, refl, refl, (refl, refl, refl, (refl, refl, refl, (refl, refl, refl, (refl, refl, refl, (refl, refl, refl, (refl, refl, refl, (refl, refl, refl, (refl, refl, refl, (refl, refl, refl, (refl, refl, refl, (refl, refl, refl, (refl, refl, refl, (refl, refl, refl, (refl, refl, refl, (refl, refl, refl, (refl, refl, refl, (refl, refl, refl, (refl, refl, refl, (refl, refl, refl, (refl, refl, refl, (refl, refl, refl, (refl, refl, refl, (refl, refl, refl, (refl, refl, refl, (refl, refl, refl, tt))))))))))))))))))))))))))))))))))))))))))))))))))))))))))))
 
 -- What a row says of a name, and what its absence says.
 pub read_form_in : (profile : Profile) (name : List ℕ) (f : Forms) (form : ReadForm) → Some f ≡ forms_in (rows Two) name → f.reads ≡ Some form → read_form_of profile name ≡ Some (read_in profile form)
@@ -126,10 +135,12 @@ writes_ok [] name a = tt
 writes_ok (r ∷ rs) name a = picked WriteOk (bytes_eq r.name name) r.writes (writes_in rs name) a.1 (writes_ok rs name a.2)
 
 all_ok_one : AllOk (rows One)
-all_ok_one = (tt, tt, ((omega arith, omega arith), (omega arith, omega arith), ((omega arith, omega arith), (omega arith, omega arith), (tt, tt, (tt, tt, (tt, tt, (tt, tt, (tt, (omega arith, omega arith), (tt, (omega arith, omega arith), ((omega arith, omega arith), (omega arith, omega arith), ((omega arith, omega arith), (omega arith, omega arith), (tt, (omega arith, omega arith), (tt, tt, ((omega arith, omega arith), (omega arith, omega arith), ((refl, refl), (refl, refl), ((omega arith, omega arith), (omega arith, omega arith), (tt, tt, ((omega arith, omega arith), (omega arith, omega arith), (tt, tt, (tt, tt, (tt, tt, ((omega arith, omega arith), tt, ((omega arith, omega arith), tt, ((omega arith, omega arith), tt, ((omega arith, omega arith), tt, ((omega arith, omega arith), tt, (tt, tt, (tt, tt, (tt, tt, (tt, tt, (tt, tt, (tt, tt, (tt, tt, ((omega arith, omega arith), (omega arith, omega arith), ((omega arith, omega arith), (omega arith, omega arith), (tt, tt, (tt, tt, (tt, tt, (tt, tt, (tt, tt, (tt, tt, (tt, tt, (tt, tt, (tt, tt, (tt, tt, (tt, tt, (tt, tt, (tt, tt, (tt, (omega arith, omega arith), ((omega arith, omega arith), tt, ((omega arith, omega arith), tt, (tt, tt, (inl refl, inl refl, (inl refl, inl refl, (inl refl, tt, (inl refl, tt, (inl refl, inl refl, (inl refl, tt, (inl refl, tt, (tt, tt, tt))))))))))))))))))))))))))))))))))))))))))))))))))))))))))))
+all_ok_one =
+    (tt, tt, ((omega arith, omega arith), (omega arith, omega arith), ((omega arith, omega arith), (omega arith, omega arith), (tt, tt, (tt, tt, (tt, tt, (tt, tt, (tt, (omega arith, omega arith), (tt, (omega arith, omega arith), ((omega arith, omega arith), (omega arith, omega arith), ((omega arith, omega arith), (omega arith, omega arith), (tt, (omega arith, omega arith), (tt, tt, ((omega arith, omega arith), (omega arith, omega arith), ((refl, refl), (refl, refl), ((omega arith, omega arith), (omega arith, omega arith), (tt, tt, ((omega arith, omega arith), (omega arith, omega arith), (tt, tt, (tt, tt, (tt, tt, ((omega arith, omega arith), tt, ((omega arith, omega arith), tt, ((omega arith, omega arith), tt, ((omega arith, omega arith), tt, ((omega arith, omega arith), tt, (tt, tt, (tt, tt, (tt, tt, (tt, tt, (tt, tt, (tt, tt, (tt, tt, ((omega arith, omega arith), (omega arith, omega arith), ((omega arith, omega arith), (omega arith, omega arith), (tt, tt, (tt, tt, (tt, tt, (tt, tt, (tt, tt, (tt, tt, (tt, tt, (tt, tt, (tt, tt, (tt, tt, (tt, tt, (tt, tt, (tt, tt, (tt, (omega arith, omega arith), ((omega arith, omega arith), tt, ((omega arith, omega arith), tt, (tt, tt, (inl refl, inl refl, (inl refl, inl refl, (inl refl, tt, (inl refl, tt, (inl refl, inl refl, (inl refl, tt, (inl refl, tt, (tt, tt, tt))))))))))))))))))))))))))))))))))))))))))))))))))))))))))))
 
 all_ok_two : AllOk (rows Two)
-all_ok_two = (tt, tt, ((omega arith, omega arith), (omega arith, omega arith), ((omega arith, omega arith), (omega arith, omega arith), (tt, tt, (tt, tt, (tt, tt, (tt, tt, (tt, (omega arith, omega arith), (tt, (omega arith, omega arith), ((omega arith, omega arith), (omega arith, omega arith), ((omega arith, omega arith), (omega arith, omega arith), (tt, (omega arith, omega arith), (tt, tt, ((omega arith, omega arith), (omega arith, omega arith), ((refl, refl), (refl, refl), ((omega arith, omega arith), (omega arith, omega arith), (tt, tt, ((omega arith, omega arith), (omega arith, omega arith), (tt, tt, (tt, tt, (tt, tt, ((omega arith, omega arith), tt, ((omega arith, omega arith), tt, ((omega arith, omega arith), tt, ((omega arith, omega arith), tt, ((omega arith, omega arith), tt, (tt, tt, (tt, tt, (tt, tt, (tt, tt, (tt, tt, (tt, tt, (tt, tt, ((omega arith, omega arith), (omega arith, omega arith), ((omega arith, omega arith), (omega arith, omega arith), (tt, tt, (tt, tt, (tt, tt, (tt, tt, (tt, tt, (tt, tt, (tt, tt, (tt, tt, (tt, tt, (tt, tt, (tt, tt, (tt, tt, (tt, tt, (tt, (omega arith, omega arith), ((omega arith, omega arith), tt, ((omega arith, omega arith), tt, (tt, tt, (inr refl, inr refl, (inr refl, inr refl, (inr refl, tt, (inr refl, tt, (inr refl, inr refl, (inr refl, tt, (inr refl, tt, (tt, tt, tt))))))))))))))))))))))))))))))))))))))))))))))))))))))))))))
+all_ok_two =
+    (tt, tt, ((omega arith, omega arith), (omega arith, omega arith), ((omega arith, omega arith), (omega arith, omega arith), (tt, tt, (tt, tt, (tt, tt, (tt, tt, (tt, (omega arith, omega arith), (tt, (omega arith, omega arith), ((omega arith, omega arith), (omega arith, omega arith), ((omega arith, omega arith), (omega arith, omega arith), (tt, (omega arith, omega arith), (tt, tt, ((omega arith, omega arith), (omega arith, omega arith), ((refl, refl), (refl, refl), ((omega arith, omega arith), (omega arith, omega arith), (tt, tt, ((omega arith, omega arith), (omega arith, omega arith), (tt, tt, (tt, tt, (tt, tt, ((omega arith, omega arith), tt, ((omega arith, omega arith), tt, ((omega arith, omega arith), tt, ((omega arith, omega arith), tt, ((omega arith, omega arith), tt, (tt, tt, (tt, tt, (tt, tt, (tt, tt, (tt, tt, (tt, tt, (tt, tt, ((omega arith, omega arith), (omega arith, omega arith), ((omega arith, omega arith), (omega arith, omega arith), (tt, tt, (tt, tt, (tt, tt, (tt, tt, (tt, tt, (tt, tt, (tt, tt, (tt, tt, (tt, tt, (tt, tt, (tt, tt, (tt, tt, (tt, tt, (tt, (omega arith, omega arith), ((omega arith, omega arith), tt, ((omega arith, omega arith), tt, (tt, tt, (inr refl, inr refl, (inr refl, inr refl, (inr refl, tt, (inr refl, tt, (inr refl, inr refl, (inr refl, tt, (inr refl, tt, (tt, tt, tt))))))))))))))))))))))))))))))))))))))))))))))))))))))))))))
 
 all_ok : (profile : Profile) → AllOk (rows profile)
 all_ok One = all_ok_one

@@ -1,5 +1,5 @@
 //! The pairs of flat keyed files.
-ghost use Rattle.std.specs.Prelude.{◌≡◌, ℕ, ◌+◌, ◌≤◌, ◌<◌, ◌++◌, ◌∷◌, [], IsTrue, IfOk, OnOk, OnErr, IfErr, length, is_some, is_err};
+ghost use Rattle.std.specs.Prelude.{◌≡◌, ◌+◌, ◌≤◌, ◌<◌, ◌++◌, ◌∷◌, [], IsTrue, IfOk, OnOk, OnErr, IfErr, length, is_some, is_err};
 ghost use Rattle.std.specs.Result.{result_ok};
 ghost use Rattle.cg_text.specs.Token.{told};
 ghost use Rattle.cg_value.specs.Flat.{number_of, place_of, HasDistinctKeys, flat_size, IsWithinDigits, IsHandedBack, is_repeated};

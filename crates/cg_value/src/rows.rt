@@ -1,10 +1,15 @@
 //! Files and writes by example. Each function takes and answers nothing: its contract is a table of examples.
 ghost use Rattle.cg_value.specs.Rows.{FirstRun, LargestNumber, Idle, ProcessNumbers, NoProcess, NoQuota, FullClamp, EmptySet, RangesApart, LastListNumber, MoreListNumbers};
-ghost use Rattle.cg_value.specs.Rows.{NoWords, NoWordsLine, TwoWords, OneKey, DeviceStats, RateIs, DevicePads, DeviceLimits, DeviceWeights, OwnWeight, DefaultWeight, InvalidRoot, EmptyReason, ReasonOfParentheses, FullPressure, SomePressure, Mode, Nested, RawNested, OtherName, HighByte, QuotedKey, NoWordsPrint, NotReadable};
-ghost use Rattle.cg_value.specs.Rows.{WeightAbove, LeadingZero, NoDigit, SecondLine, NoBytes, NumberAbove, ClampAbove, AdjacentRanges, CommaAtEnd, DashAtEnd, CommaAtLaterEnd, DashBeforeLaterEnd, RepeatedWord, SpaceAtEnd, NoDefault, InvalidMember, AfterFull, RepeatedSubKey, LargeAmount, TwoSpacesAtEnd, SpaceAfterPair, LimitsOutOfOrder, RepeatedKey, RepeatedNestedKey, AfterLastNumber, AfterLastComma, AfterDash, AfterLaterNumber, AfterLaterComma};
-ghost use Rattle.cg_value.specs.SettingRows.{LowestNice, Kill, ShortClamp, ShortClampPrints, OnlyQuota, Reclaim, ReclaimPrints, LargestSuffix, LargestSuffixPrints, Trigger, LooseSet, LooseSetPrints, NoMembers, WeightAlone, WeightAlonePrints, DeviceDefault, TwoLimits, TwoLimitsPrint, Toggles, NotWritable};
+ghost use Rattle.cg_value.specs.Rows.{NoWords, NoWordsLine, TwoWords, OneKey, DeviceStats, RateIs, DevicePads, DeviceLimits, DeviceWeights, OwnWeight, DefaultWeight, InvalidRoot, EmptyReason};
+ghost use Rattle.cg_value.specs.Rows.{ReasonOfParentheses, FullPressure, SomePressure, Mode, Nested, RawNested, OtherName, HighByte, QuotedKey, NoWordsPrint, NotReadable};
+ghost use Rattle.cg_value.specs.Rows.{WeightAbove, LeadingZero, NoDigit, SecondLine, NoBytes, NumberAbove, ClampAbove, AdjacentRanges, CommaAtEnd, DashAtEnd, CommaAtLaterEnd, DashBeforeLaterEnd};
+ghost use Rattle.cg_value.specs.Rows.{RepeatedWord, SpaceAtEnd, NoDefault, InvalidMember, AfterFull, RepeatedSubKey, LargeAmount, TwoSpacesAtEnd, SpaceAfterPair, LimitsOutOfOrder, RepeatedKey};
+ghost use Rattle.cg_value.specs.Rows.{RepeatedNestedKey, AfterLastNumber, AfterLastComma, AfterDash, AfterLaterNumber, AfterLaterComma};
+ghost use Rattle.cg_value.specs.SettingRows.{LowestNice, Kill, ShortClamp, ShortClampPrints, OnlyQuota, Reclaim, ReclaimPrints, LargestSuffix, LargestSuffixPrints, Trigger, LooseSet, LooseSetPrints};
+ghost use Rattle.cg_value.specs.SettingRows.{NoMembers, WeightAlone, WeightAlonePrints, DeviceDefault, TwoLimits, TwoLimitsPrint, Toggles, NotWritable};
 ghost use Rattle.cg_value.specs.SettingRows.{LowestNicePrints, KillPrints, OnlyQuotaPrints, TriggerPrints, NoMembersPrint, DeviceDefaultPrints, TogglesPrint};
-ghost use Rattle.cg_value.specs.SettingRows.{NiceBelow, NegativeZero, NoKill, DotAtEnd, ShortQuota, LongPeriod, LargeSwappiness, LargeSize, ShortWindow, LargeMajor, LargeWeight, ZeroWeight, RepeatedLimit, NoToggle, AfterMax, AfterThousand, AfterStall};
+ghost use Rattle.cg_value.specs.SettingRows.{NiceBelow, NegativeZero, NoKill, DotAtEnd, ShortQuota, LongPeriod, LargeSwappiness, LargeSize, ShortWindow, LargeMajor, LargeWeight, ZeroWeight};
+ghost use Rattle.cg_value.specs.SettingRows.{RepeatedLimit, NoToggle, AfterMax, AfterThousand, AfterStall};
 
 /// Files of numbers, with the least and the greatest one.
 pub fn number_rows()

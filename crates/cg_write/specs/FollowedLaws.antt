@@ -23,8 +23,13 @@ module _ {V : Type 0} (P : V → List ℕ → Type 0) (mark : List ℕ) (Q : ℕ
     followed_from : (text : List ℕ) (v : V) (w : Option ℕ) → F v w text → IsTurned Followed perhaps_both text (v, w)
     followed_from text v None h = ((v, None), (alone_is (λ t v. P v t) (IsConcat (IsFixed mark) (λ t w. Q w t)) text v).1 ((alone v text).1 h), refl)
     followed_from text v (Some w) h =
-        let k = (both v w text).1 h in
-        ((v, Some (tt, w)), (followed_is (λ t v. P v t) (IsConcat (IsFixed mark) (λ t w. Q w t)) text v (tt, w)).1 ((parts_is mark (λ t w. Q w t) (λ t v. P v t) text (v, (tt, w))).1 (k.front, k.back, k.text_is, k.front_is, k.back_is)), refl)
+        let k = (both v w text).1 h in (
+          (v, Some (tt, w)),
+          (followed_is (λ t v. P v t) (IsConcat (IsFixed mark) (λ t w. Q w t)) text v
+              (tt, w)).1 ((parts_is mark (λ t w. Q w t) (λ t v. P v t) text (v, (tt, w))).1
+              (k.front, k.back, k.text_is, k.front_is, k.back_is)),
+          refl,
+        )
 
     pub perhaps_is : (text : List ℕ) (x : V × Option ℕ) → IsTurned Followed perhaps_both text x ↔ F (x.0) (x.1) text
     perhaps_is text x = (λ h. subst (λ y. F (y.0) (y.1) text) h.2 (followed_to text h.0.0 h.0.1 h.1), λ h. followed_from text x.0 x.1 h)

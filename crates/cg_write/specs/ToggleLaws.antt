@@ -8,7 +8,7 @@ use Rattle.cg_join.specs.LackingLaws.{above_lacking, concat_lacking, turned_lack
 use Rattle.cg_join.specs.Repeat.{LacksEmpty}
 use Rattle.cg_join.specs.Spelling.{Disjoint, IsTurned}
 use Rattle.cg_join.specs.TextBytes.{IsFixed, Lacking}
-use Rattle.cg_join.specs.WordStartLaws.{SpellsWord, some_word}
+use Rattle.cg_join.specs.WordStartLaws.{some_word}
 use Rattle.cg_join.specs.declared.choice.Either.TheVariants.{Left, Right}
 use Rattle.cg_value.specs.WriteLine.{sign_of}
 use Rattle.cg_value.specs.declared.setting.Toggle.{Toggle}

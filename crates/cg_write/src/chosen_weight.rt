@@ -1,5 +1,5 @@
 //! A weight of a device, or that it has none of its own (cgroup-v2.rst, io.weight).
-ghost use Rattle.std.specs.Prelude.{◌≡◌, ◌≤◌, ◌+◌, ◌↔◌, true, IsTrue, IsFalse};
+ghost use Rattle.std.specs.Prelude.{◌≡◌};
 ghost use Rattle.cg_text.specs.Token.{Spells};
 ghost use Rattle.cg_write.specs.Texts.{IsChosen};
 

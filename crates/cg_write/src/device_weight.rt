@@ -1,5 +1,5 @@
 //! A write of the default weight, or of the weight of a device (cgroup-v2.rst, io.weight).
-ghost use Rattle.std.specs.Prelude.{◌≡◌, ◌≤◌, ◌+◌, ◌↔◌, true, IsTrue, IsFalse};
+ghost use Rattle.std.specs.Prelude.{◌≡◌};
 ghost use Rattle.cg_text.specs.Token.{Spells};
 ghost use Rattle.cg_value.specs.Settings.{WriteText};
 ghost use Rattle.cg_value.specs.declared.kind.WriteForm.TheVariants.{DeviceWeight as DeviceWeightForm};

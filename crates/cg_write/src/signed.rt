@@ -1,5 +1,5 @@
 //! A write of one signed number (cgroup-v2.rst, cpu.weight.nice).
-ghost use Rattle.std.specs.Prelude.{◌≡◌, ◌≤◌, ◌+◌, ◌↔◌, true, IsTrue, IsFalse, ◌≤ℤ◌};
+ghost use Rattle.std.specs.Prelude.{◌≡◌, ◌≤◌, ◌≤ℤ◌};
 ghost use Rattle.cg_text.specs.Token.{Spells};
 ghost use Rattle.cg_value.specs.Settings.{WriteText};
 ghost use Rattle.cg_value.specs.declared.kind.WriteForm.TheVariants.{Signed as SignedForm};

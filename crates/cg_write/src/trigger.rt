@@ -1,5 +1,5 @@
 //! A write of a pressure trigger (psi.rst, "Monitoring for pressure thresholds").
-ghost use Rattle.std.specs.Prelude.{◌≡◌, ◌≤◌, ◌+◌, ◌↔◌, true, IsTrue, IsFalse};
+ghost use Rattle.std.specs.Prelude.{◌≡◌, true};
 ghost use Rattle.cg_text.specs.Token.{Spells};
 ghost use Rattle.cg_value.specs.Settings.{WriteText};
 ghost use Rattle.cg_value.specs.declared.kind.WriteForm.TheVariants.{Trigger as TriggerForm};

@@ -1,5 +1,5 @@
 //! The text of a write of any kind (cgroup-v2.rst, "Interface Files").
-ghost use Rattle.std.specs.Prelude.{◌≡◌, ◌≤◌, ◌+◌, ◌↔◌, true, IsTrue, IsFalse};
+ghost use Rattle.std.specs.Prelude.{◌≡◌, true};
 ghost use Rattle.cg_text.specs.Token.{Spells};
 ghost use Rattle.cg_value.specs.Kind.{IsWriteForm};
 ghost use Rattle.cg_value.specs.Settings.{WriteText as IsWriteText};

@@ -17,7 +17,9 @@ returns-in-End-clause-ran g c form fresh_text fresh =
       consumed = h.consumed;
       wanted = told.wanted;
       parts = told.parts;
-      right = end_right text g.T.TextReader.printed c.args.max (record { bytes = h.read; left = g.R.Source.coming c.read_all.new.source; failed = g.R.Source.has_failed c.read_all.new.source }) h.ends.1 h.ends.2 unstopped told.wanted told.parts told.right;
+      right = end_right text g.T.TextReader.printed c.args.max
+          (record { bytes = h.read; left = g.R.Source.coming c.read_all.new.source; failed = g.R.Source.has_failed c.read_all.new.source })
+          h.ends.1 h.ends.2 unstopped told.wanted told.parts told.right;
       wrote = told.wrote;
     }
 

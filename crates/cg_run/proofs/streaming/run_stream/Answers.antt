@@ -8,7 +8,9 @@ pub returns-in-Err-clause-ran : goal.returns-in-Err-clause-ran
 returns-in-Err-clause-ran g c form fresh works =
     let h = c.reads.invariant.read form fresh works in
     let s = c.reads.stream in
-    let e = read_fault_ends (g.S.StreamReader.took s form) (g.S.StreamReader.whole form) (g.S.StreamReader.closes form) (g.S.StreamReader.unstopped form) (g.S.StreamReader.stops form) (g.met.S.StreamReader.closed s form) (g.met.S.StreamReader.passed s form)
+    let e = read_fault_ends (g.S.StreamReader.took s form) (g.S.StreamReader.whole form)
+    (g.S.StreamReader.closes form) (g.S.StreamReader.unstopped form) (g.S.StreamReader.stops form)
+    (g.met.S.StreamReader.closed s form) (g.met.S.StreamReader.passed s form)
     h.read (g.R.Source.coming c.pull.new.self) (g.R.Source.has_failed c.pull.new.self) (g.W.Sink.taken c.args.writer.now) (g.W.Sink.taken c.told_after.new.writer) (g.W.Sink.has_failed c.told_after.new.writer)
     h.before.parts h.before.took c.told_after.result c.in-Err.ensures.bytes.1 (c.told_after.ensures.wrote (g.W.Sink.taken c.args.writer.now) h.before.parts h.before.wrote) in
     record {

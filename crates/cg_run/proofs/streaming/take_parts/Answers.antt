@@ -8,8 +8,12 @@ returns-in-Some-clause-took g c form first read h left failed =
     let s = c.next-next.new.self in
     let b = c.loop-used.invariant.before form first read h in
     let found = rw c.in-Part.is at (c.next-next.ensures.found form (read ++ take at c.args.piece.now) b.parts b.took) in
-    let took = subst (λ (t : List ℕ). g.S.StreamReader.took s form ((read ++ take at c.args.piece.now) ++ take c.next-next.result.used c.split_at.result.1.now) (b.parts ++ t ∷ [])) (sym (c.as_slice.ensures.value ∙ ap (λ v. v.items) c.in-Part.text-is)) found in
-    fault_ends (g.S.StreamReader.took s form) (g.S.StreamReader.whole form) (g.S.StreamReader.closes form) (g.S.StreamReader.unstopped form) (g.S.StreamReader.stops form) (g.met.S.StreamReader.closed s form) (g.met.S.StreamReader.passed s form)
+    let took = subst (λ (t : List ℕ). g.S.StreamReader.took s form
+    ((read ++ take at c.args.piece.now) ++ take c.next-next.result.used c.split_at.result.1.now)
+    (b.parts ++ t ∷ [])) (sym (c.as_slice.ensures.value ∙ ap (λ v. v.items) c.in-Part.text-is)) found in
+    fault_ends (g.S.StreamReader.took s form) (g.S.StreamReader.whole form) (g.S.StreamReader.closes form)
+    (g.S.StreamReader.unstopped form) (g.S.StreamReader.stops form) (g.met.S.StreamReader.closed s form)
+    (g.met.S.StreamReader.passed s form)
     read c.args.piece.now c.split_at.result.1.now at c.next-next.result.used c.split_at.ensures.back c.loop-used.invariant.within c.next-next.ensures.used left failed
     first (g.W.Sink.taken c.told_part.new.writer) (g.W.Sink.has_failed c.told_part.new.writer) b.parts c.as_slice.result.now c.in-Some.fault took (c.in-Some.ensures.wrote first b.parts b.wrote)
 
@@ -40,7 +44,9 @@ returns-in-Stopped-clause-took g c form first read h left failed =
     let s = c.next-next.new.self in
     let b = c.loop-used.invariant.before form first read h in
     let found = rw c.in-Stopped.is at (c.next-next.ensures.found form (read ++ take at c.args.piece.now) b.parts b.took) in
-    stop_ends (g.S.StreamReader.took s form) (g.S.StreamReader.whole form) (g.S.StreamReader.closes form) (g.S.StreamReader.unstopped form) (g.S.StreamReader.stops form) (g.met.S.StreamReader.closed s form) (g.met.S.StreamReader.passed s form)
+    stop_ends (g.S.StreamReader.took s form) (g.S.StreamReader.whole form) (g.S.StreamReader.closes form)
+    (g.S.StreamReader.unstopped form) (g.S.StreamReader.stops form) (g.met.S.StreamReader.closed s form)
+    (g.met.S.StreamReader.passed s form)
     read c.args.piece.now c.split_at.result.1.now at c.next-next.result.used c.split_at.ensures.back c.loop-used.invariant.within c.next-next.ensures.used left failed
     first (g.W.Sink.taken c.told_after.new.writer) (g.W.Sink.has_failed c.told_after.new.writer) b.parts c.in-Stopped.stop c.told_after.result found.0 found.1 found.2 found.3 (c.told_after.ensures.wrote first b.parts b.wrote)
 
@@ -50,6 +56,10 @@ returns-in-OutOfMemory-clause-took g c form first read h left failed =
     let s = c.next-next.new.self in
     let b = c.loop-used.invariant.before form first read h in
     let found = rw c.in-OutOfMemory.is at (c.next-next.ensures.found form (read ++ take at c.args.piece.now) b.parts b.took) in
-    memory_ends (g.S.StreamReader.took s form) (g.S.StreamReader.whole form) (g.S.StreamReader.closes form) (g.S.StreamReader.unstopped form) (g.S.StreamReader.stops form) (g.met.S.StreamReader.closed s form) (g.met.S.StreamReader.passed s form)
+    memory_ends (g.S.StreamReader.took s form) (g.S.StreamReader.whole form) (g.S.StreamReader.closes form)
+    (g.S.StreamReader.unstopped form) (g.S.StreamReader.stops form) (g.met.S.StreamReader.closed s form)
+    (g.met.S.StreamReader.passed s form)
     read c.args.piece.now c.split_at.result.1.now at c.next-next.result.used c.split_at.ensures.back c.loop-used.invariant.within c.next-next.ensures.used left failed
-    first (g.W.Sink.taken c.told_after-in-OutOfMemory.new.writer) (g.W.Sink.has_failed c.told_after-in-OutOfMemory.new.writer) b.parts c.told_after-in-OutOfMemory.result found (c.told_after-in-OutOfMemory.ensures.wrote first b.parts b.wrote)
+    first (g.W.Sink.taken c.told_after-in-OutOfMemory.new.writer)
+    (g.W.Sink.has_failed c.told_after-in-OutOfMemory.new.writer) b.parts c.told_after-in-OutOfMemory.result
+    found (c.told_after-in-OutOfMemory.ensures.wrote first b.parts b.wrote)

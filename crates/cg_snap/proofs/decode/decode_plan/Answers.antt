@@ -15,7 +15,9 @@ returns-in-Ok c =
     let first = fresh (Plan profile) (IsItemWhy profile) is_never_many (λ p items. ClosedPlan profile p items) (λ s. HasTakenItems s profile) (λ s. items_closed s profile) (λ s. items_go_on s profile)
     c.new-records.result c.new-meter.result c.new-records.ensures.taken c.new-meter.ensures.counted in
     let a = c.in_default.ensures.taken profile (subst (ItemsAreAlong profile c.new-records.result c.new-meter.result []) (sym c.new-items.ensures.items) first) in
-    planned profile c.take_all.new.meter.limits c.args.limits bytes c.take_all.new.parts.items (c.in_default.ensures.limits ∙ c.new-meter.ensures.limits) (c.in-Ok.ensures profile bytes c.take_all.new.parts.items a.state a.counted.offset) a.unstopped
+    planned profile c.take_all.new.meter.limits c.args.limits bytes c.take_all.new.parts.items
+    (c.in_default.ensures.limits ∙ c.new-meter.ensures.limits)
+    (c.in-Ok.ensures profile bytes c.take_all.new.parts.items a.state a.counted.offset) a.unstopped
 
 pub returns : goal.returns
 returns c =
@@ -25,4 +27,6 @@ returns c =
     c.new-records.result c.new-meter.result c.new-records.ensures.taken c.new-meter.ensures.counted in
     let a = c.in_default.ensures.taken profile (subst (ItemsAreAlong profile c.new-records.result c.new-meter.result []) (sym c.new-items.ensures.items) first) in
     let limits = c.in_default.ensures.limits ∙ c.new-meter.ensures.limits in
-    plan_ended_err profile c.args.limits bytes c.take_all.new.parts.items c.in-Err.stop (subst (λ (l : Limits). IsPlanUnstopped profile l bytes) limits a.unstopped) (c.in-Err.ensures profile bytes c.take_all.new.parts.items a.state a.counted.offset)
+    plan_ended_err profile c.args.limits bytes c.take_all.new.parts.items c.in-Err.stop
+    (subst (λ (l : Limits). IsPlanUnstopped profile l bytes) limits a.unstopped)
+    (c.in-Err.ensures profile bytes c.take_all.new.parts.items a.state a.counted.offset)

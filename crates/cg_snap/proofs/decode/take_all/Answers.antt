@@ -36,7 +36,10 @@ loop-used-preserved g c = record {
       let w = rw c.in-Given.is at (c.pull-progress.ensures.pulled form (take at bytes) c.loop-used.parts.items (c.loop-used.invariant.along form h)) in
       let s = along_of (g.R.Records.language form) (g.R.Records.breaks form) (g.R.Records.many form) (g.R.Records.closes form) (λ s. g.R.Records.at s form)
       c.pull-progress.new.records c.pull-progress.new.meter (take at bytes ++ take n rest) (take (at + n) bytes) _ (text_on [] bytes rest at n back) w.2 in
-      let Gave = λ (parts : List g.row.R-Part.Denot). IsAlong (g.R.Records.language form) (g.R.Records.breaks form) (g.R.Records.many form) (g.R.Records.closes form) (λ s. g.R.Records.at s form) c.pull-progress.new.records c.pull-progress.new.meter (take (at + n) bytes) parts in
+      let Gave = λ (parts : List g.row.R-Part.Denot). IsAlong (g.R.Records.language form) (g.R.Records.breaks form)
+      (g.R.Records.many form) (g.R.Records.closes form)
+      (λ s. g.R.Records.at s form) c.pull-progress.new.records c.pull-progress.new.meter
+      (take (at + n) bytes) parts in
       subst Gave (sym c.in-Ok.ensures.items) (subst (λ (part : g.row.R-Part.Denot). Gave (c.loop-used.parts.items ++ part ∷ [])) (sym c.in-Given.part-is) s);
   within = omega (arith, c.pull-progress.ensures.used, c.loop-used-test.true, left c.args.bytes.now c.split_at.result.1.now c.loop-used.used c.split_at.ensures.back);
   limits = c.pull-progress.ensures.limits ∙ c.loop-used.invariant.limits;
@@ -63,7 +66,9 @@ returns-in-Stopped-clause-taken g c form h =
     let rest = c.split_at.result.1.now in
     let back = c.split_at.ensures.back in
     let w = rw c.in-Stopped.is at (c.pull-progress.ensures.pulled form (take at bytes) c.loop-used.parts.items (c.loop-used.invariant.along form h)) in
-    stopped_at (g.R.Records.language form) (g.R.Records.breaks form) (g.R.Records.many form) c.pull-progress.new.meter.limits c.args.meter.now.limits bytes rest at c.in-Stopped.stop (c.pull-progress.ensures.limits ∙ c.loop-used.invariant.limits) back w.1
+    stopped_at (g.R.Records.language form) (g.R.Records.breaks form)
+    (g.R.Records.many form) c.pull-progress.new.meter.limits c.args.meter.now.limits bytes rest at
+    c.in-Stopped.stop (c.pull-progress.ensures.limits ∙ c.loop-used.invariant.limits) back w.1
 
 pub returns-in-OutOfMemory-clause-taken : goal.returns-in-OutOfMemory-clause-taken
 returns-in-OutOfMemory-clause-taken g c form h =
@@ -73,7 +78,9 @@ returns-in-OutOfMemory-clause-taken g c form h =
     let rest = c.split_at.result.1.now in
     let back = c.split_at.ensures.back in
     let w = rw c.in-OutOfMemory.is at (c.pull-progress.ensures.pulled form (take at bytes) c.loop-used.parts.items (c.loop-used.invariant.along form h)) in
-    starved_at (g.R.Records.language form) (g.R.Records.breaks form) (g.R.Records.many form) c.pull-progress.new.meter.limits c.args.meter.now.limits bytes rest at n (c.pull-progress.ensures.limits ∙ c.loop-used.invariant.limits) back w.0 w.1
+    starved_at (g.R.Records.language form) (g.R.Records.breaks form)
+    (g.R.Records.many form) c.pull-progress.new.meter.limits c.args.meter.now.limits bytes rest at n
+    (c.pull-progress.ensures.limits ∙ c.loop-used.invariant.limits) back w.0 w.1
 
 pub returns-clause-taken : goal.returns-clause-taken
 returns-clause-taken g c form h =

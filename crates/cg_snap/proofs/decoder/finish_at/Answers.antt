@@ -8,7 +8,12 @@ use Rattle.cg_snap.proofs.Finishes.{begun_cut, in_line_cut, between_path, last_e
 use Rattle.cg_snap.proofs.decoder.finish_at.Goals as goal
 
 pub returns-then-not-is_empty : goal.returns-then-not-is_empty
-returns-then-not-is_empty c = λ profile p es h e. (e, begun_cut profile c.args.records.begun.items c.args.records.present p es h.at (λ n. let z : length c.args.records.begun.items ≡ 0 = ap length n in eqb-false _ _ (sym c.is_empty.ensures ∙ c.if-not-is_empty.true) (omega (arith, c.args.records.begun.ok.0))))
+returns-then-not-is_empty c = λ profile p es h e. (
+  e,
+  begun_cut profile c.args.records.begun.items c.args.records.present p es h.at (λ n. let z : length
+      c.args.records.begun.items ≡ 0 = ap length n in
+      eqb-false _ _ (sym c.is_empty.ensures ∙ c.if-not-is_empty.true) (omega (arith, c.args.records.begun.ok.0))),
+)
 
 pub returns-then-x : goal.returns-then-x
 returns-then-x c = λ profile p es h e. (e, in_line_cut profile c.args.records.begun.items c.args.records.present c.in-Some.x p es c.in-Some.is c.if-x.true h.at)

@@ -7,7 +7,9 @@ pub returns-in-Some : goal.returns-in-Some
 returns-in-Some c = λ p items n h.
     let t = subst (λ (b : ℕ). Takes c.push.new.self h.kind (h.line ++ b ∷ [])) c.if-byte-eq10.true (c.in-Ok.ensures.pushed h.kind h.line h.takes) in
     let s = c.in-Some.ensures h.kind h.line h.good h.writes_at h.plain t in
-    rw c.if-byte-eq10.true (items_back c.args.profile c.args.begun.now.items c.args.present.now (p ++ 10 ∷ []) (items ++ c.in-Some.item ∷ []) n (item_ended c.args.profile c.args.begun.now.items c.args.writing p items h c.in-Some.item s.0 s.1))
+    rw c.if-byte-eq10.true (items_back c.args.profile c.args.begun.now.items c.args.present.now (p ++ 10 ∷ [])
+    (items ++ c.in-Some.item ∷ []) n
+    (item_ended c.args.profile c.args.begun.now.items c.args.writing p items h c.in-Some.item s.0 s.1))
 
 pub returns-else-byte-eq10 : goal.returns-else-byte-eq10
 returns-else-byte-eq10 c = λ p items n h.

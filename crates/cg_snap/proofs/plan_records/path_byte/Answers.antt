@@ -15,7 +15,9 @@ returns-in-NotWritable c = λ p items n h.
 pub returns-in-Writable : goal.returns-in-Writable
 returns-in-Writable c = λ p items n h.
     let k = rw (c.as_slice.ensures.value, c.in-Writable.is) at c.classify_write.ensures in
-    rw c.if-byte-eq0.true (item_nul c.args.profile c.args.begun.now.items c.replace-path.new.dest.items _ p items c.in-Writable.kind h k (rw c.replace-path.ensures.value refl) (rw c.replace-path.ensures.after c.new.ensures.items) c.new-in-Writable.ensures.takes)
+    rw c.if-byte-eq0.true (item_nul c.args.profile c.args.begun.now.items c.replace-path.new.dest.items _ p items
+    c.in-Writable.kind h k (rw c.replace-path.ensures.value refl)
+    (rw c.replace-path.ensures.after c.new.ensures.items) c.new-in-Writable.ensures.takes)
 
 pub returns-then-byte-eq10 : goal.returns-then-byte-eq10
 returns-then-byte-eq10 c = λ p items n h.

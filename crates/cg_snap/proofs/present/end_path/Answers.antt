@@ -11,7 +11,9 @@ use Rattle.cg_snap.proofs.present.end_path.Goals as goal
 pub returns-in-None : goal.returns-in-None
 returns-in-None c = λ p es h i k.
     let s = at_none c.args.profile c.args.begun.now.items c.args.present.now p es (sym c.take.ensures.value ∙ c.in-None.is) h in
-    start_path c.args.profile c.args.begun.now.items c.replace-path.new.dest.items p _ es 0 c.args.kind refl (rw c.replace-path.ensures.after c.new.ensures.items) (rw c.replace-path.ensures.value refl) refl (named_path c.args.begun.now.items s.begun_path k.0) k.1 c.new-in-None.ensures.reads s
+    start_path c.args.profile c.args.begun.now.items c.replace-path.new.dest.items p _ es 0 c.args.kind refl
+    (rw c.replace-path.ensures.after c.new.ensures.items) (rw c.replace-path.ensures.value refl) refl
+    (named_path c.args.begun.now.items s.begun_path k.0) k.1 c.new-in-None.ensures.reads s
 
 pub returns-then-takes_line : goal.returns-then-takes_line
 returns-then-takes_line c = λ p es h i k.
@@ -19,7 +21,10 @@ returns-then-takes_line c = λ p es h i k.
     let s = at_some c.args.profile c.args.begun.now.items c.args.present.now c.in-Some.x p es is h i in
     let same = (slice_eq-Decides Decides-eqb _ _ _ c.eq.ensures).0 c.if-eq.true in
     let paths : c.args.begun.now.items ≡ c.in-Some.x.path.items = sym c.as_slice-in-Some.ensures.value ∙ (sym same ∙ c.as_slice.ensures.value) in
-    same_path c.args.profile c.args.begun.now.items c.clear.new.self.items c.in-Some.x _ p es 0 s.0 refl c.clear.ensures.items paths refl refl refl (takes_more s.0.kind s.0.lines ((c.takes_line.ensures s.0.kind (unlines s.0.lines) s.0.reads).0 c.if-takes_line.true))
+    same_path c.args.profile c.args.begun.now.items c.clear.new.self.items c.in-Some.x _ p es 0 s.0 refl
+    c.clear.ensures.items paths refl refl refl
+    (takes_more s.0.kind s.0.lines
+    ((c.takes_line.ensures s.0.kind (unlines s.0.lines) s.0.reads).0 c.if-takes_line.true))
 
 pub returns-then-eq : goal.returns-then-eq
 returns-then-eq c = λ p es h i k.
@@ -36,7 +41,11 @@ returns-in-Some-ended c = λ p es h i k.
     let s = at_some c.args.profile c.args.begun.now.items c.args.present.now c.in-Some.x p es is h i in
     let differ = λ (e : c.in-Some.x.path.items ≡ c.args.begun.now.items). both_ways c.eq.result c.if-eq.false ((slice_eq-Decides Decides-eqb _ _ _ c.eq.ensures).1 (c.as_slice.ensures.value ∙ (e ∙ sym c.as_slice-in-Some.ensures.value))) in
     let ends = c.in-Some-ended.ensures c.args.begun.now.items p es s.0 in
-    next_path c.args.profile c.args.begun.now.items c.replace-path-in-Some.new.dest.items c.in-Some.x _ p es 0 c.args.kind c.in-Some-ended.entry s.0 refl (rw c.replace-path-in-Some.ensures.after c.new-in-Some.ensures.items) differ (rw c.replace-path-in-Some.ensures.value refl) refl (named_path c.args.begun.now.items s.0.begun_path k.0) k.1 c.new-in-Some-2.ensures.reads ends.0 ends.1
+    next_path c.args.profile c.args.begun.now.items c.replace-path-in-Some.new.dest.items c.in-Some.x _ p es 0
+    c.args.kind c.in-Some-ended.entry s.0 refl
+    (rw c.replace-path-in-Some.ensures.after c.new-in-Some.ensures.items) differ
+    (rw c.replace-path-in-Some.ensures.value refl) refl
+    (named_path c.args.begun.now.items s.0.begun_path k.0) k.1 c.new-in-Some-2.ensures.reads ends.0 ends.1
 
 pub returns-in-None-ended : goal.returns-in-None-ended
 returns-in-None-ended c = λ p es h i k.

@@ -7,7 +7,9 @@ use Rattle.cg_snap.proofs.present.line_byte.Goals.{then-byte-eq10, else-byte-eq1
 pub returns-after-byte-eq10 : goal.returns-after-byte-eq10
 returns-after-byte-eq10 c =
     elim c.if-byte-eq10.branch [
-      | then-byte-eq10 w ↦ λ profile p es h t. rw w.present-is (line_ended profile c.args.begun.now.items c.args.present.now _ p es c.args.byte t h w.if-byte-eq10.true refl w.saturating_add-present.ensures refl (λ k s r. c.in-Ok.ensures.pushed k s r))
+      | then-byte-eq10 w ↦ λ profile p es h t. rw w.present-is
+          (line_ended profile c.args.begun.now.items c.args.present.now _ p es c.args.byte t h w.if-byte-eq10.true
+          refl w.saturating_add-present.ensures refl (λ k s r. c.in-Ok.ensures.pushed k s r))
       | else-byte-eq10 w ↦ λ profile p es h t. rw w.present-is (line_taken profile c.args.begun.now.items c.args.present.now _ p es (c.args.byte ∷ []) t h (w.if-byte-eq10.false, tt) refl refl t (λ k s r. c.in-Ok.ensures.pushed k s r))
     ]
 

@@ -24,18 +24,25 @@ pub returns-then-takes_line : goal.returns-then-takes_line
 returns-then-takes_line c = λ p es h i.
     let s = at_some c.args.profile c.args.begun.now.items c.args.present.now c.in-Some.x p es c.in-Some.is h i in
     let same = (slice_eq-Decides Decides-eqb _ _ _ c.eq.ensures).0 c.if-eq.true in
-    same_nul_allowed c.args.profile c.args.begun.now.items c.in-Some.x p es s.0 (sym c.as_slice-in-Some-2.ensures.value ∙ (sym same ∙ c.as_slice-in-Some.ensures.value)) (takes_more s.0.kind s.0.lines ((c.takes_line.ensures s.0.kind (unlines s.0.lines) s.0.reads).0 c.if-takes_line.true))
+    same_nul_allowed c.args.profile c.args.begun.now.items c.in-Some.x p es s.0
+    (sym c.as_slice-in-Some-2.ensures.value ∙ (sym same ∙ c.as_slice-in-Some.ensures.value))
+    (takes_more s.0.kind s.0.lines
+    ((c.takes_line.ensures s.0.kind (unlines s.0.lines) s.0.reads).0 c.if-takes_line.true))
 
 pub returns-else-takes_line : goal.returns-else-takes_line
 returns-else-takes_line c = λ p es h i.
     let k = rw (c.as_slice.ensures.value, c.in-Readable.is) at c.classify.ensures in
     let s = at_some c.args.profile c.args.begun.now.items c.args.present.now c.in-Some.x p es c.in-Some.is h i in
     let same = (slice_eq-Decides Decides-eqb _ _ _ c.eq.ensures).0 c.if-eq.true in
-    no_more c.args.profile c.args.begun.now.items c.in-Some.x p es c.in-Readable.field-0 s.0 k (sym c.as_slice-in-Some-2.ensures.value ∙ (sym same ∙ c.as_slice-in-Some.ensures.value)) (λ k t r v. iff_false (c.takes_line.ensures k t r) c.if-takes_line.false v)
+    no_more c.args.profile c.args.begun.now.items c.in-Some.x p es c.in-Readable.field-0 s.0 k
+    (sym c.as_slice-in-Some-2.ensures.value ∙ (sym same ∙ c.as_slice-in-Some.ensures.value))
+    (λ k t r v. iff_false (c.takes_line.ensures k t r) c.if-takes_line.false v)
 
 pub returns-else-eq : goal.returns-else-eq
 returns-else-eq c = λ p es h i.
     let k = rw (c.as_slice.ensures.value, c.in-Readable.is) at c.classify.ensures in
     let s = at_some c.args.profile c.args.begun.now.items c.args.present.now c.in-Some.x p es c.in-Some.is h i in
-    let differ = λ (e : c.in-Some.x.path.items ≡ c.args.begun.now.items). both_ways c.eq.result c.if-eq.false ((slice_eq-Decides Decides-eqb _ _ _ c.eq.ensures).1 (c.as_slice-in-Some.ensures.value ∙ (e ∙ sym c.as_slice-in-Some-2.ensures.value))) in
+    let differ = λ (e : c.in-Some.x.path.items ≡ c.args.begun.now.items). both_ways c.eq.result c.if-eq.false
+    ((slice_eq-Decides Decides-eqb _ _ _ c.eq.ensures).1 (c.as_slice-in-Some.ensures.value
+    ∙ (e ∙ sym c.as_slice-in-Some-2.ensures.value))) in
     next_nul_allowed c.args.profile c.args.begun.now.items c.in-Some.x p es c.in-Readable.field-0 k differ s.0

@@ -1,4 +1,4 @@
-use Rattle.std.proofs.Common.{◌≡◌, ℕ, ◌+◌, ◌*◌, ◌≤◌, ◌<◌, ◌↔◌, ◌^◌, ◌-◌}
+use Rattle.std.proofs.Common.{◌+◌, ◌≤◌, ◌<◌, ◌↔◌, ◌^◌, ◌-◌}
 use Rattle.cg_text.specs.DecimalState.{Reaches, Spans}
 use Rattle.cg_text.proofs.decimal.reaches.Given as goal
 

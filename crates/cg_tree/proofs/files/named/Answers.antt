@@ -15,6 +15,9 @@ loop-place-preserved c =
     let inside : c.loop-place.place < length c.args.entries.now = omega arith in
     let tested : is_named (c.loop-place.place, entry) ≡ c.eq.result = ap (λ n. bytes_eq n c.args.name.now) (name_is entry.path c.name.result.now c.name.ensures) ∙ sym c.eq.ensures in
     elim c.if-eq.branch [
-      | then-eq+in_ok-push w ↦ ap (λ f. f.items) w.files-is ∙ w.in_ok-push.ensures.items ∙ rw (c.loop-place.invariant, w.directory_of.ensures, w.path.ensures.path, w.value.ensures.value) (sym (picked_more is_named file_of c.args.entries.now c.loop-place.place entry inside c.index-entries-place.is (tested ∙ w.if-eq.true)))
+      | then-eq+in_ok-push w ↦ ap (λ f. f.items) w.files-is ∙ w.in_ok-push.ensures.items
+          ∙ rw (c.loop-place.invariant, w.directory_of.ensures, w.path.ensures.path, w.value.ensures.value)
+          (sym (picked_more is_named file_of c.args.entries.now c.loop-place.place entry inside
+          c.index-entries-place.is (tested ∙ w.if-eq.true)))
       | else-eq w ↦ ap (λ f. f.items) w.files-is ∙ c.loop-place.invariant ∙ sym (picked_passed is_named file_of c.args.entries.now c.loop-place.place entry inside c.index-entries-place.is (tested ∙ w.if-eq.false))
     ]

@@ -9,4 +9,6 @@ returns-then-has_key g c = (
 )
 
 pub loop-place-preserved : goal.loop-place-preserved
-loop-place-preserved g c = λ d. c.loop-place.invariant (key_alone g.T.Keyed.key_of c.args.items.now c.loop-place.place c.index-items-place.result c.key.result.now c.loop-place-test.true c.index-items-place.is c.key.ensures (sym c.has_key.ensures ∙ c.if-has_key.false) d)
+loop-place-preserved g c = λ d. c.loop-place.invariant
+    (key_alone g.T.Keyed.key_of c.args.items.now c.loop-place.place c.index-items-place.result c.key.result.now
+    c.loop-place-test.true c.index-items-place.is c.key.ensures (sym c.has_key.ensures ∙ c.if-has_key.false) d)

@@ -13,4 +13,7 @@ pub one_line-requires : goal.one_line-requires
 one_line-requires c = lacks_spelled _ _ 10 c.in-Some.ensures.spells.1 (limit_lacks 10 0 18446744073709551615 (omega arith))
 
 pub returns-clause-spells : goal.returns-clause-spells
-returns-clause-spells c = let whole = spells_as (spells_as c.one_line.ensures.spells (line_as limit_value c.in-Some.ensures.spells.1.is)) (one_is LimitForm (IsLimit 0 18446744073709551615) LimitOf (λ v lines. (λ h. h, λ h. h))) in record { is = whole.is }
+returns-clause-spells c = let whole =
+    spells_as (spells_as c.one_line.ensures.spells (line_as limit_value c.in-Some.ensures.spells.1.is))
+    (one_is LimitForm (IsLimit 0 18446744073709551615) LimitOf (λ v lines. (λ h. h, λ h. h))) in
+    record { is = whole.is }

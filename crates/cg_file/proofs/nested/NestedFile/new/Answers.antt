@@ -40,10 +40,16 @@ returns-clause-spells c =
     let start = c.nested_start-pairs.result in
     let is = c.nested_start-pairs.ensures in
     let line : (text : List ℕ) (l : NestedLine) →
-    IsKeyed key pairs (SpellsWord c.new-keys.result.controller) (AreJoinedPairs word (IsPairText word number (SpellsWord start.words.controller) (λ t n. IsDecimal start.values.lo start.values.hi n t) start.mark) start.separator) (Some []) 32 text l ↔ LineText text l =
+    IsKeyed key pairs (SpellsWord c.new-keys.result.controller)
+    (AreJoinedPairs word (IsPairText word number (SpellsWord start.words.controller)
+    (λ t n. IsDecimal start.values.lo start.values.hi n t) start.mark) start.separator) (Some []) 32 text l ↔
+    LineText text l =
     rw (c.new-keys.ensures, is.words, is.low, is.high, is.separator, is.mark) (nested_is key pairs word (SpellsWord false) PairText 32) in
     let each : (text : List ℕ) (l : NestedLine) →
-    IsKeyed key pairs (SpellsWord c.new-keys.result.controller) (AreJoinedPairs word (IsPairText word number (SpellsWord start.words.controller) (λ t n. IsDecimal start.values.lo start.values.hi n t) start.mark) start.separator) (Some []) 32 text l ↔ IsNestedLine l text =
+    IsKeyed key pairs (SpellsWord c.new-keys.result.controller)
+    (AreJoinedPairs word (IsPairText word number (SpellsWord start.words.controller)
+    (λ t n. IsDecimal start.values.lo start.values.hi n t) start.mark) start.separator) (Some []) 32 text l ↔
+    IsNestedLine l text =
     λ text l. (λ h. (nested_line_is text l).0 ((line text l).0 h), λ h. (line text l).1 ((nested_line_is text l).1 h)) in
     let whole = spells_as (mapped_spells nested_value (given_spells (keyed_spells key given 10 each c.new.ensures.spells)) c.new-2.ensures.spells) nested_file_is in
     record { is = whole.is }

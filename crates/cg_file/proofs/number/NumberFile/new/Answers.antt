@@ -13,4 +13,7 @@ pub one_line-requires : goal.one_line-requires
 one_line-requires c = lacks_spelled _ _ 10 c.in-Some.ensures.1 (decimal_lacks 10 c.args.lo c.args.hi (omega arith))
 
 pub returns-clause-spells : goal.returns-clause-spells
-returns-clause-spells c = let whole = spells_as (spells_as c.one_line.ensures.spells (line_as number_value c.in-Some.ensures.1.is)) (one_is (NumberForm c.args.lo c.args.hi) (IsDecimal c.args.lo c.args.hi) Number (λ v lines. (λ h. h, λ h. h))) in record { is = whole.is }
+returns-clause-spells c = let whole =
+    spells_as (spells_as c.one_line.ensures.spells (line_as number_value c.in-Some.ensures.1.is))
+    (one_is (NumberForm c.args.lo c.args.hi) (IsDecimal c.args.lo c.args.hi) Number (λ v lines. (λ h. h, λ h. h)))
+    in record { is = whole.is }

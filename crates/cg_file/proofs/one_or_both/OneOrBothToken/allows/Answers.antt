@@ -11,7 +11,9 @@ pub returns-in-First : goal.returns-in-First
 returns-in-First g c =
     let s = c.args.self.now in
     let ended = g.A.Token.ends_is s.first in
-    rw c.in-First.is (first_begins g.A.Token.means g.B.Token.means s.first s.second c.args.byte c.allows-first.result c.can_end-ended.result c.allows-second.result c.allows-first.ensures (rw (sym c.can_end-ended.ensures) at ended) c.allows-second.ensures)
+    rw c.in-First.is (first_begins g.A.Token.means g.B.Token.means s.first s.second c.args.byte
+    c.allows-first.result c.can_end-ended.result c.allows-second.result c.allows-first.ensures
+    (rw (sym c.can_end-ended.ensures) at ended) c.allows-second.ensures)
 
 pub returns-in-Second : goal.returns-in-Second
 returns-in-Second g c =

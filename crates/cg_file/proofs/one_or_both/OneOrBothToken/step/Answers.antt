@@ -31,7 +31,9 @@ pub returns-in-Ok-true-clause-taken : goal.returns-in-Ok-true-clause-taken
 returns-in-Ok-true-clause-taken g c =
     let taken = rw c.in-Ok-true.field-0-test at c.in-Ok-true.ensures.taken in
     let old = c.args.self.now in
-    λ rest v. first_taken g.A.Token.means g.B.Token.means old.place old.first c.step.new.self old.second c.args.byte (rw c.in-Start.is refl) old.differ (old.apart (rw c.in-Start.is refl)) (g.A.Token.completes c.step.new.self) taken rest (v.0) (v.1)
+    λ rest v. first_taken g.A.Token.means g.B.Token.means old.place old.first c.step.new.self old.second c.args.byte
+    (rw c.in-Start.is refl) old.differ (old.apart (rw c.in-Start.is refl))
+    (g.A.Token.completes c.step.new.self) taken rest (v.0) (v.1)
 
 pub returns-in-Ok-true-step-clause-taken : goal.returns-in-Ok-true-step-clause-taken
 returns-in-Ok-true-step-clause-taken g c =
@@ -51,7 +53,9 @@ pub returns-in-Ok-true-step-2-clause-taken : goal.returns-in-Ok-true-step-2-clau
 returns-in-Ok-true-step-2-clause-taken g c =
     let taken = rw c.in-Ok-true-step-2.field-0-test at c.in-Ok-true-step-2.ensures.taken in
     let old = c.args.self.now in
-    rw c.in-First.is (λ rest v. first_taken g.A.Token.means g.B.Token.means First old.first c.step-in-First.new.self old.second c.args.byte refl (λ e. absurd (let f : false ≡ true = e in cc)) (old.apart (rw c.in-First.is refl)) (g.A.Token.completes c.step-in-First.new.self) taken rest (v.0) (v.1))
+    rw c.in-First.is (λ rest v. first_taken g.A.Token.means g.B.Token.means First old.first c.step-in-First.new.self
+    old.second c.args.byte refl (λ e. absurd (let f : false ≡ true = e in cc))
+    (old.apart (rw c.in-First.is refl)) (g.A.Token.completes c.step-in-First.new.self) taken rest (v.0) (v.1))
 
 pub returns-then-not-can_end-clause-refused : goal.returns-then-not-can_end-clause-refused
 returns-then-not-can_end-clause-refused g c =

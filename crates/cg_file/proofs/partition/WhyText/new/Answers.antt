@@ -1,5 +1,4 @@
 use Rattle.cg_join.specs.CutLaws.{label_spells}
-use Rattle.cg_join.specs.FilledLaws.{filled_spelled, first_filled, fixed_filled}
 use Rattle.cg_join.specs.MaybeLaws.{maybe_spells}
 use Rattle.cg_file.proofs.partition.WhyText.new.Goals as goal
 

@@ -13,4 +13,7 @@ pub one_line-requires : goal.one_line-requires
 one_line-requires c = lacks_spelled _ _ 10 c.new.ensures.spells (strict_lacking 10 c.args.most (omega arith)).is
 
 pub returns-clause-spells : goal.returns-clause-spells
-returns-clause-spells c = let whole = spells_as (spells_as c.one_line.ensures.spells (line_as set_value c.new.ensures.spells.is)) (one_is (SetForm c.args.most) (IsStrictList c.args.most) Set (λ v lines. (λ h. h, λ h. h))) in record { is = whole.is }
+returns-clause-spells c = let whole =
+    spells_as (spells_as c.one_line.ensures.spells (line_as set_value c.new.ensures.spells.is))
+    (one_is (SetForm c.args.most) (IsStrictList c.args.most) Set (λ v lines. (λ h. h, λ h. h))) in
+    record { is = whole.is }

@@ -6,7 +6,11 @@ use Rattle.cg_text.specs.contracts.word.WordTextToken.TheImpl as word_text
 use Rattle.cg_join.proofs.distinct.DistinctWords.new.Goals as goal
 
 pub returns-clause-spells : goal.returns-clause-spells
-returns-clause-spells c = record { is = rw c.new.ensures.items (λ rest all. with_distinct (list_new c.args.separator (word_text.ghosts.means c.start-current.result) (SpellsWord c.args.start.controller) c.start-current.ensures.spells.is rest all)) }
+returns-clause-spells c = record {
+  is = rw c.new.ensures.items (λ rest all. with_distinct
+      (list_new c.args.separator (word_text.ghosts.means c.start-current.result)
+      (SpellsWord c.args.start.controller) c.start-current.ensures.spells.is rest all));
+}
 
 pub invariant_of-result-clause-stops : goal.invariant_of-result-clause-stops
 invariant_of-result-clause-stops c =

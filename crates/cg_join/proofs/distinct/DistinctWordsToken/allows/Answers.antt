@@ -10,7 +10,10 @@ returns c =
     let old = c.args.self.now in
     let P = word_text.ghosts.means old.current in
     let R = SpellsWord old.start.controller in
-    let ends = distinct_ends P R old.separator old.items.items (is_taken old.current.bytes.items) (word_text.ghosts.ends old.current) old.distinct (taken_is old.current.controller old.current.bytes.items old.current.sound) (word_text.ghosts.one_value old.current) (word_text.ghosts.ends_is old.current) in
+    let ends = distinct_ends P R old.separator old.items.items (is_taken old.current.bytes.items)
+    (word_text.ghosts.ends old.current) old.distinct
+    (taken_is old.current.controller old.current.bytes.items old.current.sound)
+    (word_text.ghosts.one_value old.current) (word_text.ghosts.ends_is old.current) in
     distinct_begins P R old.separator old.items.items c.args.byte old.distinct
     (λ h. word_new old.current.controller old.current.bytes.items (c.args.byte ∷ []) h old.items.items) (new_word_text old.start.controller)
     c.allows-more.result (eqb c.args.byte old.separator) c.can_end-ended.result c.allows-more.ensures

@@ -26,12 +26,17 @@ pub returns-in-Ok-true-clause-taken : goal.returns-in-Ok-true-clause-taken
 returns-in-Ok-true-clause-taken c =
     let taken = rw c.in-Ok-true.field-0-test at c.in-Ok-true.ensures.taken in
     let old = c.args.self.now in
-    rw c.make_room.ensures.items (λ rest all. with_distinct (list_taken old.separator (word_text.ghosts.means old.current) (word_text.ghosts.means c.step.new.self) (SpellsWord old.start.controller) c.args.byte old.stops (word_text.ghosts.completes c.step.new.self) taken old.items.items rest all))
+    rw c.make_room.ensures.items (λ rest all. with_distinct
+    (list_taken old.separator (word_text.ghosts.means old.current) (word_text.ghosts.means c.step.new.self)
+    (SpellsWord old.start.controller) c.args.byte old.stops
+    (word_text.ghosts.completes c.step.new.self) taken old.items.items rest all))
 
 pub returns-in-Err-step-clause-same : goal.returns-in-Err-step-clause-same
 returns-in-Err-step-clause-same c =
     let old = c.args.self.now in
-    rw c.make_room.ensures.items (λ rest all. with_distinct (list_same old.separator (word_text.ghosts.means old.current) (word_text.ghosts.means c.step.new.self) (SpellsWord old.start.controller) c.in-Err-step.ensures.same old.items.items rest all))
+    rw c.make_room.ensures.items (λ rest all. with_distinct
+    (list_same old.separator (word_text.ghosts.means old.current) (word_text.ghosts.means c.step.new.self)
+    (SpellsWord old.start.controller) c.in-Err-step.ensures.same old.items.items rest all))
 
 pub returns-then-byte-self-clause-refused : goal.returns-then-byte-self-clause-refused
 returns-then-byte-self-clause-refused c =
@@ -76,7 +81,10 @@ returns-clause-taken c =
     let items : c.put.new.items.items ≡ old.items.items ++ v ∷ [] = c.put.ensures ∙ ap (λ x. x ++ v ∷ []) c.make_room.ensures.items in
     let ended = (same [] v).0 (rw c.replace-done.ensures.value at c.take-value.ensures.value) in
     rw (items, c.replace-done.ensures.after, e)
-    (λ rest all. with_distinct (list_next old.separator (word_text.ghosts.means old.current) (word_text.ghosts.means c.start-next.result) (SpellsWord old.start.controller) v ended (word_text.ghosts.one_value old.current) (rw e at none) c.start-next.ensures.spells.is old.items.items rest all))
+    (λ rest all. with_distinct (list_next old.separator (word_text.ghosts.means old.current)
+    (word_text.ghosts.means c.start-next.result) (SpellsWord old.start.controller) v ended
+    (word_text.ghosts.one_value old.current)
+    (rw e at none) c.start-next.ensures.spells.is old.items.items rest all))
 
 pub invariant_of-self-2-clause-counted : goal.invariant_of-self-2-clause-counted
 invariant_of-self-2-clause-counted c =
@@ -130,7 +138,10 @@ invariant_of-self-2-clause-distinct c =
     let f = is_taken c.step.new.self.bytes.items in
     let there : any_value f old.items.items ≡ false = ap (any_value f) (sym (c.as_slice.ensures.value ∙ c.make_room.ensures.items)) ∙ sym c.has.ensures ∙ c.if-has.false in
     let ended = rw c.replace-done.ensures.value at c.take-value.ensures.value in
-    distinct_pushed old.items.items c.put.new.items.items v items old.distinct (new_value (word_text.ghosts.means c.step.new.self) (SpellsWord old.start.controller) old.separator old.items.items f (taken_is c.step.new.self.controller c.step.new.self.bytes.items c.step.new.self.sound) there v ended)
+    distinct_pushed old.items.items c.put.new.items.items v items old.distinct
+    (new_value (word_text.ghosts.means c.step.new.self)
+    (SpellsWord old.start.controller) old.separator old.items.items f
+    (taken_is c.step.new.self.controller c.step.new.self.bytes.items c.step.new.self.sound) there v ended)
 
 pub returns-in-Err-step-clause-last : goal.returns-in-Err-step-clause-last
 returns-in-Err-step-clause-last c =

@@ -76,6 +76,8 @@ returns g c =
     let D = g.V.Token.means old.value in
     let R = IsKeyed k v (SpellsWord old.keys.controller) (g.B.Start.texts old.values) alone old.mark in
     let first = distinct_first (map k items) old.ended.items old.distinct in
-    let all = key_begins k v given items R K D alone old.mark old.end (is_begun old.stage) g.C.Collection.paired g.C.Collection.has_key g.C.Collection.has_value first (g.V.Token.completes old.value) c.args.byte c.if-byte-self.false c.if-byte-self-2.false
+    let all = key_begins k v given items R K D alone old.mark old.end
+    (is_begun old.stage) g.C.Collection.paired g.C.Collection.has_key g.C.Collection.has_value first
+    (g.V.Token.completes old.value) c.args.byte c.if-byte-self.false c.if-byte-self-2.false
     (λ h. word_new old.key.controller old.key.bytes.items (c.args.byte ∷ []) h (map k items)) in
     rw c.requires (λ h. all.0 (c.allows.ensures.0 h), λ h. c.allows.ensures.1 (all.1 h))

@@ -137,4 +137,7 @@ returns-in-Err-clause-last g c =
     let one = word_text.ghosts.one_value old.key in
     let first = distinct_first (map k items) old.ended.items old.distinct in
     let lacks = keyed_lacks k v alone old.mark K D old.end old.apart old.key_end old.value_end in
-    rw c.requires ((end_begins k v given items R K D alone old.mark old.end (is_begun old.stage) f e is ended one g.C.Collection.paired g.C.Collection.has_key g.C.Collection.has_value first lacks c.in-Some.value (sym c.alone.ensures ∙ c.in-Some.is)).0 (sym c.is_new_key.ensures ∙ c.if-not-is_new_key.false))
+    rw c.requires ((end_begins k v given items R K D alone old.mark old.end
+    (is_begun old.stage) f e is ended one g.C.Collection.paired g.C.Collection.has_key g.C.Collection.has_value
+    first lacks c.in-Some.value (sym c.alone.ensures ∙ c.in-Some.is)).0
+    (sym c.is_new_key.ensures ∙ c.if-not-is_new_key.false))

@@ -100,4 +100,7 @@ returns-in-Err-clause-last g c =
     let ended = word_text.ghosts.ends_is old.key in
     let one = word_text.ghosts.one_value old.key in
     let first = distinct_first (map k items) old.ended.items old.distinct in
-    rw c.requires ((mark_begins k v given items R K D alone old.mark old.end (is_begun old.stage) f e is ended one g.C.Collection.paired g.C.Collection.has_key g.C.Collection.has_value first old.key_mark old.apart (g.V.Token.completes old.value)).0 (sym c.is_new_key.ensures ∙ c.if-not-is_new_key.false))
+    rw c.requires ((mark_begins k v given items R K D alone old.mark old.end
+    (is_begun old.stage) f e is ended one g.C.Collection.paired g.C.Collection.has_key g.C.Collection.has_value
+    first old.key_mark old.apart (g.V.Token.completes old.value)).0
+    (sym c.is_new_key.ensures ∙ c.if-not-is_new_key.false))

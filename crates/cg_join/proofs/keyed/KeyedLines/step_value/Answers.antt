@@ -115,7 +115,9 @@ returns-clause-taken g c =
     let hv = g.C.Collection.has_value key value in
     let F = IsKeyed k v (word_text.ghosts.means c.start.result) (g.V.Token.means c.renew-value.new.token) alone old.mark in
     rw (c.requires, c.if-byte-self.false)
-    (value_step k v given items R K D alone old.mark old.end true old.ended.items old.value_end (rest_one k v K D alone old.mark old.ended.items g.C.Collection.paired g.C.Collection.whole old.key_mark (word_text.ghosts.one_value old.key) (g.V.Token.one_value old.value) true)
+    (value_step k v given items R K D alone old.mark old.end true old.ended.items old.value_end
+    (rest_one k v K D alone old.mark old.ended.items g.C.Collection.paired g.C.Collection.whole old.key_mark
+    (word_text.ghosts.one_value old.key) (g.V.Token.one_value old.value) true)
     p (rw hk last.0) (rw hv c.renew-value.ensures.value) (g.C.Collection.pairs_of c.push.new.self) added F
     (keyed_alike k v alone old.mark (word_text.ghosts.means c.start.result) (SpellsWord old.keys.controller) (g.V.Token.means c.renew-value.new.token) (g.B.Start.texts old.values) c.start.ensures.spells.is c.renew-value.ensures.spells.is))
 
@@ -130,7 +132,10 @@ returns-then-byte-self-clause-last g c =
     let K = word_text.ghosts.means old.key in
     let D = g.V.Token.means old.value in
     let R = IsKeyed k v (SpellsWord old.keys.controller) (g.B.Start.texts old.values) alone old.mark in
-    rw c.requires (if_err_as c.step.result (value_begins k v given items R K D alone old.mark old.end true old.ended.items g.C.Collection.paired g.C.Collection.has_key g.C.Collection.has_value old.distinct (rw c.requires at old.kept) c.args.byte c.if-byte-self.true).0 c.step.ensures.last)
+    rw c.requires (if_err_as c.step.result
+    (value_begins k v given items R K D alone old.mark old.end true old.ended.items g.C.Collection.paired
+    g.C.Collection.has_key g.C.Collection.has_value old.distinct
+    (rw c.requires at old.kept) c.args.byte c.if-byte-self.true).0 c.step.ensures.last)
 
 pub returns-in-Err-clause-last : goal.returns-in-Err-clause-last
 returns-in-Err-clause-last g c =
@@ -143,7 +148,10 @@ returns-in-Err-clause-last g c =
     let K = word_text.ghosts.means old.key in
     let D = g.V.Token.means old.value in
     let R = IsKeyed k v (SpellsWord old.keys.controller) (g.B.Start.texts old.values) alone old.mark in
-    rw (c.requires, c.if-byte-self.false) ((over_begins k v given items R K D alone old.mark old.end true old.ended.items g.C.Collection.paired g.C.Collection.has_key g.C.Collection.has_value old.distinct (rw c.requires at old.kept) old.value_end).0 ((g.V.Token.ends_is old.value).0 (sym c.can_end.ensures ∙ c.if-not-can_end.false)))
+    rw (c.requires, c.if-byte-self.false)
+    ((over_begins k v given items R K D alone old.mark old.end true old.ended.items g.C.Collection.paired
+    g.C.Collection.has_key g.C.Collection.has_value old.distinct (rw c.requires at old.kept) old.value_end).0
+    ((g.V.Token.ends_is old.value).0 (sym c.can_end.ensures ∙ c.if-not-can_end.false)))
 
 pub invariant_of-self-2-clause-key_mark : goal.invariant_of-self-2-clause-key_mark
 invariant_of-self-2-clause-key_mark g c =

@@ -31,5 +31,7 @@ returns-else-byte-self g c =
     let K = word_text.ghosts.means old.key in
     let D = g.V.Token.means old.value in
     let R = IsKeyed k v (SpellsWord old.keys.controller) (g.B.Start.texts old.values) alone old.mark in
-    let all = value_begins k v given items R K D alone old.mark old.end true old.ended.items g.C.Collection.paired g.C.Collection.has_key g.C.Collection.has_value old.distinct (rw c.in-InValue.is at old.kept) c.args.byte c.if-byte-self.false in
+    let all = value_begins k v given items R K D alone old.mark old.end true old.ended.items g.C.Collection.paired
+    g.C.Collection.has_key g.C.Collection.has_value old.distinct
+    (rw c.in-InValue.is at old.kept) c.args.byte c.if-byte-self.false in
     rw c.in-InValue.is (λ h. all.0 (c.allows.ensures.0 h), λ h. c.allows.ensures.1 (all.1 h))

@@ -12,7 +12,9 @@ pub returns-then-count-gt0-clause-follows : goal.returns-then-count-gt0-clause-f
 returns-then-count-gt0-clause-follows g c =
     let old = c.args.self.now in
     let some : 0 < length (take c.scan-count.result c.args.bytes.now) = some_taken c.scan-count.result c.args.bytes.now (omega (arith, c.if-count-gt0.true)) c.scan-count.ensures.within in
-    lines_scanned old.end (g.T.Token.means old.current) (g.T.Token.means c.scan-count.new.self) (g.S.Start.texts old.start) (take c.scan-count.result c.args.bytes.now) some old.lacks (g.T.Token.completes c.scan-count.new.self) c.scan-count.ensures.follows old.begun old.items.items
+    lines_scanned old.end (g.T.Token.means old.current) (g.T.Token.means c.scan-count.new.self)
+    (g.S.Start.texts old.start) (take c.scan-count.result c.args.bytes.now) some old.lacks
+    (g.T.Token.completes c.scan-count.new.self) c.scan-count.ensures.follows old.begun old.items.items
 
 pub returns-else-count-gt0-clause-follows : goal.returns-else-count-gt0-clause-follows
 returns-else-count-gt0-clause-follows g c =

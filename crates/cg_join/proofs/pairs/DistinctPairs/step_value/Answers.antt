@@ -140,9 +140,13 @@ invariant_of-self-2 g c =
     let done = c.complete_last.ensures in
     let new = c.complete_last.new.items.items in
     let f = pair_size w v word_text.ghosts.value_size g.V.Token.value_size in
-    let value_size : items_size f new ≡ items_size f old.items.items + g.V.Token.value_size c.renew-value.result = completed_size w v word_text.ghosts.value_size g.V.Token.value_size old.items.items new c.renew-value.result done (old.awaits c.requires) in
+    let value_size : items_size f new ≡ items_size f old.items.items + g.V.Token.value_size c.renew-value.result =
+    completed_size w v word_text.ghosts.value_size g.V.Token.value_size old.items.items new c.renew-value.result
+    done (old.awaits c.requires) in
     record {
-      counted = told_sum (items_size f old.items.items) (g.V.Token.value_size c.renew-value.result) (items_size f new) old.items_held c.held_in-new_size.result c.saturating_add-self.result old.counted c.held_in-new_size.ensures c.saturating_add-self.ensures value_size;
+      counted = told_sum (items_size f old.items.items) (g.V.Token.value_size c.renew-value.result)
+          (items_size f new) old.items_held c.held_in-new_size.result c.saturating_add-self.result old.counted
+          c.held_in-new_size.ensures c.saturating_add-self.ensures value_size;
       lacks = lacks_same old.mark (SpellsWord old.words.controller) (word_text.ghosts.means c.start.result) c.start.ensures.spells.is old.words_lack;
       words_lack = old.words_lack;
       stops = stops_same old.separator (g.B.Start.texts old.values) (g.V.Token.means c.renew-value.new.token) c.renew-value.ensures.spells.is old.values_stop;
@@ -204,4 +208,6 @@ returns-in-Err-clause-last g c =
     let K = WordAtHand w InValue old.items.items (word_text.ghosts.means old.word) in
     rw c.requires ((value_begins w v paired hw hv old.mark old.separator (before_last old.items.items) R K D (distinct_before w old.items.items old.distinct) c.args.byte true (eqb c.args.byte old.separator) (g.V.Token.ends old.value)
     (λ e. c.in-Err.ensures.last, λ h. refl) (λ e. eqb-true c.args.byte old.separator e, λ e. eq-eqb c.args.byte old.separator e) (g.V.Token.ends_is old.value)
-    (last_word w old.items.items (old.begun c.requires) old.distinct) (new_pair w v paired hw hv old.mark (SpellsWord old.words.controller) (g.B.Start.texts old.values) (new_word_text old.words.controller) (g.met.B.Start.some_text old.values))).0 refl)
+    (last_word w old.items.items (old.begun c.requires) old.distinct)
+    (new_pair w v paired hw hv old.mark (SpellsWord old.words.controller) (g.B.Start.texts old.values)
+    (new_word_text old.words.controller) (g.met.B.Start.some_text old.values))).0 refl)

@@ -142,7 +142,9 @@ invariant_of-self-2 g c =
     let k = c.renew-word.ensures.value in
     let is = taken_is old.word.controller old.word.bytes.items old.word.sound in
     let fresh : any_value (is_taken old.word.bytes.items) (map w old.items.items) ≡ false =
-    not_true (any_value (is_taken old.word.bytes.items) (map w old.items.items)) (ap (λ y. not (any_value (is_taken old.word.bytes.items) (map w y))) (sym c.as_slice.ensures.value) ∙ sym c.is_new_word.ensures ∙ c.if-not-is_new_word.false) in
+    not_true (any_value (is_taken old.word.bytes.items) (map w old.items.items))
+    (ap (λ y. not (any_value (is_taken old.word.bytes.items) (map w y))) (sym c.as_slice.ensures.value)
+    ∙ sym c.is_new_word.ensures ∙ c.if-not-is_new_word.false) in
     let new_told : c.held_in-new_size.result ≡ told (f p) = c.held_in-new_size.ensures ∙ ap told (sym one) in
     record {
       counted = told_more (items_size f old.items.items) (f p) (items_size f c.put.new.items.items) old.items_held c.saturating_add.result c.held_in-new_size.result c.saturating_add-self.result
@@ -226,5 +228,8 @@ returns-in-Err-clause-last g c =
     let K = word_text.ghosts.means old.word in
     let f = is_taken old.word.bytes.items in
     let new : not (any_value f (map w old.items.items)) ≡ true = ap (λ x. not (any_value f (map w x))) (sym c.as_slice.ensures.value) ∙ sym c.is_new_word.ensures ∙ c.if-not-is_new_word.false in
-    rw (c.requires, c.if-byte-self.false) ((mark_begins w v paired hw hv old.mark old.separator old.items.items R K D old.distinct old.lacks (word_text.ghosts.one_value old.word) f (taken_is old.word.controller old.word.bytes.items old.word.sound) true
+    rw (c.requires, c.if-byte-self.false)
+    ((mark_begins w v paired hw hv old.mark old.separator old.items.items R K D old.distinct old.lacks
+    (word_text.ghosts.one_value old.word) f
+    (taken_is old.word.controller old.word.bytes.items old.word.sound) true
     (λ e. (word_text.ghosts.ends_is old.word).0 (sym c.can_end.ensures ∙ c.if-not-can_end.false), λ h. refl) (g.V.Token.completes old.value)).0 new)

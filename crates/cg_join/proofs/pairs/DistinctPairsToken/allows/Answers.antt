@@ -72,7 +72,9 @@ returns-in-InValue g c =
     let R = IsPairText w v (SpellsWord old.words.controller) (g.B.Start.texts old.values) old.mark in
     let ends = g.V.Token.ends_is old.value in
     rw c.in-InValue.is
-    (value_begins w v paired hw hv old.mark old.separator (before_last old.items.items) R K D (distinct_before w old.items.items old.distinct) c.args.byte c.allows-more.result (eqb c.args.byte old.separator) c.can_end-ended-in-InValue.result c.allows-more.ensures
+    (value_begins w v paired hw hv old.mark old.separator (before_last old.items.items) R K D
+    (distinct_before w old.items.items old.distinct) c.args.byte c.allows-more.result
+    (eqb c.args.byte old.separator) c.can_end-ended-in-InValue.result c.allows-more.ensures
     (λ e. eqb-true c.args.byte old.separator e, λ e. eq-eqb c.args.byte old.separator e)
     (λ e. ends.0 (sym c.can_end-ended-in-InValue.ensures ∙ e), λ h. c.can_end-ended-in-InValue.ensures ∙ ends.1 h)
     (last_word w old.items.items (old.begun c.in-InValue.is) old.distinct)

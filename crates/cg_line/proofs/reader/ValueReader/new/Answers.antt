@@ -7,7 +7,16 @@ use Rattle.cg_line.specs.Reads.{reads_is, held_by}
 use Rattle.cg_line.proofs.reader.ValueReader.new.Goals as goal
 
 pub returns-clause-reads : goal.returns-clause-reads
-returns-clause-reads c = reads_is _ _ _ (record { rests = new_read (TextsOf c.args.kind) ghosts.means c.new.result c.new.result refl c.new.ensures.spells (ghosts.completes c.new.result); form = c.new.ensures.form; place = refl; held = holds_none _ _ c.new.ensures.size; few = omega (arith, c.new.ensures.size) })
+returns-clause-reads c = reads_is _ _ _
+    (record {
+      rests = new_read (TextsOf
+          c.args.kind) ghosts.means c.new.result c.new.result refl c.new.ensures.spells (ghosts.completes c.new.result);
+      form = c.new.ensures.form;
+      place = refl;
+      held = holds_none _ _ c.new.ensures.size;
+      few =
+          omega (arith, c.new.ensures.size);
+    })
 
 pub returns-clause-held : goal.returns-clause-held
 unfolding held_by

@@ -13,7 +13,11 @@ unfolding held_by
 returns-in-Ok-clause-pushed c kind taken h =
     let was = is_reads c.args.self.now kind taken h in
     pushed_on c.args.self.now c.push_to.new.token c.after-self.result kind taken c.args.byte c.in-Ok.ensures.pushes c.push_to.ensures.size (c.after-self.ensures taken)
-    (λ now. holds_more kind taken c.args.byte (held_by c.args.self.now) (ghosts.size c.push_to.new.token) was.form c.push_to.ensures.size (λ v t. file_settled c.push_to.new.token v (is_value (TextsOf kind) (ghosts.means c.push_to.new.token) (taken ++ c.args.byte ∷ []) v t now)) was.held) h
+    (λ now. holds_more kind taken c.args.byte (held_by c.args.self.now)
+    (ghosts.size c.push_to.new.token) was.form c.push_to.ensures.size
+    (λ v t. file_settled c.push_to.new.token v
+    (is_value (TextsOf kind) (ghosts.means c.push_to.new.token) (taken ++ c.args.byte ∷ []) v t now)) was.held)
+    h
 
 pub returns-in-Ok-clause-held : goal.returns-in-Ok-clause-held
 unfolding held_by

@@ -12,4 +12,6 @@ returns-in-None-clause-held c = λ p es h.
 pub returns-in-Some-clause-held : goal.returns-in-Some-clause-held
 returns-in-Some-clause-held c = λ p es h.
     let d = c.args.self.now in
-    some_held d.records.profile d.records.begun.items d.records.present c.in-Some.x p es (held_by d) (reader.held_by c.in-Some.x.reader) c.in-Some.is h.state.at (record { few = c.held.ensures.few; most = c.held.ensures.most }) (omega (arith, ap held_in c.in-Some.is))
+    some_held d.records.profile d.records.begun.items d.records.present c.in-Some.x p es (held_by d)
+    (reader.held_by c.in-Some.x.reader) c.in-Some.is h.state.at
+    (record { few = c.held.ensures.few; most = c.held.ensures.most }) (omega (arith, ap held_in c.in-Some.is))

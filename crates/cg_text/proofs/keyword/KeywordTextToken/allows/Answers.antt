@@ -1,4 +1,4 @@
-use Rattle.std.proofs.Common.{◌<◌, length, arith, sym, ◌≡◌}
+use Rattle.std.proofs.Common.{◌<◌, length, ◌≡◌}
 use Rattle.cg_text.specs.Keyword.{text_of}
 use Rattle.cg_text.specs.FixedLaws.{next_byte}
 use Rattle.cg_text.proofs.keyword.KeywordTextToken.allows.Goals as goal

@@ -40,8 +40,17 @@ pub returns-in-Ok-close-clause-taken : goal.returns-in-Ok-close-clause-taken
 returns-in-Ok-close-clause-taken c =
     let s = c.args.self.now in
     let t = c.in-Comma.ensures.turn in
-    let b : c.match-self.begin ≡ begin_of s.low c.in-Comma.end = elim c.match-self.branch [ in-Some w ↦ w.begin-is ∙ sym (begin_some s.low w.in-Some.low c.in-Comma.end w.in-Some.is) | in-None w ↦ w.begin-is ∙ sym (begin_none s.low c.in-Comma.end w.in-None.is) ] in
-    let e : c.close.new.ranges.items ≡ (front s.ranges.items ++ (begin_of s.low c.in-Comma.end, c.in-Comma.end) ∷ []) ++ (0, 0) ∷ [] = c.in-Ok-close.ensures.closed ∙ ap (λ z. (front s.ranges.items ++ (z, c.in-Comma.end) ∷ []) ++ (0, 0) ∷ []) b in
+    let b : c.match-self.begin ≡ begin_of s.low c.in-Comma.end =
+    elim c.match-self.branch [
+      | in-Some w ↦ w.begin-is
+          ∙ sym (begin_some s.low w.in-Some.low c.in-Comma.end w.in-Some.is)
+      | in-None w ↦ w.begin-is
+          ∙ sym (begin_none s.low c.in-Comma.end w.in-None.is)
+    ] in
+    let e : c.close.new.ranges.items
+    ≡ (front s.ranges.items ++ (begin_of s.low c.in-Comma.end, c.in-Comma.end) ∷ []) ++ (0, 0) ∷ [] =
+    c.in-Ok-close.ensures.closed ∙ ap
+    (λ z. (front s.ranges.items ++ (z, c.in-Comma.end) ∷ []) ++ (0, 0) ∷ []) b in
     λ rest all. rw t.0 (list_comma s.most c.in-Comma.end (number_rest s.number) t.1 (number_one s.number c.in-Comma.end t.1) (number_digits s.number.lo s.number.hi s.number.progress)
     (number_rest c.in-Comma.number) t.3 s.ranges.items c.close.new.ranges.items s.low e rest all)
 
@@ -49,8 +58,17 @@ pub invariant_of-self-in-Ok-close : goal.invariant_of-self-in-Ok-close
 invariant_of-self-in-Ok-close c =
     let s = c.args.self.now in
     let t = c.in-Comma.ensures.turn in
-    let b : c.match-self.begin ≡ begin_of s.low c.in-Comma.end = elim c.match-self.branch [ in-Some w ↦ w.begin-is ∙ sym (begin_some s.low w.in-Some.low c.in-Comma.end w.in-Some.is) | in-None w ↦ w.begin-is ∙ sym (begin_none s.low c.in-Comma.end w.in-None.is) ] in
-    let e : c.close.new.ranges.items ≡ (front s.ranges.items ++ (begin_of s.low c.in-Comma.end, c.in-Comma.end) ∷ []) ++ (0, 0) ∷ [] = c.in-Ok-close.ensures.closed ∙ ap (λ z. (front s.ranges.items ++ (z, c.in-Comma.end) ∷ []) ++ (0, 0) ∷ []) b in
+    let b : c.match-self.begin ≡ begin_of s.low c.in-Comma.end =
+    elim c.match-self.branch [
+      | in-Some w ↦ w.begin-is
+          ∙ sym (begin_some s.low w.in-Some.low c.in-Comma.end w.in-Some.is)
+      | in-None w ↦ w.begin-is
+          ∙ sym (begin_none s.low c.in-Comma.end w.in-None.is)
+    ] in
+    let e : c.close.new.ranges.items
+    ≡ (front s.ranges.items ++ (begin_of s.low c.in-Comma.end, c.in-Comma.end) ∷ []) ++ (0, 0) ∷ [] =
+    c.in-Ok-close.ensures.closed ∙ ap
+    (λ z. (front s.ranges.items ++ (z, c.in-Comma.end) ∷ []) ++ (0, 0) ∷ []) b in
     record {
       small = s.small;
       sound = sound_comma s.ranges.items c.close.new.ranges.items s.most s.low (number_rest s.number) (number_rest c.in-Comma.number) c.in-Comma.end e t.1 t.3 s.sound;

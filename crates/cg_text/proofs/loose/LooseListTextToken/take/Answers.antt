@@ -31,5 +31,8 @@ returns-clause-value c = elim c.if-not-is_empty.branch [
       let b : w.match-self.begin ≡ begin_of s.low n = elim w.match-self.branch [ in-Some v ↦ v.begin-is ∙ sym (begin_some s.low v.in-Some.low n v.in-Some.is) | in-None v ↦ v.begin-is ∙ sym (begin_none s.low n v.in-None.is) ] in
       let e : w.add_last.new.ranges.items ≡ inserted (begin_of s.low n) n (front s.ranges.items) = w.add_last.ensures.items ∙ ap (λ z. inserted z n (front s.ranges.items)) b in
       rw w.ranges-is (list_value s.ranges.items w.add_last.new.ranges.items s.most s.low (number_rest s.number) n s.set (s.sound [] n w.take-end.ensures.value).1 w.take-end.ensures.value e))
-  | else-not-is_empty w ↦ rw w.ranges-is (list_no_value c.args.self.ranges.items c.args.self.most c.args.self.low (number_rest c.args.self.number) (nothing (length c.args.self.ranges.items) c.is_empty.result (c.is_empty.ensures ∙ ap (λ z. nat_eq z 0) c.args.self.ranges.ok.0) w.if-not-is_empty.false))
+  | else-not-is_empty w ↦ rw w.ranges-is
+      (list_no_value c.args.self.ranges.items c.args.self.most c.args.self.low (number_rest c.args.self.number)
+      (nothing (length c.args.self.ranges.items) c.is_empty.result
+      (c.is_empty.ensures ∙ ap (λ z. nat_eq z 0) c.args.self.ranges.ok.0) w.if-not-is_empty.false))
 ]

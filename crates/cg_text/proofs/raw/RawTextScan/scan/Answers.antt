@@ -1,4 +1,4 @@
-use Rattle.std.proofs.Common.{◌<◌, ◌≡◌, ℕ, get_or, length, take, arith}
+use Rattle.std.proofs.Common.{◌<◌, ℕ, get_or, length, take, arith}
 use Rattle.cg_text.specs.Raw.{IsRawLine}
 use Rattle.cg_text.specs.ScanLaws.{raw_plain, raw_run, raw_searched}
 use Rattle.cg_text.proofs.raw.RawTextScan.scan.Goals as goal

@@ -1,5 +1,6 @@
 use Rattle.std.proofs.Common.{FitsSigned, refl, rules, to_z-of_z, w64}
-use Rattle.cg_value.specs.FitsWriteLaws.{number_fits, signed_fits, limit_fits, size_limit_fits, clamp_fits, mode_fits, toggles_fit, quota_fits, reclaim_fits, default_fits, weight_fits, target_fits, set_fits, list_end_small, role_fits, times_fit}
+use Rattle.cg_value.specs.FitsWriteLaws.{number_fits, signed_fits, limit_fits, size_limit_fits, clamp_fits, mode_fits, toggles_fit, quota_fits, reclaim_fits, default_fits, weight_fits, target_fits}
+use Rattle.cg_value.specs.FitsWriteLaws.{set_fits, list_end_small, role_fits, times_fit}
 use Rattle.cg_value.proofs.setting.Setting.fits.Goals as goal
 
 pub returns-in-Number-Number : goal.returns-in-Number-Number
