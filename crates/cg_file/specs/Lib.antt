@@ -16,7 +16,6 @@ pub mod OneLineFileLaws
 pub mod OneLineTurned
 pub mod OneOrBoth
 pub mod OneOrBothLaws
-pub mod OneTextLaws
 pub mod OneValueLaws
 pub mod Pad
 pub mod PadLaws

@@ -37,6 +37,7 @@ use Rattle.cg_join.specs.RepeatLaws as repeat
 use Rattle.cg_join.specs.StartLaws.{lacks_stops, one_decimal}
 use Rattle.cg_join.specs.SequenceLaws.{both_same}
 use Rattle.cg_join.specs.Maybe.{IsMaybe}
+use Rattle.cg_join.specs.OneTextLaws.{concat_one, either_one, fixed_one, maybe_one, one_as, turned_one}
 use Rattle.cg_join.specs.Spelling.{Disjoint}
 use Rattle.cg_join.specs.TextBytes.{IsFixed}
 use Rattle.cg_join.specs.WordStartLaws.{SpellsWord, one_word, word_only}
@@ -69,7 +70,6 @@ use Rattle.cg_file.specs.NestedFileLaws.{PairText, nested_line_is}
 use Rattle.cg_file.specs.OneLineFileLaws.{cpu_max_is}
 use Rattle.cg_file.specs.OneLineTurned.{quota_of}
 use Rattle.cg_file.specs.OneOrBoth.{Differ}
-use Rattle.cg_file.specs.OneTextLaws.{concat_one, either_one, fixed_one, maybe_one, one_as, turned_one}
 use Rattle.cg_file.specs.PartitionFileLaws.{member_differs, partition_is}
 use Rattle.cg_file.specs.PartitionTurned.{IsInvalidText, IsReasonText, IsRootText, IsRootWord, partition_parts}
 use Rattle.cg_file.specs.PressureFileLaws.{AveragesValues, averages_from, line_averages, values_of}
@@ -91,7 +91,7 @@ first_line (x ∷ a) b (y ∷ c) d h k e =
     (cc, more.1)
 
 -- A text is of the lines that it is, and no others.
-lines_one : (ls ms : List (List ℕ)) → AllByRecursion (Lacks 10) ls → AllByRecursion (Lacks 10) ms → unlines ls ≡ unlines ms → ls ≡ ms
+pub lines_one : (ls ms : List (List ℕ)) → AllByRecursion (Lacks 10) ls → AllByRecursion (Lacks 10) ms → unlines ls ≡ unlines ms → ls ≡ ms
 lines_one [] [] h k e = refl
 lines_one [] (m ∷ ms) h k e = absurd (not_nil m 10 (unlines ms) e)
 lines_one (l ∷ ls) [] h k e = absurd (not_nil l 10 (unlines ls) (sym e))

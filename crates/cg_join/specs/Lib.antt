@@ -38,6 +38,7 @@ pub mod MappedLaws
 pub mod MaxLaws
 pub mod Maybe
 pub mod MaybeLaws
+pub mod OneTextLaws
 pub mod Pairs
 pub mod PairsLaws
 pub mod PairsState

@@ -1,5 +1,5 @@
 -- How texts are split: at their first separator, after their last one, and into lines.
-use Rattle.std.proofs.Common.{◌≡◌, ℕ, List, [], ◌∷◌, ◌++◌, inl, inr, ◌⊎◌, refl, sym, ap, subst, ◌∙◌, append_assoc, append-nil}
+use Rattle.std.proofs.Common.{◌≡◌, ℕ, List, [], ◌∷◌, ◌++◌, inl, inr, ◌⊎◌, refl, sym, ap, subst, ◌∙◌, append_assoc}
 use Rattle.std.specs.List.{AllByRecursion}
 use Rattle.cg_text.specs.Texts.{Lacks}
 use Rattle.cg_text.specs.TextsLaws.{lacks_inside}
@@ -8,6 +8,7 @@ use Rattle.cg_value.specs.LineLaws.{plain_lines}
 use Rattle.cg_value.specs.Lines.{unlines}
 use Rattle.cg_value.specs.declared.kind.ReadForm.{ReadForm}
 use Rattle.cg_value.specs.declared.value.Value.{Value}
+use Rattle.cg_file.specs.OneValueLaws.{lines_one}
 
 -- ---- At the first separator
 
@@ -72,16 +73,6 @@ lines_first (k ∷ ks) (l ∷ ls) x p q e =
     let lines = r.1 in
     (r.0, cc, r.2)
 
-unlines_none : (ms : List (List ℕ)) → [] ≡ unlines ms → ms ≡ []
-unlines_none [] e = refl
-unlines_none (m ∷ ms) e = absurd (line_is_some m (unlines ms) (sym e))
-
--- A text has one list of lines.
-pub one_lines : (ks ls : List (List ℕ)) → AllByRecursion (Lacks 10) ks → AllByRecursion (Lacks 10) ls → unlines ks ≡ unlines ls → ls ≡ ks
-one_lines ks ls p q e =
-    let r = lines_first ks ls [] p q (append-nil (unlines ks) ∙ e) in
-    r.1 ∙ ap (λ ms. ks ++ ms) (unlines_none r.0 r.2) ∙ append-nil ks
-
 -- The lines of a text of lines spell what the text spells.
 pub lines_spell : (kind : ReadForm) (v : Value) (lines : List (List ℕ)) → AllByRecursion (Lacks 10) lines → KindText kind v (unlines lines) → ReadLines kind v lines
-lines_spell kind v lines plain t = subst (ReadLines kind v) (one_lines lines t.lines plain (plain_lines kind v t.lines t.spelled) t.text_is) t.spelled
+lines_spell kind v lines plain t = subst (ReadLines kind v) (sym (lines_one lines t.lines plain (plain_lines kind v t.lines t.spelled) t.text_is)) t.spelled

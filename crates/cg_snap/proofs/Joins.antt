@@ -11,7 +11,7 @@ use Rattle.cg_value.specs.Records.{records}
 use Rattle.cg_value.specs.declared.kind.ReadForm.{ReadForm}
 use Rattle.cg_value.specs.declared.profile.Profile.{Profile}
 use Rattle.cg_file.specs.WeightFileLaws.{not_empty}
-pub use Rattle.cg_line.specs.SplitLaws.{lines_first, one_lines, unlines-append, unlines-push}
+pub use Rattle.cg_line.specs.SplitLaws.{lines_first, unlines-append, unlines-push}
 use Rattle.cg_snap.specs.Closed.{EndsOther}
 use Rattle.cg_snap.specs.Snap.{AreEntryLines, SnapText, StartsOther}
 use Rattle.cg_snap.specs.SnapLaws.{NotOf, cut, entry_starts, first_path, heads, lines_plain, not_of, one_form, record_then, records_first, rest_not_of}

@@ -10,7 +10,6 @@ pub mod FollowedLaws
 pub mod Laws
 pub mod ModeLaws
 pub mod OneSettingLaws
-pub mod OneTextLaws
 pub mod RawLaws
 pub mod ReclaimLaws
 pub mod RoleLaws

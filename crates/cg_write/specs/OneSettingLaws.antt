@@ -39,6 +39,7 @@ use Rattle.cg_join.specs.KeyedLaws.{some_one}
 use Rattle.cg_join.specs.LackingLaws.{limit_lacking}
 use Rattle.cg_join.specs.LimitState.{limit_of}
 use Rattle.cg_join.specs.MaxLaws.{max_not_decimal, max_not_hundredths}
+use Rattle.cg_join.specs.OneTextLaws.{concat_one, either_one, fixed_one, maybe_one, one_as, turned_one}
 use Rattle.cg_join.specs.ProperLaws.{device_proper, device_target_proper}
 use Rattle.cg_join.specs.RepeatLaws as repeat
 use Rattle.cg_join.specs.StartLaws.{one_decimal}
@@ -61,7 +62,6 @@ use Rattle.cg_write.specs.DeviceLimitsLaws.{limits_apart, limits_are}
 use Rattle.cg_write.specs.DeviceTargetLaws.{target_is}
 use Rattle.cg_write.specs.DeviceWeightLaws.{default_no_device, device_apart, weight_is}
 use Rattle.cg_write.specs.Laws.{OneSetting, OneSettingOfName, ReadBack, ReadBackOfName}
-use Rattle.cg_write.specs.OneTextLaws.{concat_one, either_one, fixed_one, maybe_one, one_as, turned_one}
 use Rattle.cg_write.specs.ReclaimLaws.{reclaim_apart, reclaim_is}
 use Rattle.cg_write.specs.RoleLaws.{member_no_root, role_is, root_not_isolated}
 use Rattle.cg_write.specs.SizeLimitLaws.{max_no_size, size_limit_is}
