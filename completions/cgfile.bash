@@ -9,7 +9,7 @@ _cgfile() {
     for ((i = 1; i < COMP_CWORD; i++)); do
         case ${COMP_WORDS[i]} in
             --profile | --max-record | --max-lines | --max-stream) ((i++)) ;;
-            file | setting | show | plan | kinds)
+            file | setting | show | json | plan | check | kinds)
                 command=${COMP_WORDS[i]}
                 break
                 ;;
@@ -25,7 +25,7 @@ _cgfile() {
     local options='--profile --max-record --max-lines --max-stream --help'
     case $command in
         '')
-            COMPREPLY=($(compgen -W "file setting show plan kinds $options --version" -- "$word"))
+            COMPREPLY=($(compgen -W "file setting show json plan check kinds $options --version" -- "$word"))
             ;;
         file | setting)
             if [[ $word == -* ]]; then

@@ -54,7 +54,9 @@ abbrev pub commands : List (Text × Bool)
 commands = (codes "file", true)
     ∷ (codes "setting", true)
     ∷ (codes "show", false)
+    ∷ (codes "json", false)
     ∷ (codes "plan", false)
+    ∷ (codes "check", false)
     ∷ (codes "kinds", false)
     ∷ []
 

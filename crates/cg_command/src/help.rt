@@ -14,7 +14,7 @@ pub(crate) struct Row {
 
 /// The commands, in the order of the help. A further one is a row here, one of `commands` in
 /// `specs/CommandLine.antt`, and what `words.rt` makes of its word.
-pub(crate) static ROWS: [Row; 5] = [
+pub(crate) static ROWS: [Row; 7] = [
     Row {
         word: "file",
         takes_name: true,
@@ -54,6 +54,19 @@ Examples:
   printf 'a/cpu.weight\\000100\\n' | cgfile show     writes a/cpu.weight: 100",
     },
     Row {
+        word: "json",
+        takes_name: false,
+        about: "Read a snapshot, and write each entry as a line of JSON",
+        more: "\
+A line is an object of the kind, the path and the value of an entry, written as soon as the path of
+the next one has come. Text that isn't UTF-8 is an array of its bytes.
+
+Examples:
+  grep -rZ '' /sys/fs/cgroup 2> /dev/null | cgfile json | jq -r 'select(.kind == \"limit\").path'
+  printf 'cpuset.cpus\\0000-4,6\\n' | cgfile json
+                    writes {\"kind\":\"set\",\"path\":\"cpuset.cpus\",\"value\":[[0,4],[6,6]]}",
+    },
+    Row {
         word: "plan",
         takes_name: false,
         about: "Read a plan of writes, and write each in its canonical text",
@@ -63,6 +76,20 @@ there, and a newline. Each record is written in the same form as soon as its new
 
 Example:
   printf 'a/memory.max\\00015E\\n' | cgfile plan   writes a/memory.max, a NUL and 17293822569102704640",
+    },
+    Row {
+        word: "check",
+        takes_name: false,
+        about: "Read a snapshot, and list what it breaks of the rules for delegation",
+        more: "\
+A line has the rule, the path of a cgroup.subtree_control and a controller that it names and that
+C1  its group doesn't have in cgroup.controllers,
+C2  the group above doesn't have in cgroup.subtree_control,
+C3  isn't threaded, where the group is a domain and has processes.
+All entries are kept until the input has ended. The status is 1 where there is a line.
+
+Example:
+  grep -rZ '' /sys/fs/cgroup 2> /dev/null | cgfile check",
     },
     Row {
         word: "kinds",
@@ -88,7 +115,7 @@ Options may also stand after the command; one that stands in both places counts 
 
 Exit status:
   0  done
-  1  the input was refused, cut or too long, or the name can't be read, or written
+  1  the input was refused, cut or too long, the name can't be read, or written, or check has a line
   2  bad command line
   3  a read or a write failed
   4  no memory was left

@@ -2,7 +2,7 @@
 ghost use Rattle.std.specs.Prelude.{◌≡◌, ◌++◌, ◌∷◌, [], false, IfOk};
 ghost use Rattle.serde_json.specs.View.{view as tree_view};
 ghost use Rattle.serde_json.specs.Written.{compact_text, has_float};
-ghost use Rattle.cg_json.specs.Entry.{view_of};
+ghost use Rattle.cg_json.specs.Entry.{line_of, view_of};
 
 use crate::json::Json;
 use crate::text::{string, text};
@@ -38,7 +38,7 @@ fn text_line(alloc: Global, tree: &Value) -> Result<Vec<u8>, OutOfMemory>
 
 /// The JSON tree of an entry without spaces, and a newline. `OutOfMemory` where no memory is left.
 pub fn line(alloc: Global, entry: &Entry) -> Result<Vec<u8>, OutOfMemory>
-    ensures { IfOk result (λ line. line.items ≡ compact_text (view_of entry.now) ++ 10 ∷ []) }
+    ensures { IfOk result (λ line. line.items ≡ line_of entry.now) }
 {
     let tree = view(alloc, entry)?;
     text_line(alloc, &tree)

@@ -1,12 +1,11 @@
-//! Sources and sinks, commands that no words give, tokens of ranges that no file has, and the texts of faults.
-use cg_command::{Command, UsageFault};
+//! Sources and sinks, tokens of ranges that no file has, and the texts of faults.
+use cg_command::UsageFault;
 use cg_join::{Found, LimitText, read};
 use cg_line::{FileFault, PushFault, SettingFault};
 use cg_print::{CutSink, EntryWriteFault, Failed, PlainWriter, Sink, WriteStopped, write_text};
-use cg_run::{CutSource, Outcome, PlainReader, Source, run};
-use cg_snap::Limits;
+use cg_run::{CutSource, PlainReader, Source};
 use cg_text::{DecimalText, KeyFault, OutOfMemory, SignedText, Token};
-use cg_value::{EntryFault, ItemFault, NotReadable, NotWritable, Profile};
+use cg_value::{EntryFault, ItemFault, NotReadable, NotWritable};
 use std::alloc::{AllocError, Global};
 use std::fmt::Display;
 use std::test::Fail;
@@ -130,28 +129,6 @@ fn plain_writers(rt: HostRuntime) {
         Err(WriteStopped { written: 2 })
     );
     assert!(rt; &room == b"abcd");
-}
-
-/// How a command ends that reads nothing.
-fn ended(alloc: Global, command: &Command) -> Option<Outcome> {
-    let mut source = CutSource::new(b"x", usize::MAX, 1);
-    let mut sink = CutSink::new(usize::MAX, 4096);
-    let outcome = run(
-        alloc,
-        Profile::One,
-        command,
-        &mut source,
-        &mut sink,
-        Limits::DEFAULT,
-    );
-    (source.asks() == 0).then_some(outcome)
-}
-
-#[test]
-fn commands_that_are_not_built(rt: HostRuntime) {
-    let unread = Some(Outcome::NotReadable);
-    assert_eq!(rt; ended(rt.alloc(), &Command::Json), unread);
-    assert_eq!(rt; ended(rt.alloc(), &Command::Check), unread);
 }
 
 /// The value of a whole text, if it is the token's.

@@ -283,7 +283,7 @@ fn nodes(alloc: Global) -> Result<Items<NestedPair>, Fail> {
 }
 
 /// The key `anon` with its pairs, and the key `file` without any.
-fn nested(alloc: Global) -> Result<Value, Fail> {
+pub(crate) fn nested(alloc: Global) -> Result<Value, Fail> {
     let mut lines = Items::new(alloc);
     let key = Key::new(alloc, b"anon")?;
     let pairs = nodes(alloc)?;
@@ -539,7 +539,7 @@ fn settings_of_parts(rt: HostRuntime) {
 }
 
 /// The toggles of `cpu` on, `io` off, and `cpu` on again.
-fn toggles(alloc: Global) -> Result<Setting, Fail> {
+pub(crate) fn toggles(alloc: Global) -> Result<Setting, Fail> {
     let mut all = Items::new(alloc);
     for (on, word) in [(true, "cpu"), (false, "io"), (true, "cpu")] {
         let name = Key::new(alloc, word.as_bytes())?;

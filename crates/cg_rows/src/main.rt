@@ -23,10 +23,14 @@ mod calls;
 #[cfg(test)]
 mod decoded;
 #[cfg(test)]
+mod encoded;
+#[cfg(test)]
 mod entries;
 mod escape;
 #[cfg(test)]
 mod joined;
+#[cfg(test)]
+mod plans;
 #[cfg(test)]
 mod readers;
 mod row;
@@ -34,7 +38,11 @@ mod row;
 mod snapshots;
 #[cfg(test)]
 mod starved;
+#[cfg(test)]
+mod starved_streams;
 mod trial;
+#[cfg(test)]
+mod upgrades;
 #[cfg(test)]
 mod values;
 

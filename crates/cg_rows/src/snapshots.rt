@@ -226,7 +226,7 @@ fn has(alloc: Global, max_lines: u64, text: &[u8], wanted: &[Entry]) -> bool {
 }
 
 /// Two lines of one entry.
-const TWO_LINES: &[u8] = b"p/cgroup.procs\01\np/cgroup.procs\02\n";
+pub(crate) const TWO_LINES: &[u8] = b"p/cgroup.procs\01\np/cgroup.procs\02\n";
 
 #[test]
 fn whole_snapshots(rt: HostRuntime) -> Result<(), Fail> {

@@ -6,6 +6,7 @@ use crate::snapshots::{
     LINE_TOO_MANY, RAW_AND_REASON, TWO_FILES, UNBOUNDED, are_same, decoder, ending, idle, is_entry,
     last_entry, memory_bound, raw_and_reason,
 };
+use crate::starved_streams::{BOUND, BOUND_LINE, DELEGATED};
 use cg_command::{Command, parse_words};
 use cg_line::{
     FileFault, PushFault, SettingFault, SettingReader, ValueReader, decode_file, decode_setting,
@@ -23,10 +24,10 @@ use std::alloc::{AllocError, Global};
 use std::test::Fail;
 
 /// The blocks that keep the heap starved.
-type Blocks = Vec<Vec<u8>>;
+pub(crate) type Blocks = Vec<Vec<u8>>;
 
 /// Takes all memory that is to be had, in blocks of falling size.
-fn hog(alloc: Global) -> Result<Blocks, AllocError> {
+pub(crate) fn hog(alloc: Global) -> Result<Blocks, AllocError> {
     let mut held: Blocks = Vec::with_capacity(alloc, 400000)?;
     let mut size: usize = 17179869184;
     for _ in 0..40 {
@@ -109,7 +110,7 @@ fn makes_key(alloc: Global) -> Option<bool> {
 }
 
 /// Whether this text is printed.
-fn is_printed(printed: Result<Vec<u8>, OutOfMemory>, wanted: &[u8]) -> Option<bool> {
+pub(crate) fn is_printed(printed: Result<Vec<u8>, OutOfMemory>, wanted: &[u8]) -> Option<bool> {
     match printed {
         Ok(text) => Some(text.as_slice() == wanted),
         Err(OutOfMemory) => None,
@@ -185,8 +186,8 @@ fn is_want_told(case: &Case, written: &[u8]) -> bool {
     let at = written.len().saturating_sub(WANT_OF_MEMORY.len());
     let (front, line) = written.split_at(at);
     let is_begun = match case.command {
-        Command::Show => case.output.starts_with(front) && front != case.output,
-        _ => front.is_empty(),
+        Command::File { .. } | Command::Setting { .. } => front.is_empty(),
+        _ => case.output.starts_with(front) && front != case.output,
     };
     is_begun && (front.is_empty() || front.ends_with(b"\n")) && line == WANT_OF_MEMORY
 }
@@ -285,13 +286,29 @@ fn setting(
     })
 }
 
-/// A run of `show`.
-fn show(input: &'static [u8], output: &'static [u8]) -> Case {
+/// A run over a stream.
+fn streamed(command: Command, input: &'static [u8], output: &'static [u8]) -> Case {
     Case {
-        command: Command::Show,
+        command,
         input,
         output,
     }
+}
+
+/// Runs over streams that want memory.
+fn stream_cases(alloc: Global) -> Result<Vec<Case>, AllocError> {
+    let shown = b"cpu.max: max 100000\ncpu.max.burst: 0\n";
+    let refused = b"cgfile: refused at 26: no more lines\n";
+    let bound = b"memory.max\017293822569102704640\n";
+    let broken = b"C2 r/a/cgroup.subtree_control io\nC3 r/a/cgroup.subtree_control io\n";
+    let cases = vec![in alloc;
+        streamed(Command::Show, TWO_FILES, shown),
+        streamed(Command::Show, LINE_TOO_MANY, refused),
+        streamed(Command::Plan, b"memory.max\015E\n", bound),
+        streamed(Command::Json, BOUND, BOUND_LINE.as_bytes()),
+        streamed(Command::Check, DELEGATED, broken),
+    ]?;
+    Ok(cases)
 }
 
 /// Runs that want memory.
@@ -303,9 +320,10 @@ fn cases(alloc: Global) -> Result<Vec<Case>, AllocError> {
     let lines = file(alloc, b"hugetlb.2MB.max", b"ab\nc\n", b"ab\nc\n")?;
     let set = setting(alloc, b"cpuset.cpus", b"9,3-5,4\n", b"3-5,9\n")?;
     let line = setting(alloc, b"hugetlb.2MB.max", b"ab\n", b"ab\n")?;
-    let shown = show(TWO_FILES, b"cpu.max: max 100000\ncpu.max.burst: 0\n");
-    let stopped = show(LINE_TOO_MANY, b"cgfile: refused at 26: no more lines\n");
-    let cases = vec![in alloc; number, list, numbers, lines, set, line, shown, stopped]?;
+    let mut cases = vec![in alloc; number, list, numbers, lines, set, line]?;
+    for case in stream_cases(alloc)? {
+        cases.push(case)?;
+    }
     Ok(cases)
 }
 
@@ -367,6 +385,9 @@ fn whole_calls(rt: HostRuntime) -> Result<(), Fail> {
         Call::Run(5),
         Call::Run(6),
         Call::Run(7),
+        Call::Run(8),
+        Call::Run(9),
+        Call::Run(10),
     ];
     for call in &calls {
         assert!(rt; tried(*call, rt.alloc(), &given) == Some(true), "{call:?}");
@@ -677,6 +698,51 @@ fn stops_at_line(alloc: Global, held: &mut Blocks) -> bool {
     };
     let is_here = pulled.used == 26 && snapshot.offset() == 26;
     is_stopped && is_here && ending(snapshot) == Err(refused)
+}
+
+/// Whether the entry is the one that stands at this place.
+fn is_at(entries: &[Entry], place: usize, entry: &Entry) -> bool {
+    match entries.get(place) {
+        Some(wanted) => entry.path() == wanted.path() && entry.value() == wanted.value(),
+        None => false,
+    }
+}
+
+/// Whether a snapshot in pieces of one byte gives these entries.
+fn gives_by_bytes(alloc: Global, held: &mut Blocks, entries: &[Entry]) -> bool {
+    let mut snapshot = decoder(alloc);
+    let mut place: usize = 0;
+    for piece in RAW_AND_REASON.chunks(1) {
+        match next_starved(&mut snapshot, held, piece, 0).what {
+            What::NeedMore => {}
+            What::Entry(entry) => {
+                if !is_at(entries, place, &entry) {
+                    return false;
+                }
+                place = place.saturating_add(1);
+            }
+            _ => return false,
+        }
+    }
+    match last_entry(snapshot) {
+        Some(last) => is_at(entries, place, &last) && entries.len() == place.saturating_add(1),
+        None => false,
+    }
+}
+
+#[test]
+fn decoders_by_bytes(rt: HostRuntime) -> Result<(), Fail> {
+    let entries = raw_and_reason(rt.alloc())?;
+    let mut none = Vec::new(rt.alloc());
+    let is_ample = gives_by_bytes(rt.alloc(), &mut none, entries.as_slice());
+    assert!(rt; is_ample);
+    let mut held = hog(rt.alloc())?;
+    let all = held.len();
+    let is_right = gives_by_bytes(rt.alloc(), &mut held, entries.as_slice());
+    let left = held.len();
+    drop(held);
+    assert!(rt; is_right && left < all);
+    Ok(())
 }
 
 /// Decoders whose growth was refused go on as with ample memory, with which each is run before.

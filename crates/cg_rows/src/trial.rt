@@ -107,7 +107,7 @@ fn is_read_fault(command: &Command, text: &[u8], written: &[u8]) -> bool {
     let at = written.len().saturating_sub(READ_FAULT.len());
     let (front, line) = written.split_at(at);
     let is_begun = match command {
-        Command::Show | Command::Plan => text.starts_with(front),
+        Command::Show | Command::Json | Command::Plan => text.starts_with(front),
         _ => front.is_empty(),
     };
     is_begun && line == READ_FAULT

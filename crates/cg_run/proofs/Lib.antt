@@ -1,9 +1,12 @@
+pub mod Checking
+pub mod Keeping
 pub mod KindsLemmas
 pub mod RunLemmas
 pub mod Parts
 pub mod Planning
-pub mod Showing
+pub mod Pulled
 pub mod Stops
 pub mod Streams
+pub mod Telling
 pub mod Took
 pub mod Written

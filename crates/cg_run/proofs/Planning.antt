@@ -11,7 +11,7 @@ use Rattle.cg_snap.specs.declared.plan_decoder.PlanWhat.{PlanWhat}
 use Rattle.cg_snap.specs.declared.plan_decoder.PlanWhat.TheVariants as whats
 use Rattle.cg_snap.specs.declared.stop.Stop.{Stop}
 use Rattle.cg_snap.specs.declared.stop.Stop.TheVariants as stops
-use Rattle.cg_run.specs.Planned.{HasPlanned, IsPrintedAs}
+use Rattle.cg_run.specs.Planned.{HasPlanned, IsPrintedAs, planned_closed, planned_passed}
 use Rattle.cg_run.specs.Stream.{PartsOf, item_part}
 use Rattle.cg_run.specs.Streaming.{FoundIs, IsByteStop, IsCutAt}
 use Rattle.cg_run.specs.declared.planned.PlannedReader.{PlannedReader}
@@ -35,18 +35,32 @@ module _ (was now : PlannedReader) (form : Profile × Limits) (p : List ℕ) (pa
   byte_stop bytes (stops.Cut at) x = absurd x.stops
 
   abbrev Finds : Found → Type 0
-  Finds f = FoundIs (HasPlanned now form) (PartsOf item_part (λ bytes items. ClosedPlan (form.0) bytes items)) (IsPlanUnstopped (form.0) (form.1)) (PlanStopOf (form.0) (form.1)) p parts piece used f
+  Finds f = FoundIs (PartsOf item_part (λ bytes items. ClosedPlan (form.0) bytes items)) (IsPlanUnstopped (form.0) (form.1)) (HasPlanned now form) (PlanStopOf (form.0) (form.1)) p parts piece used f
+
+  -- No memory was left for the text of an item.
+  starved : (item : ItemData) → PlanWhatIs now.decoder p h.0 piece used (whats.Item item) → Finds found.OutOfMemory
+  starved item w =
+      let after : HasPlanned now form (p ++ take used piece) (parts ++ item_part item ∷ []) =
+      (h.0 ++ item ∷ [], taken (p ++ take used piece) (h.0 ++ item ∷ []) w.0 w.3, push_part item_part h.0 item parts (item_part item) h.2 refl) in
+      inr (
+        item_part item,
+        planned_passed now form (p ++ take used piece) (parts ++ item_part item ∷ []) after,
+        planned_closed now form (p ++ take used piece) (parts ++ item_part item ∷ []) after,
+      )
 
   pub found_is : (what : PlanWhat) (f : Found) → PlanWhatIs now.decoder p h.0 piece used what → IsPrintedAs what f → Finds f
-  found_is whats.NeedMore found.NeedMore w e = (w.1, (h.0, taken (p ++ take used piece) h.0 w.0 w.2, h.2))
+  found_is whats.NeedMore found.NeedMore w e = (h.0, taken (p ++ take used piece) h.0 w.0 w.2, h.2)
+  found_is whats.NeedMore found.Kept w e = absurd e
   found_is whats.NeedMore (found.Part text) w e = absurd e
   found_is whats.NeedMore (found.Stopped s) w e = absurd e
   found_is whats.NeedMore found.OutOfMemory w e = absurd e
   found_is (whats.Item item) found.NeedMore w e = absurd e
+  found_is (whats.Item item) found.Kept w e = absurd e
   found_is (whats.Item item) (found.Part text) w e = (h.0 ++ item ∷ [], taken (p ++ take used piece) (h.0 ++ item ∷ []) w.0 w.3, push_part item_part h.0 item parts text.items h.2 e)
   found_is (whats.Item item) (found.Stopped s) w e = absurd e
-  found_is (whats.Item item) found.OutOfMemory w e = inr (item_part item, (h.0 ++ item ∷ [], taken (p ++ take used piece) (h.0 ++ item ∷ []) w.0 w.3, push_part item_part h.0 item parts (item_part item) h.2 refl))
+  found_is (whats.Item item) found.OutOfMemory w e = starved item w
   found_is (whats.Stopped stop) found.NeedMore w e = absurd e
+  found_is (whats.Stopped stop) found.Kept w e = absurd e
   found_is (whats.Stopped stop) (found.Part text) w e = absurd e
   found_is (whats.Stopped stop) (found.Stopped s) w e =
       subst (λ (t : Stop). Finds (found.Stopped t)) (sym e) (
@@ -57,9 +71,17 @@ module _ (was now : PlannedReader) (form : Profile × Limits) (p : List ℕ) (pa
       )
   found_is (whats.Stopped stop) found.OutOfMemory w e = absurd e
   found_is whats.OutOfMemory found.NeedMore w e = absurd e
+  found_is whats.OutOfMemory found.Kept w e = absurd e
   found_is whats.OutOfMemory (found.Part text) w e = absurd e
   found_is whats.OutOfMemory (found.Stopped s) w e = absurd e
-  found_is whats.OutOfMemory found.OutOfMemory w e = inl (w.1, of_form (λ q l. IsPlanUnstopped q l (p ++ take (used + 1) piece)) w.2, (h.0, taken (p ++ take used piece) h.0 w.0 w.3, h.2))
+  found_is whats.OutOfMemory found.OutOfMemory w e =
+      let after : HasPlanned now form (p ++ take used piece) parts = (h.0, taken (p ++ take used piece) h.0 w.0 w.3, h.2) in
+      inl (
+        w.1,
+        planned_passed now form (p ++ take used piece) parts after,
+        of_form (λ q l. IsPlanUnstopped q l (p ++ take (used + 1) piece)) w.2,
+        planned_closed now form (p ++ take used piece) parts after,
+      )
 
 -- ---- The end
 

@@ -9,7 +9,7 @@ use Rattle.cg_snap.specs.declared.stop.Stop.TheVariants as stops
 use Rattle.cg_run.specs.Input.{Reading}
 use Rattle.cg_run.specs.Outcome.{last_line}
 use Rattle.cg_run.specs.Run.{Wrote, joined}
-use Rattle.cg_run.specs.Stream.{IsStreamRight, IsStreamStarved, IsStreamStop}
+use Rattle.cg_run.specs.Stream.{IsEarlyRight, IsStreamRight, IsStreamStarved, IsStreamStop}
 use Rattle.cg_run.specs.Streaming.{EndsSo, HasWritten, IsByteStop, IsCutAt, WantsMemory}
 use Rattle.cg_run.specs.declared.outcome.Outcome.{Outcome}
 use Rattle.cg_run.specs.declared.outcome.Outcome.TheVariants as out
@@ -29,8 +29,22 @@ some_part (first ∷ parts) part = λ e. cc
 
 module _ (Took Whole Closes : List ℕ → List (List ℕ) → Type 0) (Unstopped : List ℕ → Type 0) (StopsBy : List ℕ → Stop → Type 0)
     (closed : (p : List ℕ) (parts : List (List ℕ)) → Took p parts → Closes p parts) (passed : (p : List ℕ) (parts : List (List ℕ)) → Took p parts → Unstopped p) where
+  abbrev Early : Reading → Outcome → List (List ℕ) → Type 0
+  Early = IsEarlyRight Whole Closes Unstopped StopsBy
+
   abbrev Right : Reading → Outcome → List (List ℕ) → Type 0
   Right = IsStreamRight Whole Closes Unstopped StopsBy
+
+  -- What is right before the end is right.
+  pub early_right : (r : Reading) (o : Outcome) (parts : List (List ℕ)) → Early r o parts → Right r o parts
+  early_right r out.Done parts h = absurd h
+  early_right r (out.Findings n) parts h = absurd h
+  early_right r (out.Stopped s) parts h = h
+  early_right r out.NotReadable parts h = absurd h
+  early_right r out.NotWritable parts h = absurd h
+  early_right r out.ReadFault parts h = h
+  early_right r (out.WriteFault n) parts h = absurd h
+  early_right r out.OutOfMemory parts h = h
 
   -- ---- A piece, of which at bytes were taken, and then n of the rest
 
@@ -45,27 +59,27 @@ module _ (Took Whole Closes : List ℕ → List (List ℕ) → Type 0) (Unstoppe
     front m = take_past m read piece
 
     -- Memory was refused after these bytes, for the next or for a part.
-    starved : (parts more : List (List ℕ)) → Took ((read ++ take at piece) ++ take n rest) (parts ++ more) →
+    starved : (parts more : List (List ℕ)) → Unstopped ((read ++ take at piece) ++ take n rest) → Closes ((read ++ take at piece) ++ take n rest) (parts ++ more) →
         (((length read + (at + n)) < length (read ++ piece))
         × Unstopped (take (length read + (at + n) + 1) (read ++ piece))) ⊎ (parts ++ more ≢ []) →
         IsStreamStarved Whole Closes Unstopped StopsBy r parts
-    starved parts more h w =
-        let took : Took (read ++ take (at + n) piece) (parts ++ more) = subst (λ (t : List ℕ). Took t (parts ++ more)) (text_on read piece rest at n rest_is) h in
-        record {
-          at = length read + (at + n);
-          within = omega (arith, far, length-append read piece);
-          unstopped = rw (front (at + n)) (passed (read ++ take (at + n) piece) (parts ++ more) took);
-          more = more;
-          has = inl (rw (front (at + n)) (closed (read ++ take (at + n) piece) (parts ++ more) took));
-          wants = w;
-        }
+    starved parts more u c w = record {
+      at = length read + (at + n);
+      within = omega (arith, far, length-append read piece);
+      unstopped = rw (front (at + n)) (subst Unstopped (text_on read piece rest at n rest_is) u);
+      more = more;
+      has = inl (rw (front (at + n)) (subst (λ (t : List ℕ). Closes t (parts ++ more)) (text_on read piece rest at n rest_is) c));
+      wants = w;
+    }
 
     pub fault_ends : (first now : Option (List ℕ)) (write_failed : Bool) (parts : List (List ℕ)) (part : List ℕ) (o : Outcome) → Took ((read ++ take at piece) ++ take n rest) (parts ++ part ∷ []) →
-        ((rest : List ℕ) (wanted : Outcome) → Wrote first now write_failed (joined (parts ++ part ∷ []) ++ rest) wanted o) → EndsSo Right (read ++ piece) left failed first now write_failed o
+        ((rest : List ℕ) (wanted : Outcome) → Wrote first now write_failed (joined (parts ++ part ∷ []) ++ rest) wanted o) → EndsSo Early (read ++ piece) left failed first now write_failed o
     fault_ends first now write_failed parts part o h w = record {
       wanted = out.OutOfMemory;
       parts = parts ++ part ∷ [];
-      right = starved (parts ++ part ∷ []) [] (subst (λ (ps : List (List ℕ)). Took ((read ++ take at piece) ++ take n rest) ps) (sym (append-nil (parts ++ part ∷ []))) h) (inr (rw (append-nil (parts ++ part ∷ [])) (some_part parts part)));
+      right = starved (parts ++ part ∷ []) [] (passed ((read ++ take at piece) ++ take n rest) (parts ++ part ∷ []) h)
+          (rw (append-nil (parts ++ part ∷ [])) (closed ((read ++ take at piece) ++ take n rest) (parts ++ part ∷ []) h))
+          (inr (rw (append-nil (parts ++ part ∷ [])) (some_part parts part)));
       wrote = w (last_line out.OutOfMemory) out.OutOfMemory;
     }
 
@@ -77,7 +91,7 @@ module _ (Took Whole Closes : List ℕ → List (List ℕ) → Type 0) (Unstoppe
     stop_right parts (stops.Cut place) b x c = absurd b
 
     pub stop_ends : (first now : Option (List ℕ)) (write_failed : Bool) (parts : List (List ℕ)) (s : Stop) (o : Outcome) → IsByteStop s → StopsBy ((read ++ take at piece) ++ rest) s → place_of s ≡ length (read ++ take at piece) + n →
-        Closes ((read ++ take at piece) ++ take n rest) parts → Wrote first now write_failed (joined parts ++ last_line (out.Stopped s)) (out.Stopped s) o → EndsSo Right (read ++ piece) left failed first now write_failed o
+        Closes ((read ++ take at piece) ++ take n rest) parts → Wrote first now write_failed (joined parts ++ last_line (out.Stopped s)) (out.Stopped s) o → EndsSo Early (read ++ piece) left failed first now write_failed o
     stop_ends first now write_failed parts s o b x e c w =
         let place : place_of s ≡ length read + (at + n) = omega (arith, e, less, length-append read (take at piece), length-take at piece) in
         record {
@@ -88,21 +102,21 @@ module _ (Took Whole Closes : List ℕ → List (List ℕ) → Type 0) (Unstoppe
           wrote = w;
         }
 
-    memory_right : (parts : List (List ℕ)) → WantsMemory Took Unstopped (read ++ take at piece) parts rest n → IsStreamStarved Whole Closes Unstopped StopsBy r parts
+    memory_right : (parts : List (List ℕ)) → WantsMemory Closes Unstopped (read ++ take at piece) parts rest n → IsStreamStarved Whole Closes Unstopped StopsBy r parts
     memory_right parts (inl h) =
         let next : length read + (at + n) + 1 ≡ length read + (at + (n + 1)) = omega arith in
-        let u : Unstopped (take (length read + (at + n) + 1) (read ++ piece)) = rw (next, front (at + (n + 1))) (subst Unstopped (text_on read piece rest at (n + 1) rest_is) h.1) in
-        starved parts [] (rw (append-nil parts) h.2) (inl (omega (arith, h.0, less, ap length rest_is, length-drop at piece, length-append read piece), u))
-    memory_right parts (inr h) = starved parts (h.0 ∷ []) h.1 (inr (some_part parts h.0))
+        let u : Unstopped (take (length read + (at + n) + 1) (read ++ piece)) = rw (next, front (at + (n + 1))) (subst Unstopped (text_on read piece rest at (n + 1) rest_is) h.2) in
+        starved parts [] h.1 (rw (append-nil parts) h.3) (inl (omega (arith, h.0, less, ap length rest_is, length-drop at piece, length-append read piece), u))
+    memory_right parts (inr h) = starved parts (h.0 ∷ []) h.1 h.2 (inr (some_part parts h.0))
 
-    pub memory_ends : (first now : Option (List ℕ)) (write_failed : Bool) (parts : List (List ℕ)) (o : Outcome) → WantsMemory Took Unstopped (read ++ take at piece) parts rest n →
-        Wrote first now write_failed (joined parts ++ last_line out.OutOfMemory) out.OutOfMemory o → EndsSo Right (read ++ piece) left failed first now write_failed o
+    pub memory_ends : (first now : Option (List ℕ)) (write_failed : Bool) (parts : List (List ℕ)) (o : Outcome) → WantsMemory Closes Unstopped (read ++ take at piece) parts rest n →
+        Wrote first now write_failed (joined parts ++ last_line out.OutOfMemory) out.OutOfMemory o → EndsSo Early (read ++ piece) left failed first now write_failed o
     memory_ends first now write_failed parts o h w = record { wanted = out.OutOfMemory; parts = parts; right = memory_right parts h; wrote = w }
 
   -- ---- The end of the input
 
   module _ (read : List ℕ) (left : Option (List ℕ)) (failed : Bool) (first now : Option (List ℕ)) (write_failed : Bool) (parts : List (List ℕ)) (took : Took read parts) where
-    pub read_fault_ends : (o : Outcome) → failed ≡ true → Wrote first now write_failed (joined parts ++ last_line out.ReadFault) out.ReadFault o → EndsSo Right read left failed first now write_failed o
+    pub read_fault_ends : (o : Outcome) → failed ≡ true → Wrote first now write_failed (joined parts ++ last_line out.ReadFault) out.ReadFault o → EndsSo Early read left failed first now write_failed o
     read_fault_ends o f w = record { wanted = out.ReadFault; parts = parts; right = record { unstopped = passed read parts took; failed = f; closed = closed read parts took }; wrote = w }
 
     module _ (ended : IsAtEnd left) (works : failed ≡ false) where

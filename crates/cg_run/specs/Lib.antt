@@ -1,12 +1,16 @@
+pub mod Check
+pub mod Checked
 pub mod Ended
+pub mod Entries
 pub mod Input
+pub mod Kept
 pub mod Kinds
 pub mod Outcome
 pub mod Planned
 pub mod Reading
 pub mod Run
-pub mod Shown
 pub mod Source
 pub mod Stream
 pub mod Streaming
+pub mod Taken
 pub mod TextReader

@@ -20,10 +20,11 @@ use Rattle.cg_snap.specs.Stop.{IsTextUnstopped, TextStopOf}
 use Rattle.cg_snap.specs.declared.limits.Limits.{Limits}
 use Rattle.cg_snap.specs.declared.stop.Stop.{Stop}
 use Rattle.cg_snap.specs.declared.stop.Stop.TheVariants as stop
+use Rattle.cg_run.specs.Check.{HasNoParts, IsCheckRight, PartsOfAll, finding_lines}
 use Rattle.cg_run.specs.Input.{Reading, IsEnded}
 use Rattle.cg_run.specs.Kinds.{kinds_lines}
 use Rattle.cg_run.specs.Outcome.{last_line}
-use Rattle.cg_run.specs.Stream.{IsStreamRight, PartsOf, item_part, shown_part}
+use Rattle.cg_run.specs.Stream.{IsStreamRight, PartsOf, item_part, json_part, shown_part}
 use Rattle.cg_run.specs.declared.outcome.Outcome.{Outcome}
 use Rattle.cg_run.specs.declared.outcome.Outcome.TheVariants as out
 use Rattle.cg_command.specs.declared.words.Command.{Command}
@@ -118,6 +119,11 @@ IsSnapshotRight part profile limits = IsStreamRight
     (PartsOf part (λ bytes es. SnapText profile es bytes)) (PartsOf part (λ bytes es. Closed profile bytes es))
     (IsSnapUnstopped profile limits) (SnapStopOf profile limits)
 
+-- A snapshot that is checked: at its end a line for each finding, and nothing before.
+abbrev pub IsCheckedRight : Profile → Limits → Reading → Outcome → List (List ℕ) → Type 0
+IsCheckedRight profile limits = IsCheckRight
+    (PartsOfAll finding_lines (λ bytes es. SnapText profile es bytes)) HasNoParts (IsSnapUnstopped profile limits) (SnapStopOf profile limits)
+
 -- A plan: a part for each item, once its record has ended.
 abbrev pub IsPlanRight : (ItemData → List ℕ) → Profile → Limits → Reading → Outcome → List (List ℕ) → Type 0
 IsPlanRight part profile limits = IsStreamRight
@@ -130,8 +136,9 @@ IsRight profile (command.File name) limits r o parts = IsFileRight (read_form_of
 IsRight profile (command.Setting name) limits r o parts = IsWriteRight (write_form_of profile name.items) limits.max_stream r o parts
 IsRight profile command.Kinds limits r o parts = IsListRight profile r o parts
 IsRight profile command.Show limits r o parts = IsSnapshotRight shown_part profile limits r o parts
+IsRight profile command.Json limits r o parts = IsSnapshotRight json_part profile limits r o parts
+IsRight profile command.Check limits r o parts = IsCheckedRight profile limits r o parts
 IsRight profile command.Plan limits r o parts = IsPlanRight item_part profile limits r o parts
-IsRight profile c limits r o parts = IsIdleRight out.NotReadable r o parts
 
 abbrev pub joined : List (List ℕ) → List ℕ
 joined [] = []
@@ -162,11 +169,12 @@ pub record DidRun (Right : Reading → Outcome → List (List ℕ) → Type 0) (
 abbrev pub Ran : Profile → Command → Limits → Option (List ℕ) → Option (List ℕ) → Bool → Option (List ℕ) → Option (List ℕ) → Bool → Outcome → Type 0
 Ran profile c limits = DidRun (IsRight profile c limits)
 
--- A command that reads nothing and takes no memory: the list of the kinds, one that names a file without the form, and one
--- that isn't built.
+-- A command that reads nothing and takes no memory: the list of the kinds, and one that names a file without the form.
 abbrev pub IsIdle : Profile → Command → Type 0
 IsIdle profile (command.File name) = read_form_of profile name.items ≡ None
 IsIdle profile (command.Setting name) = write_form_of profile name.items ≡ None
 IsIdle profile command.Show = ⊥
+IsIdle profile command.Json = ⊥
+IsIdle profile command.Check = ⊥
 IsIdle profile command.Plan = ⊥
-IsIdle profile c = Unit {0}
+IsIdle profile command.Kinds = Unit {0}

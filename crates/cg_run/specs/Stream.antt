@@ -2,6 +2,7 @@
 use Rattle.std.specs.Prelude.{◌≡◌, ◌≢◌, ℕ, ◌+◌, ◌<◌, ◌≤◌, ◌⊎◌, true, List, [], ◌∷◌, ◌++◌, length, map, take}
 use Rattle.cg_value.specs.Entry.{EntryData, ItemData}
 use Rattle.cg_value.specs.Print.{print_lines, print_setting_of}
+use Rattle.cg_json.specs.Entry.{line_of}
 use Rattle.cg_print.specs.Headed.{shown}
 use Rattle.cg_snap.specs.Stop.{place_of}
 use Rattle.cg_snap.specs.declared.stop.Stop.{Stop}
@@ -13,6 +14,10 @@ use Rattle.cg_run.specs.declared.outcome.Outcome.TheVariants as out
 -- The part of an entry that is shown.
 abbrev pub shown_part : EntryData → List ℕ
 shown_part e = shown e.path (print_lines e.value)
+
+-- The part of an entry as a line of JSON.
+abbrev pub json_part : EntryData → List ℕ
+json_part e = line_of e
 
 -- The part of an item that is printed: its record in a plan, with the canonical line.
 abbrev pub item_part : ItemData → List ℕ
@@ -64,13 +69,19 @@ module _ (Whole Closes : List ℕ → List (List ℕ) → Type 0) (Unstopped : L
   IsStreamStop r (stop.Cut at) parts = IsStreamCut r at parts
   IsStreamStop r s parts = IsStreamStopped r s parts
 
-  -- The outcome that is right, with the parts that are written before the last line.
+  -- The outcome that is right where the run ends before a whole stream was read, or wants memory, with the parts that are
+  -- written before the last line.
+  abbrev pub IsEarlyRight : Reading → Outcome → List (List ℕ) → Type 0
+  IsEarlyRight r out.Done parts = ⊥
+  IsEarlyRight r (out.Findings n) parts = ⊥
+  IsEarlyRight r (out.Stopped s) parts = IsStreamStop r s parts
+  IsEarlyRight r out.NotReadable parts = ⊥
+  IsEarlyRight r out.NotWritable parts = ⊥
+  IsEarlyRight r out.ReadFault parts = IsStreamFault r parts
+  IsEarlyRight r (out.WriteFault n) parts = ⊥
+  IsEarlyRight r out.OutOfMemory parts = IsStreamStarved r parts
+
+  -- The outcome that is right where each part is written as soon as the bytes close it.
   abbrev pub IsStreamRight : Reading → Outcome → List (List ℕ) → Type 0
   IsStreamRight r out.Done parts = IsStreamDone r parts
-  IsStreamRight r (out.Findings n) parts = ⊥
-  IsStreamRight r (out.Stopped s) parts = IsStreamStop r s parts
-  IsStreamRight r out.NotReadable parts = ⊥
-  IsStreamRight r out.NotWritable parts = ⊥
-  IsStreamRight r out.ReadFault parts = IsStreamFault r parts
-  IsStreamRight r (out.WriteFault n) parts = ⊥
-  IsStreamRight r out.OutOfMemory parts = IsStreamStarved r parts
+  IsStreamRight r o parts = IsEarlyRight r o parts

@@ -1,42 +1,49 @@
 -- What the steps of a run over a stream do.
 use Rattle.std.specs.Prelude.{◌≡◌, ℕ, ◌+◌, ◌<◌, ◌⊎◌, Bool, false, List, [], ◌∷◌, ◌++◌, length, take, Option}
-use Rattle.std.specs.Io.KnownBytes.{Appends, Consumes}
+use Rattle.std.specs.Io.KnownBytes.{Appends, Consumes, IsAtEnd}
 use Rattle.cg_text.specs.Token.{told}
 use Rattle.cg_snap.specs.Stop.{place_of}
 use Rattle.cg_snap.specs.declared.stop.Stop.{Stop}
 use Rattle.cg_snap.specs.declared.stop.Stop.TheVariants as stop
 use Rattle.cg_run.specs.Input.{Reading}
 use Rattle.cg_run.specs.Outcome.{last_line}
-use Rattle.cg_run.specs.Run.{Wrote, joined}
+use Rattle.cg_run.specs.Run.{DidRun, IsRealFault, Wrote, joined}
 use Rattle.cg_run.specs.declared.outcome.Outcome.{Outcome}
 use Rattle.cg_run.specs.declared.stream_reader.Found.{Found}
 use Rattle.cg_run.specs.declared.stream_reader.Found.TheVariants as found
 use Rattle.cg_run.specs.declared.stream_reader.StreamEnd.{StreamEnd}
 use Rattle.cg_run.specs.declared.stream_reader.StreamEnd.TheVariants as ends
+use Rattle.cg_run.specs.declared.streaming.Streamed.{Streamed}
+use Rattle.cg_run.specs.declared.streaming.Streamed.TheVariants as streamed
 
 -- A byte is at fault, and not the end.
 abbrev pub IsByteStop : Stop → Type 0
 IsByteStop (stop.Cut at) = ⊥
 IsByteStop s = Unit {0}
 
--- Took says that the reader consumed some bytes and gave some parts.
-module _ (Took : List ℕ → List (List ℕ) → Type 0) where
-  -- Memory was refused for the first byte of the piece that isn't consumed, which doesn't stop the stream; or for a part.
-  abbrev pub WantsMemory : (List ℕ → Type 0) → List ℕ → List (List ℕ) → List ℕ → ℕ → Type 0
-  WantsMemory Unstopped p parts piece used =
-      ((used < length piece) × Unstopped (p ++ take (used + 1) piece) × Took (p ++ take used piece) parts)
-      ⊎ ((part : List ℕ) × Took (p ++ take used piece) (parts ++ part ∷ []))
+-- Closes says which parts some bytes close, and Unstopped that none of them stops the stream.
+module _ (Closes : List ℕ → List (List ℕ) → Type 0) (Unstopped : List ℕ → Type 0) where
+  -- Memory was refused for the byte of the piece behind those that were consumed, which doesn't stop the stream either; or for
+  -- a part that these close.
+  abbrev pub WantsMemory : List ℕ → List (List ℕ) → List ℕ → ℕ → Type 0
+  WantsMemory p parts piece used =
+      ((used < length piece) × Unstopped (p ++ take used piece) × Unstopped (p ++ take (used + 1) piece) × Closes (p ++ take used piece) parts)
+      ⊎ ((part : List ℕ) × Unstopped (p ++ take used piece) × Closes (p ++ take used piece) (parts ++ part ∷ []))
 
-  -- What a call of next found that consumed so many bytes of the piece.
-  abbrev pub FoundIs : (List ℕ → List (List ℕ) → Type 0) → (List ℕ → Type 0) → (List ℕ → Stop → Type 0) → List ℕ → List (List ℕ) → List ℕ → ℕ → Found → Type 0
-  FoundIs Closes Unstopped StopsBy p parts piece used found.NeedMore = (used ≡ length piece) × Took (p ++ take used piece) parts
-  FoundIs Closes Unstopped StopsBy p parts piece used (found.Part text) = Took (p ++ take used piece) (parts ++ text.items ∷ [])
-  FoundIs Closes Unstopped StopsBy p parts piece used (found.Stopped s) = IsByteStop s × StopsBy (p ++ piece) s × (place_of s ≡ length p + used) × Closes (p ++ take used piece) parts
-  FoundIs Closes Unstopped StopsBy p parts piece used found.OutOfMemory = WantsMemory Unstopped p parts piece used
+  -- What a call of next found that consumed so many bytes of the piece. Took says that the reader consumed some bytes and gave
+  -- some parts.
+  abbrev pub FoundIs : (List ℕ → List (List ℕ) → Type 0) → (List ℕ → Stop → Type 0) → List ℕ → List (List ℕ) → List ℕ → ℕ → Found → Type 0
+  FoundIs Took StopsBy p parts piece used found.NeedMore = Took (p ++ take used piece) parts
+  FoundIs Took StopsBy p parts piece used found.Kept = Took (p ++ take used piece) parts
+  FoundIs Took StopsBy p parts piece used (found.Part text) = Took (p ++ take used piece) (parts ++ text.items ∷ [])
+  FoundIs Took StopsBy p parts piece used (found.Stopped s) =
+      IsByteStop s × StopsBy (p ++ piece) s × (place_of s ≡ length p + used) × Closes (p ++ take used piece) parts
+  FoundIs Took StopsBy p parts piece used found.OutOfMemory = WantsMemory p parts piece used
 
--- Where nothing is found the whole piece, which is so long, was consumed; and a part comes with a byte.
+-- Where nothing is found the whole piece, which is so long, was consumed; and what is kept, and a part, come with a byte.
 abbrev pub IsFoundBy : ℕ → ℕ → Found → Type 0
 IsFoundBy whole used found.NeedMore = used ≡ whole
+IsFoundBy whole used found.Kept = 0 < used
 IsFoundBy whole used (found.Part text) = 0 < used
 IsFoundBy whole used (found.Stopped s) = Unit {0}
 IsFoundBy whole used found.OutOfMemory = Unit {0}
@@ -78,3 +85,14 @@ pub record StreamedSoFar (Took : List ℕ → List (List ℕ) → Type 0) (comin
   pub consumed : Consumes coming left read
   pub before : Before Took first now written read
   pub works : failed ≡ false
+
+-- How the reading of a stream went: to the end of the input; or the run ended before, as is right.
+abbrev pub StreamedIs : (Took : List ℕ → List (List ℕ) → Type 0) (Right : Reading → Outcome → List (List ℕ) → Type 0) (coming left : Option (List ℕ)) (read_failed : Bool)
+    (first now : Option (List ℕ)) (write_failed : Bool) → Streamed → Type 0
+StreamedIs Took Right coming left read_failed first now write_failed (streamed.AtEnd written) = StreamedSoFar Took coming left first now written read_failed × IsAtEnd left
+StreamedIs Took Right coming left read_failed first now write_failed (streamed.Ended o) = DidRun Right coming left read_failed first now write_failed o
+
+-- A fault of the writer is told only where it has failed.
+abbrev pub IsRealEnd : Streamed → Bool → Type 0
+IsRealEnd (streamed.AtEnd written) failed = Unit {0}
+IsRealEnd (streamed.Ended o) failed = IsRealFault o failed

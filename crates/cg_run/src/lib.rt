@@ -1,7 +1,10 @@
 //! A run of a command: from a source of bytes to a sink, with an exit status.
 #![tactic(auto)]
 
+mod checked;
 pub mod cut;
+mod entries;
+mod kept;
 mod kinds;
 mod line;
 pub mod outcome;
@@ -9,7 +12,6 @@ pub mod plain;
 mod planned;
 mod reading;
 pub mod running;
-mod shown;
 pub mod source;
 mod stream_reader;
 mod streaming;

@@ -3,7 +3,7 @@ ghost use Rattle.std.specs.Prelude.{◌≡◌, [], IfOk};
 ghost use Rattle.cg_run.specs.Planned.{IsPrintedAs};
 ghost use Rattle.cg_run.specs.Stream.{item_part};
 
-use crate::stream_reader::{Found, Next, StreamEnd, StreamReader};
+use crate::stream_reader::{Found, LastPart, Next, StreamEnd, StreamReader};
 use cg_print::print_item;
 use cg_snap::{Limits, PlanDecoder, PlanWhat};
 use cg_text::OutOfMemory;
@@ -88,7 +88,9 @@ impl StreamReader for PlannedReader {
             found: found_of(self.alloc, pulled.what),
         }
     }
+}
 
+impl LastPart for PlannedReader {
     fn finish(self) -> StreamEnd {
         match self.decoder.finish() {
             Ok(()) => StreamEnd::Nothing,

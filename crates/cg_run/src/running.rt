@@ -1,15 +1,17 @@
 //! The program's run.
 ghost use Rattle.std.specs.Prelude.{◌≡◌, ◌≢◌, ◌≤◌, ◌+◌, ℕ, List, [], false, None, length};
 ghost use Rattle.cg_value.specs.Table.{read_form_of, write_form_of};
-ghost use Rattle.cg_run.specs.Run.{Ran, DidRun, IsIdle, IsTextRight, IsFileRight, IsWriteRight, IsRealFault};
+ghost use Rattle.cg_run.specs.Run.{Ran, DidRun, IsIdle, IsTextRight, IsFileRight, IsSnapshotRight, IsWriteRight, IsRealFault};
+ghost use Rattle.cg_run.specs.Entries.{entry_part};
 ghost use Rattle.cg_run.specs.Ended.{HasEnded};
 
+use crate::checked::run_check;
+use crate::entries::{EntryReader, Telling};
 use crate::kinds::told_kinds;
 use crate::line::last_line_of;
 use crate::outcome::Outcome;
 use crate::planned::PlannedReader;
 use crate::reading::{Ending, read_all};
-use crate::shown::ShownReader;
 use crate::source::Source;
 use crate::streaming::run_stream;
 use crate::text_reader::TextReader;
@@ -126,9 +128,27 @@ fn run_setting<R: Source, W: Sink>(
     }
 }
 
+/// Reads a snapshot, and tells each entry.
+#[tactic(auto, using(crate::proofs::RunLemmas::wrote_real))]
+fn run_entries<R: Source, W: Sink>(
+    alloc: Global,
+    profile: Profile,
+    telling: Telling,
+    reader: &mut R,
+    writer: &mut W,
+    limits: Limits,
+) -> Outcome
+    ensures ran { R.has_failed reader.old ≡ false → DidRun (IsSnapshotRight (entry_part telling) profile limits)
+        (R.coming reader.old) (R.coming reader.new) (R.has_failed reader.new)
+        (W.taken writer.old) (W.taken writer.new) (W.has_failed writer.new) result }
+    ensures real { IsRealFault result (W.has_failed writer.new) }
+    ensures asks { R.asks reader.new ≤ R.asks reader.old + limits.max_stream + 1 }
+{
+    let entries = EntryReader::new(alloc, profile, limits, telling);
+    run_stream(entries, reader, writer, limits.max_stream)
+}
+
 /// Runs a command: reads from the source by pieces, and writes to the sink.
-///
-/// A command that isn't built yet reads nothing, and answers that there is nothing to read or write.
 #[tactic(auto, using(crate::proofs::RunLemmas::wrote_real))]
 pub fn run<R: Source, W: Sink>(
     alloc: Global,
@@ -153,23 +173,14 @@ pub fn run<R: Source, W: Sink>(
             run_setting(alloc, profile, name.as_slice(), reader, writer, max)
         }
         Command::Kinds => told_kinds(profile, writer),
-        Command::Plan => {
-            run_stream(
-                PlannedReader::new(alloc, profile, limits),
-                reader,
-                writer,
-                max,
-            )
-        }
-        Command::Show => {
-            run_stream(
-                ShownReader::new(alloc, profile, limits),
-                reader,
-                writer,
-                max,
-            )
-        }
-        Command::Json => told_line(writer, Outcome::NotReadable),
-        Command::Check => told_line(writer, Outcome::NotReadable),
+        Command::Plan => run_stream(
+            PlannedReader::new(alloc, profile, limits),
+            reader,
+            writer,
+            max,
+        ),
+        Command::Show => run_entries(alloc, profile, Telling::Shown, reader, writer, limits),
+        Command::Json => run_entries(alloc, profile, Telling::Json, reader, writer, limits),
+        Command::Check => run_check(alloc, profile, limits, reader, writer),
     }
 }

@@ -10,6 +10,8 @@ use cg_snap::Stop;
 pub(crate) enum Found {
     /// Nothing yet: the whole piece was consumed.
     NeedMore,
+    /// What the reader keeps: no part.
+    Kept,
     /// The text of a part.
     Part(Vec<u8>),
     /// A byte that stops the stream. It isn't consumed.
@@ -67,13 +69,9 @@ pub(crate) trait StreamReader: Drop {
     /// whole piece.
     fn next(&mut self, piece: &[u8]) -> Next
         ensures found { (form : Self.Form) (p : List ℕ) (parts : List (List ℕ)) → took self.old form p parts →
-            FoundIs (took self.new form) (closes form) (unstopped form) (stops form) p parts piece.now result.used result.found }
+            FoundIs (closes form) (unstopped form) (took self.new form) (stops form) p parts piece.now result.used result.found }
         ensures used { result.used ≤ length piece.now }
         ensures progress { IsFoundBy (length piece.now) result.used result.found };
-
-    /// What the end of the stream leaves.
-    fn finish(self) -> StreamEnd
-        ensures { (form : Self.Form) (p : List ℕ) (parts : List (List ℕ)) → took self form p parts → EndIs (whole form) p parts result };
 
     /// What was consumed closes what was given.
     ghost closed: { (s : Self) (form : Self.Form) (p : List ℕ) (parts : List (List ℕ)) → took s form p parts → closes form p parts };
@@ -83,4 +81,11 @@ pub(crate) trait StreamReader: Drop {
 
     /// The bytes that were consumed are counted, and no more than the stream may have.
     ghost counted: { (s : Self) (form : Self.Form) (p : List ℕ) (parts : List (List ℕ)) → took s form p parts → (offset s ≡ length p) × (length p ≤ limit form) };
+}
+
+/// A reader of a stream whose end leaves at most one part.
+pub(crate) trait LastPart: StreamReader {
+    /// What the end of the stream leaves.
+    fn finish(self) -> StreamEnd
+        ensures { (form : Self.Form) (p : List ℕ) (parts : List (List ℕ)) → Self.took self form p parts → EndIs (Self.whole form) p parts result };
 }

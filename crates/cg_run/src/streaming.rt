@@ -2,13 +2,13 @@
 ghost use Rattle.std.specs.Prelude.{◌≡◌, ◌≤◌, ◌+◌, ℕ, Bool, false, List, [], ◌++◌, Option, MatchOption, IfSome};
 ghost use Rattle.std.specs.Io.KnownBytes.{IsAtEnd};
 ghost use Rattle.cg_run.specs.Run.{DidRun, IsRealFault};
-ghost use Rattle.cg_run.specs.Stream.{IsStreamRight};
-ghost use Rattle.cg_run.specs.Streaming.{Before, EndsSo};
+ghost use Rattle.cg_run.specs.Stream.{IsEarlyRight, IsStreamRight};
+ghost use Rattle.cg_run.specs.Streaming.{Before, EndsSo, IsRealEnd, StreamedIs};
 
 use crate::outcome::Outcome;
 use crate::running::PIECE;
 use crate::source::Source;
-use crate::stream_reader::{Found, StreamEnd, StreamReader};
+use crate::stream_reader::{Found, LastPart, StreamEnd, StreamReader};
 use crate::told::{told_after, told_part};
 use cg_print::{Failed, Sink};
 
@@ -21,7 +21,7 @@ fn take_parts<S: StreamReader, W: Sink>(
 ) -> Option<Outcome>
     ensures took { (form : S.Form) (first : Option (List ℕ)) (read : List ℕ) → Before (S.took stream.old form) first (W.taken writer.old) written.old read →
         MatchOption result (Before (S.took stream.new form) first (W.taken writer.new) written.new (read ++ piece.now))
-        (λ o. (left : Option (List ℕ)) (failed : Bool) → EndsSo (IsStreamRight (S.whole form) (S.closes form) (S.unstopped form) (S.stops form))
+        (λ o. (left : Option (List ℕ)) (failed : Bool) → EndsSo (IsEarlyRight (S.whole form) (S.closes form) (S.unstopped form) (S.stops form))
         (read ++ piece.now) left failed first (W.taken writer.new) (W.has_failed writer.new) o) }
     ensures real { IfSome result (λ o. IsRealFault o (W.has_failed writer.new)) }
 {
@@ -32,6 +32,7 @@ fn take_parts<S: StreamReader, W: Sink>(
         used += next.used;
         match next.found {
             Found::NeedMore => {}
+            Found::Kept => {}
             Found::Part(text) => match told_part(writer, text.as_slice(), written) {
                 None => {}
                 Some(fault) => return Some(fault),
@@ -48,7 +49,7 @@ fn take_parts<S: StreamReader, W: Sink>(
 }
 
 /// Writes what the end of the input leaves.
-fn told_stream_end<S: StreamReader, W: Sink>(stream: S, writer: &mut W, written: u64) -> Outcome
+fn told_stream_end<S: LastPart, W: Sink>(stream: S, writer: &mut W, written: u64) -> Outcome
     ensures ended { (form : S.Form) (first : Option (List ℕ)) (read : List ℕ) → Before (S.took stream form) first (W.taken writer.old) written read →
         (left : Option (List ℕ)) (failed : Bool) → IsAtEnd left → failed ≡ false →
         EndsSo (IsStreamRight (S.whole form) (S.closes form) (S.unstopped form) (S.stops form))
@@ -67,8 +68,52 @@ fn told_stream_end<S: StreamReader, W: Sink>(stream: S, writer: &mut W, written:
     }
 }
 
+/// How the reading of a stream went.
+#[derive(Drop)]
+pub(crate) enum Streamed {
+    /// The input has ended, and so many bytes were written.
+    AtEnd { written: u64 },
+    /// The run ended before.
+    Ended(Outcome),
+}
+
+/// Reads a stream to the end of its source, or until something stops it, and writes the parts that its bytes close.
+pub(crate) fn read_stream<S: StreamReader, R: Source, W: Sink>(
+    stream: &mut S,
+    reader: &mut R,
+    writer: &mut W,
+    max: u64,
+) -> Streamed
+    requires { (form : S.Form) × S.took stream.old form [] [] × (S.limit form ≡ max) }
+    ensures read { (form : S.Form) → S.took stream.old form [] [] → R.has_failed reader.old ≡ false →
+        StreamedIs (S.took stream.new form) (IsEarlyRight (S.whole form) (S.closes form) (S.unstopped form) (S.stops form))
+        (R.coming reader.old) (R.coming reader.new) (R.has_failed reader.new)
+        (W.taken writer.old) (W.taken writer.new) (W.has_failed writer.new) result }
+    ensures real { IsRealEnd result (W.has_failed writer.new) }
+    ensures asks { R.asks reader.new ≤ R.asks reader.old + max + 1 }
+{
+    let mut buffer = [0; PIECE];
+    let mut written = 0;
+    'reads: loop {
+        let count = match reader.pull(&mut buffer) {
+            Ok(count) => count,
+            Err(Failed) => {
+                return Streamed::Ended(told_after(writer, written, Outcome::ReadFault));
+            }
+        };
+        if count == 0 {
+            return Streamed::AtEnd { written };
+        }
+        let (piece, _) = buffer.split_at(count);
+        match take_parts(stream, piece, writer, &mut written) {
+            None => {}
+            Some(outcome) => return Streamed::Ended(outcome),
+        }
+    }
+}
+
 /// Reads a stream to the end of its source, or until something stops it, and writes its parts.
-pub(crate) fn run_stream<S: StreamReader, R: Source, W: Sink>(
+pub(crate) fn run_stream<S: LastPart, R: Source, W: Sink>(
     mut stream: S,
     reader: &mut R,
     writer: &mut W,
@@ -82,20 +127,8 @@ pub(crate) fn run_stream<S: StreamReader, R: Source, W: Sink>(
     ensures real { IsRealFault result (W.has_failed writer.new) }
     ensures asks { R.asks reader.new ≤ R.asks reader.old + max + 1 }
 {
-    let mut buffer = [0; PIECE];
-    let mut written = 0;
-    'reads: loop {
-        let count = match reader.pull(&mut buffer) {
-            Ok(count) => count,
-            Err(Failed) => return told_after(writer, written, Outcome::ReadFault),
-        };
-        if count == 0 {
-            return told_stream_end(stream, writer, written);
-        }
-        let (piece, _) = buffer.split_at(count);
-        match take_parts(&mut stream, piece, writer, &mut written) {
-            None => {}
-            Some(outcome) => return outcome,
-        }
+    match read_stream(&mut stream, reader, writer, max) {
+        Streamed::Ended(outcome) => outcome,
+        Streamed::AtEnd { written } => told_stream_end(stream, writer, written),
     }
 }

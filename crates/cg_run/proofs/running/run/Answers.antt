@@ -1,8 +1,7 @@
 use Rattle.std.proofs.Common.{[], refl, append-nil}
 use Rattle.cg_run.specs.Kinds.{kinds_lines}
-use Rattle.cg_run.specs.Run.{IsRight, joined}
+use Rattle.cg_run.specs.Run.{joined}
 use Rattle.cg_run.specs.declared.outcome.Outcome.TheVariants as out
-use Rattle.cg_run.proofs.RunLemmas.{idle_ran}
 use Rattle.cg_run.proofs.Took.{Consumes-nil}
 use Rattle.cg_run.proofs.running.run.Goals as goal
 
@@ -20,7 +19,7 @@ returns-in-Plan-clause-ran g c fresh =
 
 pub returns-in-Show-clause-ran : goal.returns-in-Show-clause-ran
 returns-in-Show-clause-ran g c fresh =
-    let h = c.run_stream-in-Show.ensures.ran (c.args.profile, c.args.limits) c.new-in-Show.ensures fresh in
+    let h = c.run_entries.ensures.ran fresh in
     record {
       read = h.read;
       consumed = h.consumed;
@@ -32,13 +31,27 @@ returns-in-Show-clause-ran g c fresh =
 
 pub returns-in-Json-clause-ran : goal.returns-in-Json-clause-ran
 returns-in-Json-clause-ran g c fresh =
-    idle_ran (IsRight c.args.profile c.args.command.now c.args.limits) _ _ _ _ _ out.NotReadable c.told_line.result
-    (rw c.in-Json.is (record { outcome = refl; unread = refl; none = refl })) c.told_line.ensures
+    let h = c.run_entries-in-Json.ensures.ran fresh in
+    record {
+      read = h.read;
+      consumed = h.consumed;
+      wanted = h.wanted;
+      parts = h.parts;
+      right = rw c.in-Json.is h.right;
+      wrote = h.wrote;
+    }
 
 pub returns-in-Check-clause-ran : goal.returns-in-Check-clause-ran
 returns-in-Check-clause-ran g c fresh =
-    idle_ran (IsRight c.args.profile c.args.command.now c.args.limits) _ _ _ _ _ out.NotReadable c.told_line-in-Check.result
-    (rw c.in-Check.is (record { outcome = refl; unread = refl; none = refl })) c.told_line-in-Check.ensures
+    let h = c.run_check.ensures.ran fresh in
+    record {
+      read = h.read;
+      consumed = h.consumed;
+      wanted = h.wanted;
+      parts = h.parts;
+      right = rw c.in-Check.is h.right;
+      wrote = h.wrote;
+    }
 
 pub returns-in-Kinds-clause-ran : goal.returns-in-Kinds-clause-ran
 returns-in-Kinds-clause-ran g c fresh = record {

@@ -1,79 +1,29 @@
-use Rattle.std.proofs.Common.{◌++◌, [], ℕ, List, subst, ◌∙◌, append-nil, take, length-append, arith}
-use Rattle.std.specs.Io.KnownBytes.{Consumes}
-use Rattle.cg_run.proofs.Streams.{read_fault_ends}
-use Rattle.cg_run.proofs.Took.{Consumes-kept, Consumes-trans}
+use Rattle.cg_run.proofs.Streams.{early_right}
 use Rattle.cg_run.proofs.streaming.run_stream.Goals as goal
 
-pub returns-in-Err-clause-ran : goal.returns-in-Err-clause-ran
-returns-in-Err-clause-ran g c form fresh works =
-    let h = c.reads.invariant.read form fresh works in
-    let s = c.reads.stream in
-    let e = read_fault_ends (g.S.StreamReader.took s form) (g.S.StreamReader.whole form)
-    (g.S.StreamReader.closes form) (g.S.StreamReader.unstopped form) (g.S.StreamReader.stops form)
-    (g.met.S.StreamReader.closed s form) (g.met.S.StreamReader.passed s form)
-    h.read (g.R.Source.coming c.pull.new.self) (g.R.Source.has_failed c.pull.new.self) (g.W.Sink.taken c.args.writer.now) (g.W.Sink.taken c.told_after.new.writer) (g.W.Sink.has_failed c.told_after.new.writer)
-    h.before.parts h.before.took c.told_after.result c.in-Err.ensures.bytes.1 (c.told_after.ensures.wrote (g.W.Sink.taken c.args.writer.now) h.before.parts h.before.wrote) in
+pub returns-in-Ended-clause-ran : goal.returns-in-Ended-clause-ran
+returns-in-Ended-clause-ran g c form fresh works =
+    let s = c.read_stream.new.stream in
+    let h = c.in-Ended.ensures.read form fresh works in
     record {
       read = h.read;
-      consumed = Consumes-kept _ (g.R.Source.coming c.reads.reader) _ h.read h.consumed c.in-Err.ensures.bytes.0;
-      wanted = e.wanted;
-      parts = e.parts;
-      right = e.right;
-      wrote = e.wrote;
+      consumed = h.consumed;
+      wanted = h.wanted;
+      parts = h.parts;
+      right = early_right (g.S.StreamReader.took s form) (g.S.StreamReader.whole form) (g.S.StreamReader.closes form)
+          (g.S.StreamReader.unstopped form) (g.S.StreamReader.stops form) (g.met.S.StreamReader.closed s form) (g.met.S.StreamReader.passed s form)
+          _ h.wanted h.parts h.right;
+      wrote = h.wrote;
     }
 
-pub returns-then-count-eq0-clause-ran : goal.returns-then-count-eq0-clause-ran
-returns-then-count-eq0-clause-ran g c form fresh works =
-    let h = c.reads.invariant.read form fresh works in
-    let none = subst (λ (n : ℕ). Consumes (g.R.Source.coming c.reads.reader) (g.R.Source.coming c.pull.new.self) (take n c.pull.new.buffer)) c.if-count-eq0.true c.in-Ok.ensures.bytes.1 in
-    let e = c.told_stream_end.ensures.ended form (g.W.Sink.taken c.args.writer.now) h.read h.before (g.R.Source.coming c.pull.new.self) (g.R.Source.has_failed c.pull.new.self)
-    (c.in-Ok.ensures.bytes.2 c.if-count-eq0.true (omega (arith, c.pull.auto.buffer, c.reads.invariant.room))) (c.in-Ok.ensures.bytes.3 ∙ h.works) in
+pub returns-in-AtEnd-clause-ran : goal.returns-in-AtEnd-clause-ran
+returns-in-AtEnd-clause-ran g c form fresh works =
+    let h = c.in-AtEnd.ensures.read form fresh works in
+    let e = c.told_stream_end.ensures.ended form (g.W.Sink.taken c.args.writer.now) h.0.read h.0.before (g.R.Source.coming c.read_stream.new.reader)
+    (g.R.Source.has_failed c.read_stream.new.reader) h.1 h.0.works in
     record {
-      read = h.read;
-      consumed = subst (λ (t : List ℕ). Consumes (g.R.Source.coming c.args.reader.now) (g.R.Source.coming c.pull.new.self) t) (append-nil h.read) (Consumes-trans _ (g.R.Source.coming c.reads.reader) _ h.read [] h.consumed none);
-      wanted = e.wanted;
-      parts = e.parts;
-      right = e.right;
-      wrote = e.wrote;
-    }
-
-pub reads-smaller : goal.reads-smaller
-reads-smaller g c =
-    let i = c.reads.invariant.some in
-    let b = c.in-None.ensures.took i.0 i.2 i.3 i.4 in
-    let old = g.met.S.StreamReader.counted c.reads.stream i.0 i.3 i.4.parts i.4.took in
-    let new = g.met.S.StreamReader.counted c.take_parts.new.stream i.0 (i.3 ++ c.split_at.result.0.now) b.parts b.took in
-    omega (arith, old.0, old.1, new.0, new.1, i.1, length-append i.3 c.split_at.result.0.now, c.split_at.ensures.front_len, c.if-count-eq0.false)
-
-pub reads-preserved : goal.reads-preserved
-reads-preserved g c =
-    let i = c.reads.invariant.some in
-    let piece = c.split_at.result.0.now in
-    let b = c.in-None.ensures.took i.0 i.2 i.3 i.4 in
-    let old = g.met.S.StreamReader.counted c.reads.stream i.0 i.3 i.4.parts i.4.took in
-    let new = g.met.S.StreamReader.counted c.take_parts.new.stream i.0 (i.3 ++ piece) b.parts b.took in
-    record {
-      room = omega (arith, c.in-Ok.ensures.bytes.0, c.if-count-eq0.false);
-      some = (i.0, i.1, i.2, i.3 ++ piece, b);
-      asks = omega (arith, old.0, new.0, c.reads.invariant.asks, c.in-Ok.ensures.asks, length-append i.3 piece, c.split_at.ensures.front_len, c.if-count-eq0.false);
-      read = λ form fresh works.
-          let h = c.reads.invariant.read form fresh works in
-          record {
-            read = h.read ++ piece;
-            consumed = Consumes-trans _ (g.R.Source.coming c.reads.reader) _ h.read piece h.consumed (rw c.split_at.ensures.front c.in-Ok.ensures.bytes.1);
-            before = c.in-None.ensures.took form (g.W.Sink.taken c.args.writer.now) h.read h.before;
-            works = c.in-Ok.ensures.bytes.3 ∙ h.works;
-          };
-    }
-
-pub returns-in-Some-clause-ran : goal.returns-in-Some-clause-ran
-returns-in-Some-clause-ran g c form fresh works =
-    let h = c.reads.invariant.read form fresh works in
-    let piece = c.split_at.result.0.now in
-    let e = c.in-Some.ensures.took form (g.W.Sink.taken c.args.writer.now) h.read h.before (g.R.Source.coming c.pull.new.self) (g.R.Source.has_failed c.pull.new.self) in
-    record {
-      read = h.read ++ piece;
-      consumed = Consumes-trans _ (g.R.Source.coming c.reads.reader) _ h.read piece h.consumed (rw c.split_at.ensures.front c.in-Ok.ensures.bytes.1);
+      read = h.0.read;
+      consumed = h.0.consumed;
       wanted = e.wanted;
       parts = e.parts;
       right = e.right;

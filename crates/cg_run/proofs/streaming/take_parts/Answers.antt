@@ -38,6 +38,25 @@ loop-used-preserved g c =
           };
     }
 
+pub loop-used-preserved-in-Kept : goal.loop-used-preserved-in-Kept
+loop-used-preserved-in-Kept g c =
+    let at = c.loop-used.used in
+    let n = c.next-next.result.used in
+    let piece = c.args.piece.now in
+    let rest = c.split_at.result.1.now in
+    let left : length rest ≡ length (drop at piece) = ap length c.split_at.ensures.back in
+    record {
+      within = omega (arith, c.next-next.ensures.used, left, length-drop at piece, c.loop-used.invariant.within);
+      before = λ form first read h.
+          let b = c.loop-used.invariant.before form first read h in
+          let took = rw c.in-Kept.is at (c.next-next.ensures.found form (read ++ take at piece) b.parts b.took) in
+          record {
+            parts = b.parts;
+            took = subst (λ (t : List ℕ). g.S.StreamReader.took c.next-next.new.self form t b.parts) (text_on read piece rest at n c.split_at.ensures.back) took;
+            wrote = b.wrote;
+          };
+    }
+
 pub returns-in-Stopped-clause-took : goal.returns-in-Stopped-clause-took
 returns-in-Stopped-clause-took g c form first read h left failed =
     let at = c.loop-used.used in

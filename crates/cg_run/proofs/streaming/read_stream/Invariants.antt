@@ -1,6 +1,6 @@
 use Rattle.std.proofs.Common.{◌≡◌, ◌-◌, ◌+◌, ◌<◌, ◌≤◌, false, [], List, ℕ, Option, length}
 use Rattle.cg_run.specs.Streaming.{Before, StreamedSoFar}
-use Rattle.cg_run.proofs.streaming.run_stream.Given as goal
+use Rattle.cg_run.proofs.streaming.read_stream.Given as goal
 
 abbrev pub invariant-reads : goal.invariant-reads
 invariant-reads g l = record {

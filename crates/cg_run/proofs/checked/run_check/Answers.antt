@@ -1,0 +1,32 @@
+use Rattle.cg_snap.specs.Snap.{SnapText}
+use Rattle.cg_snap.specs.SnapStop.{IsSnapUnstopped, SnapStopOf}
+use Rattle.cg_run.specs.Check.{HasNoParts, PartsOfAll, finding_lines}
+use Rattle.cg_run.proofs.Checking.{early_checked}
+use Rattle.cg_run.proofs.checked.run_check.Goals as goal
+
+pub returns-in-Ended-clause-ran : goal.returns-in-Ended-clause-ran
+returns-in-Ended-clause-ran g c fresh =
+    let h = c.in-Ended.ensures.read (c.args.profile, c.args.limits) c.new-kept.ensures fresh in
+    record {
+      read = h.read;
+      consumed = h.consumed;
+      wanted = h.wanted;
+      parts = h.parts;
+      right = early_checked (PartsOfAll finding_lines (λ bytes es. SnapText c.args.profile es bytes)) HasNoParts (IsSnapUnstopped c.args.profile c.args.limits)
+          (SnapStopOf c.args.profile c.args.limits) _ h.wanted h.parts h.right;
+      wrote = h.wrote;
+    }
+
+pub returns-in-AtEnd-clause-ran : goal.returns-in-AtEnd-clause-ran
+returns-in-AtEnd-clause-ran g c fresh =
+    let h = c.in-AtEnd.ensures.read (c.args.profile, c.args.limits) c.new-kept.ensures fresh in
+    let e = c.told_findings.ensures.ended (c.args.profile, c.args.limits) (g.W.Sink.taken c.args.writer.now) h.0.read c.in-AtEnd.written h.0.before
+    (g.R.Source.coming c.read_stream.new.reader) (g.R.Source.has_failed c.read_stream.new.reader) h.1 h.0.works in
+    record {
+      read = h.0.read;
+      consumed = h.0.consumed;
+      wanted = e.wanted;
+      parts = e.parts;
+      right = e.right;
+      wrote = e.wrote;
+    }

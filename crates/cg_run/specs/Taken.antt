@@ -1,0 +1,18 @@
+-- What holds of a decoder that took some bytes.
+use Rattle.std.proofs.Common.{◌≡◌, ℕ, ◌≤◌, List, length, subst, ap, arith}
+use Rattle.cg_value.specs.Entry.{EntryData}
+use Rattle.cg_value.specs.declared.profile.Profile.{Profile}
+use Rattle.cg_snap.specs.Decode.{HasTaken}
+use Rattle.cg_snap.specs.Decoder.{offset_of, profile_of}
+use Rattle.cg_snap.specs.SnapStop.{IsSnapUnstopped}
+use Rattle.cg_snap.specs.declared.decoder.SnapshotDecoder.{SnapshotDecoder}
+use Rattle.cg_snap.specs.declared.limits.Limits.{Limits}
+
+module _ (d : SnapshotDecoder) (profile : Profile) (limits : Limits) (p : List ℕ) (es : List EntryData) (h : HasTaken d profile limits p es) where
+  pub taken_unstopped : IsSnapUnstopped profile limits p
+  taken_unstopped =
+      subst (λ (q : Profile). IsSnapUnstopped q limits p) h.profile_is
+      (subst (λ (l : Limits). IsSnapUnstopped (profile_of d) l p) h.limits_is h.stands.unstopped)
+
+  pub taken_counted : (offset_of d ≡ length p) × (length p ≤ limits.max_stream)
+  taken_counted = (h.stands.counted.offset, omega (arith, h.stands.counted.within, ap (λ (l : Limits). l.max_stream) h.limits_is))

@@ -1,0 +1,133 @@
+//! A run that checks a snapshot: a line for each finding, after the end of input.
+ghost use Rattle.std.specs.Prelude.{◌≡◌, ◌≤◌, ◌+◌, ℕ, Bool, false, List, [], ◌∷◌, ◌++◌, Option, IfOk, OnOk, map};
+ghost use Rattle.std.specs.Io.KnownBytes.{IsAtEnd};
+ghost use Rattle.cg_run.specs.Check.{finding_line, word_at};
+ghost use Rattle.cg_run.specs.Checked.{HasWrittenLines};
+ghost use Rattle.cg_run.specs.Kept.{HasKept};
+ghost use Rattle.cg_run.specs.Run.{DidRun, IsCheckedRight, IsRealFault};
+ghost use Rattle.cg_run.specs.Streaming.{Before, EndsSo, HasWritten};
+
+use crate::kept::KeptReader;
+use crate::outcome::Outcome;
+use crate::source::Source;
+use crate::streaming::{Streamed, read_stream};
+use crate::told::{told_after, told_part};
+use cg_print::Sink;
+use cg_snap::{Limits, StreamFault};
+use cg_text::OutOfMemory;
+use cg_tree::{Finding, findings};
+use cg_value::{Entry, Profile, Value};
+use std::alloc::Global;
+
+/// The word at this place of those that an entry holds, nothing where there is none.
+fn word_of(entry: &Entry, place: usize) -> &[u8]
+    ensures { result.now ≡ word_at entry.now.value place }
+{
+    match entry.value() {
+        Value::Words(words) => match words.as_slice().get(place) {
+            Some(word) => word.bytes(),
+            None => &[],
+        },
+        _ => &[],
+    }
+}
+
+/// Adds the path of a `cgroup.subtree_control`, a space and its word at this place.
+fn add_control(line: &mut Vec<u8>, control: &Entry, place: usize) -> Result<(), OutOfMemory>
+    ensures { OnOk result (line.new.items ≡ line.old.items ++ (control.now.path ++ 32 ∷ word_at control.now.value place)) }
+{
+    line.extend_from_slice(control.path())?;
+    line.push(b' ')?;
+    line.extend_from_slice(word_of(control, place))?;
+    Ok(())
+}
+
+/// The line with its newline.
+fn ended(mut line: Vec<u8>) -> Result<Vec<u8>, OutOfMemory>
+    ensures { IfOk result (λ whole. whole.items ≡ line.items ++ 10 ∷ []) }
+{
+    line.push(b'\n')?;
+    Ok(line)
+}
+
+/// The line of a finding: the rule, the path of the `cgroup.subtree_control` and the word, with a space between.
+fn line_of(alloc: Global, entries: &[Entry], finding: &Finding) -> Result<Vec<u8>, OutOfMemory>
+    ensures { IfOk result (λ line. line.items ≡ finding_line entries.now finding.now) }
+{
+    let mut line = Vec::from_slice(alloc, finding.rule.name().as_bytes())?;
+    line.push(b' ')?;
+    match entries.get(finding.at) {
+        Some(control) => {
+            add_control(&mut line, control, finding.word)?;
+            ended(line)
+        }
+        None => ended(line),
+    }
+}
+
+/// Writes a line for each finding.
+fn told_lines<W: Sink>(
+    alloc: Global,
+    entries: &[Entry],
+    found: &[Finding],
+    writer: &mut W,
+) -> Outcome
+    ensures told { (first : Option (List ℕ)) → HasWritten first (W.taken writer.old) [] 0 →
+        HasWrittenLines (map (finding_line entries.now) found.now) first (W.taken writer.new) (W.has_failed writer.new) result }
+    ensures real { IsRealFault result (W.has_failed writer.new) }
+{
+    let mut written = 0;
+    for finding in found {
+        match line_of(alloc, entries, finding) {
+            Ok(line) => match told_part(writer, line.as_slice(), &mut written) {
+                None => {}
+                Some(fault) => return fault,
+            },
+            Err(_) => return told_after(writer, written, Outcome::OutOfMemory),
+        }
+    }
+    if found.is_empty() {
+        Outcome::Done
+    } else {
+        Outcome::Findings(found.len() as u64)
+    }
+}
+
+/// Writes what the entries of the snapshot break, once its input has ended.
+fn told_findings<W: Sink>(alloc: Global, kept: KeptReader, writer: &mut W) -> Outcome
+    ensures ended { (form : Profile × Limits) (first : Option (List ℕ)) (read : List ℕ) (written : ℕ) → Before (HasKept kept form) first (W.taken writer.old) written read →
+        (left : Option (List ℕ)) (failed : Bool) → IsAtEnd left → failed ≡ false →
+        EndsSo (IsCheckedRight (form.0) (form.1)) read left failed first (W.taken writer.new) (W.has_failed writer.new) result }
+    ensures real { IsRealFault result (W.has_failed writer.new) }
+{
+    let entries = match kept.finish() {
+        Ok(entries) => entries,
+        Err(StreamFault::Stopped(stop)) => return told_after(writer, 0, Outcome::Stopped(stop)),
+        Err(StreamFault::OutOfMemory) => return told_after(writer, 0, Outcome::OutOfMemory),
+    };
+    match findings(alloc, entries.as_slice()) {
+        Ok(found) => told_lines(alloc, entries.as_slice(), found.as_slice(), writer),
+        Err(_) => told_after(writer, 0, Outcome::OutOfMemory),
+    }
+}
+
+/// Reads a snapshot, keeps its entries, and writes what they break after the end of input.
+pub(crate) fn run_check<R: Source, W: Sink>(
+    alloc: Global,
+    profile: Profile,
+    limits: Limits,
+    reader: &mut R,
+    writer: &mut W,
+) -> Outcome
+    ensures ran { R.has_failed reader.old ≡ false → DidRun (IsCheckedRight profile limits)
+        (R.coming reader.old) (R.coming reader.new) (R.has_failed reader.new)
+        (W.taken writer.old) (W.taken writer.new) (W.has_failed writer.new) result }
+    ensures real { IsRealFault result (W.has_failed writer.new) }
+    ensures asks { R.asks reader.new ≤ R.asks reader.old + limits.max_stream + 1 }
+{
+    let mut kept = KeptReader::new(alloc, profile, limits);
+    match read_stream(&mut kept, reader, writer, limits.max_stream) {
+        Streamed::Ended(outcome) => outcome,
+        Streamed::AtEnd { .. } => told_findings(alloc, kept, writer),
+    }
+}

@@ -1,0 +1,114 @@
+//! The entries of a snapshot, which are kept until its end.
+ghost use Rattle.std.specs.Prelude.{◌≡◌, ℕ, List, [], ◌∷◌, ◌++◌, MatchResult, OnOk};
+ghost use Rattle.cg_snap.specs.Snap.{SnapText};
+ghost use Rattle.cg_run.specs.Checked.{IsKeptFault};
+
+use crate::stream_reader::{Found, Next, StreamReader};
+use cg_snap::{Limits, SnapshotDecoder, StreamFault, What};
+use cg_text::OutOfMemory;
+use cg_value::{Entry, Profile};
+use std::alloc::Global;
+
+/// A reader of a snapshot, of which the entries are kept.
+#[derive(Drop)]
+pub(crate) struct KeptReader {
+    decoder: SnapshotDecoder,
+    entries: Vec<Entry>,
+}
+
+impl KeptReader {
+    ghost use Rattle.cg_run.specs.Kept.{HasKept};
+
+    /// A reader that consumed nothing.
+    pub(crate) fn new(alloc: Global, profile: Profile, limits: Limits) -> KeptReader
+        ensures { HasKept result (profile, limits) [] [] }
+    {
+        KeptReader {
+            decoder: SnapshotDecoder::new(alloc, profile, limits),
+            entries: Vec::new(alloc),
+        }
+    }
+
+    /// All entries of the snapshot, once its input has ended.
+    pub(crate) fn finish(self) -> Result<Vec<Entry>, StreamFault>
+        ensures { (form : Profile × Limits) (p : List ℕ) (parts : List (List ℕ)) → HasKept self form p parts →
+            MatchResult result (λ entries. SnapText (form.0) entries.items p) (IsKeptFault (form.0) p) }
+    {
+        let mut entries = self.entries;
+        match self.decoder.finish() {
+            Ok(None) => Ok(entries),
+            Ok(Some(entry)) => match entries.push(entry) {
+                Ok(()) => Ok(entries),
+                Err(_) => Err(StreamFault::OutOfMemory),
+            },
+            Err(stop) => Err(StreamFault::Stopped(stop)),
+        }
+    }
+}
+
+/// Keeps an entry behind the others.
+fn keep(entries: &mut Vec<Entry>, entry: Entry) -> Result<(), OutOfMemory>
+    ensures { OnOk result (entries.new.items ≡ entries.old.items ++ entry ∷ []) }
+{
+    entries.push(entry)?;
+    Ok(())
+}
+
+impl StreamReader for KeptReader {
+    type Form = (Profile, Limits);
+
+    ghost use Rattle.cg_run.specs.Check.{HasNoParts, PartsOfAll, finding_lines};
+    ghost use Rattle.cg_run.specs.Kept.{HasKept, kept_closed, kept_counted, kept_offset, kept_passed};
+    ghost use Rattle.cg_snap.specs.Snap.{SnapText};
+    ghost use Rattle.cg_snap.specs.SnapStop.{IsSnapUnstopped, SnapStopOf};
+
+    ghost whole = { λ form. PartsOfAll finding_lines (λ bytes es. SnapText (form.0) es bytes) };
+
+    ghost closes = { λ form. HasNoParts };
+
+    ghost unstopped = { λ form. IsSnapUnstopped (form.0) (form.1) };
+
+    ghost stops = { λ form. SnapStopOf (form.0) (form.1) };
+
+    ghost limit = { λ form. form.1.max_stream };
+
+    ghost offset = { kept_offset };
+
+    ghost took = { HasKept };
+
+    ghost closed = { kept_closed };
+
+    ghost passed = { kept_passed };
+
+    ghost counted = { kept_counted };
+
+    fn next(&mut self, piece: &[u8]) -> Next {
+        let pulled = self.decoder.next(piece);
+        let used = pulled.used;
+        match pulled.what {
+            What::NeedMore => Next {
+                used,
+                found: Found::NeedMore,
+            },
+            What::Entry(entry) => match keep(&mut self.entries, entry) {
+                Ok(()) => Next {
+                    used,
+                    found: Found::Kept,
+                },
+                // The byte that closes the entry wants the memory.
+                Err(_) => Next {
+                    used: used - 1,
+                    found: Found::OutOfMemory,
+                },
+            },
+            What::Stopped(stop) => Next {
+                used,
+                found: Found::Stopped(stop),
+            },
+            What::OutOfMemory => Next {
+                used,
+                found: Found::OutOfMemory,
+            },
+        }
+    }
+}
