@@ -1,5 +1,5 @@
 -- What holds of the file table.
-use Rattle.std.proofs.Common.{◌≡◌, ℕ, zero, suc, ◌<◌, length, map, slice_index_or, ◌≤◌, List, [], ◌∷◌, Option, Some, None, Bool, true, false, cond, refl, sym, ◌∙◌, ap, arith, inl, inr}
+use Rattle.std.proofs.Common.{◌≡◌, ℕ, zero, suc, ◌<◌, length, map, slice_index_or, ◌≤◌, List, [], ◌∷◌, Option, Some, None, Bool, true, false, cond, drop, refl, sym, ◌∙◌, ap, arith, inl, inr}
 use Rattle.std.specs.Prelude.{if◌then◌else◌, IfSome, MatchOption}
 use Rattle.std.specs.Option.{option_map}
 use Rattle.std.specs.Str.{bytes_eq}
@@ -38,12 +38,14 @@ abbrev pub forms_in : List Row → List ℕ → Option Forms
 forms_in [] name = None
 forms_in (r ∷ rs) name = if bytes_eq r.name name then Some (record { reads = r.reads; writes = r.writes }) else forms_in rs name
 
+-- A row of the second profile, as the profile has it.
+abbrev row_in : Profile → Row → Row
+row_in profile r = record { name = r.name; reads = option_map (read_in profile) r.reads; writes = option_map (write_in profile) r.writes }
+
 -- The rows are those of the second profile, as the profile has them.
-abbrev Agree : Profile → List Row → List Row → Type 0
-Agree profile [] [] = Unit {0}
-Agree profile [] (q ∷ qs) = ⊥
-Agree profile (r ∷ rs) [] = ⊥
-Agree profile (r ∷ rs) (q ∷ qs) = (r.name ≡ q.name) × (option_map (read_in profile) r.reads ≡ q.reads) × (option_map (write_in profile) r.writes ≡ q.writes) × Agree profile rs qs
+rows_are : (profile : Profile) → map (row_in profile) (rows Two) ≡ rows profile
+rows_are One = refl
+rows_are Two = refl
 
 abbrev reads_of : Profile → Option Forms → Option ReadForm
 reads_of profile None = Some read.Raw
@@ -53,61 +55,56 @@ abbrev writes_of : Profile → Option Forms → Option WriteForm
 writes_of profile None = Some write.Raw
 writes_of profile (Some f) = option_map (write_in profile) f.writes
 
-reads_same : (profile : Profile) (rs qs : List Row) (name : List ℕ) → Agree profile rs qs → reads_of profile (forms_in rs name) ≡ reads_in qs name
-reads_same profile [] [] name a = refl
-reads_same profile [] (q ∷ qs) name a = absurd a
-reads_same profile (r ∷ rs) [] name a = absurd a
-reads_same profile (r ∷ rs) (q ∷ qs) name a = rw (← a.0) (pick_reads profile r.reads r.writes (bytes_eq r.name name) q.reads a.1 (forms_in rs name) (reads_in qs name) (reads_same profile rs qs name a.3))
+reads_same : (profile : Profile) (rs : List Row) (name : List ℕ) → reads_of profile (forms_in rs name) ≡ reads_in (map (row_in profile) rs) name
+reads_same profile [] name = refl
+reads_same profile (r ∷ rs) name =
+    pick_reads profile r.reads r.writes (bytes_eq r.name name) (forms_in rs name) (reads_in (map (row_in profile) rs) name) (reads_same profile rs name)
   where
-    pick_reads : (profile : Profile) (o : Option ReadForm) (p : Option WriteForm) (b : Bool) (u : Option ReadForm) →
-        option_map (read_in profile) o ≡ u → (y : Option Forms) (v : Option ReadForm) → reads_of profile y ≡ v →
-        reads_of profile (cond b (Some (record { reads = o; writes = p })) y) ≡ cond b u v
-    pick_reads profile o p true u e y v g = e
-    pick_reads profile o p false u e y v g = g
+    pick_reads : (profile : Profile) (o : Option ReadForm) (p : Option WriteForm) (b : Bool) (y : Option Forms) (v : Option ReadForm) → reads_of profile y ≡ v →
+        reads_of profile (cond b (Some (record { reads = o; writes = p })) y) ≡ cond b (option_map (read_in profile) o) v
+    pick_reads profile o p true y v g = refl
+    pick_reads profile o p false y v g = g
 
-writes_same : (profile : Profile) (rs qs : List Row) (name : List ℕ) → Agree profile rs qs → writes_of profile (forms_in rs name) ≡ writes_in qs name
-writes_same profile [] [] name a = refl
-writes_same profile [] (q ∷ qs) name a = absurd a
-writes_same profile (r ∷ rs) [] name a = absurd a
-writes_same profile (r ∷ rs) (q ∷ qs) name a = rw (← a.0) (pick_writes profile r.reads r.writes (bytes_eq r.name name) q.writes a.2 (forms_in rs name) (writes_in qs name) (writes_same profile rs qs name a.3))
+reads_are : (profile : Profile) (name : List ℕ) → reads_of profile (forms_in (rows Two) name) ≡ reads_in (rows profile) name
+reads_are profile name = reads_same profile (rows Two) name ∙ ap (λ (rs : List Row). reads_in rs name) (rows_are profile)
+
+writes_same : (profile : Profile) (rs : List Row) (name : List ℕ) → writes_of profile (forms_in rs name) ≡ writes_in (map (row_in profile) rs) name
+writes_same profile [] name = refl
+writes_same profile (r ∷ rs) name =
+    pick_writes profile r.reads r.writes (bytes_eq r.name name) (forms_in rs name) (writes_in (map (row_in profile) rs) name) (writes_same profile rs name)
   where
-    pick_writes : (profile : Profile) (o : Option ReadForm) (p : Option WriteForm) (b : Bool)
-        (u : Option WriteForm) → option_map (write_in profile) p ≡ u → (y : Option Forms) (v : Option WriteForm) →
-        writes_of profile y ≡ v → writes_of profile (cond b (Some (record { reads = o; writes = p })) y)
-        ≡ cond b u v
-    pick_writes profile o p true u e y v g = e
-    pick_writes profile o p false u e y v g = g
+    pick_writes : (profile : Profile) (o : Option ReadForm) (p : Option WriteForm) (b : Bool) (y : Option Forms) (v : Option WriteForm) → writes_of profile y ≡ v →
+        writes_of profile (cond b (Some (record { reads = o; writes = p })) y) ≡ cond b (option_map (write_in profile) p) v
+    pick_writes profile o p true y v g = refl
+    pick_writes profile o p false y v g = g
 
-agree : (profile : Profile) → Agree profile (rows Two) (rows profile)
-agree One =
-    (refl, refl, refl, (refl, refl, refl, (refl, refl, refl, (refl, refl, refl, (refl, refl, refl, (refl, refl, refl, (refl, refl, refl, (refl, refl, refl, (refl, refl, refl, (refl, refl, refl, (refl, refl, refl, (refl, refl, refl, (refl, refl, refl, (refl, refl, refl, (refl, refl, refl, (refl, refl, refl, (refl, refl, refl, (refl, refl, refl, (refl, refl, refl, (refl, refl, refl, (refl, refl, refl, (refl, refl, refl, (refl, refl, refl, (refl, refl, refl, (refl, refl, refl, (refl, refl, refl, (refl, refl, refl, (refl, refl, refl, (refl, refl, refl, (refl, refl, refl, (refl, refl, refl, (refl, refl, refl, (refl, refl, refl, (refl, refl, refl, (refl, refl, refl, (refl, refl, refl, (refl, refl, refl, (refl, refl, refl, (refl, refl, refl, (refl, refl, refl, (refl, refl, refl, (refl, refl, refl, (refl, refl, refl, (refl, refl, refl, (refl, refl, refl, (refl, refl, refl, (refl, refl, refl, (refl, refl, refl, (refl, refl, refl, (refl, refl, refl, (refl, refl, refl, (refl, refl, refl, (refl, refl, refl, (refl, refl, refl, (refl, refl, refl, (refl, refl, refl, (refl, refl, refl, (refl, refl, refl, (refl, refl, refl, (refl, refl, refl, tt))))))))))))))))))))))))))))))))))))))))))))))))))))))))))))
-agree Two =
-    (refl, refl, refl, (refl, refl, refl, (refl, refl, refl, (refl, refl, refl, (refl, refl, refl, (refl, refl, refl, (refl, refl, refl, (refl, refl, refl, (refl, refl, refl, (refl, refl, refl, (refl, refl, refl, (refl, refl, refl, (refl, refl, refl, (refl, refl, refl, (refl, refl, refl, (refl, refl, refl, (refl, refl, refl, (refl, refl, refl, (refl, refl, refl, (refl, refl, refl, (refl, refl, refl, (refl, refl, refl, (refl, refl, refl, (refl, refl, refl, (refl, refl, refl, (refl, refl, refl, (refl, refl, refl, (refl, refl, refl, (refl, refl, refl, (refl, refl, refl, (refl, refl, refl, (refl, refl, refl, (refl, refl, refl, (refl, refl, refl, (refl, refl, refl, (refl, refl, refl, (refl, refl, refl, (refl, refl, refl, (refl, refl, refl, (refl, refl, refl, (refl, refl, refl, (refl, refl, refl, (refl, refl, refl, (refl, refl, refl, (refl, refl, refl, (refl, refl, refl, (refl, refl, refl, (refl, refl, refl, (refl, refl, refl, (refl, refl, refl, (refl, refl, refl, (refl, refl, refl, (refl, refl, refl, (refl, refl, refl, (refl, refl, refl, (refl, refl, refl, (refl, refl, refl, (refl, refl, refl, (refl, refl, refl, (refl, refl, refl, tt))))))))))))))))))))))))))))))))))))))))))))))))))))))))))))
+writes_are : (profile : Profile) (name : List ℕ) → writes_of profile (forms_in (rows Two) name) ≡ writes_in (rows profile) name
+writes_are profile name = writes_same profile (rows Two) name ∙ ap (λ (rs : List Row). writes_in rs name) (rows_are profile)
 
 -- What a row says of a name, and what its absence says.
 pub read_form_in : (profile : Profile) (name : List ℕ) (f : Forms) (form : ReadForm) → Some f ≡ forms_in (rows Two) name → f.reads ≡ Some form → read_form_of profile name ≡ Some (read_in profile form)
 unfolding read_form_of
-read_form_in profile name f form e h = sym (reads_same profile (rows Two) (rows profile) name (agree profile)) ∙ ap (reads_of profile) (sym e) ∙ ap (option_map (read_in profile)) h
+read_form_in profile name f form e h = sym (reads_are profile name) ∙ ap (reads_of profile) (sym e) ∙ ap (option_map (read_in profile)) h
 
 pub read_form_none : (profile : Profile) (name : List ℕ) (f : Forms) → Some f ≡ forms_in (rows Two) name → f.reads ≡ None → read_form_of profile name ≡ None
 unfolding read_form_of
-read_form_none profile name f e h = sym (reads_same profile (rows Two) (rows profile) name (agree profile)) ∙ ap (reads_of profile) (sym e) ∙ ap (option_map (read_in profile)) h
+read_form_none profile name f e h = sym (reads_are profile name) ∙ ap (reads_of profile) (sym e) ∙ ap (option_map (read_in profile)) h
 
 pub read_form_raw : (profile : Profile) (name : List ℕ) → None ≡ forms_in (rows Two) name → read_form_of profile name ≡ Some read.Raw
 unfolding read_form_of
-read_form_raw profile name e = sym (reads_same profile (rows Two) (rows profile) name (agree profile)) ∙ ap (reads_of profile) (sym e)
+read_form_raw profile name e = sym (reads_are profile name) ∙ ap (reads_of profile) (sym e)
 
 pub write_form_in : (profile : Profile) (name : List ℕ) (f : Forms) (form : WriteForm) → Some f ≡ forms_in (rows Two) name → f.writes ≡ Some form → write_form_of profile name ≡ Some (write_in profile form)
 unfolding write_form_of
-write_form_in profile name f form e h = sym (writes_same profile (rows Two) (rows profile) name (agree profile)) ∙ ap (writes_of profile) (sym e) ∙ ap (option_map (write_in profile)) h
+write_form_in profile name f form e h = sym (writes_are profile name) ∙ ap (writes_of profile) (sym e) ∙ ap (option_map (write_in profile)) h
 
 pub write_form_none : (profile : Profile) (name : List ℕ) (f : Forms) → Some f ≡ forms_in (rows Two) name → f.writes ≡ None → write_form_of profile name ≡ None
 unfolding write_form_of
-write_form_none profile name f e h = sym (writes_same profile (rows Two) (rows profile) name (agree profile)) ∙ ap (writes_of profile) (sym e) ∙ ap (option_map (write_in profile)) h
+write_form_none profile name f e h = sym (writes_are profile name) ∙ ap (writes_of profile) (sym e) ∙ ap (option_map (write_in profile)) h
 
 pub write_form_raw : (profile : Profile) (name : List ℕ) → None ≡ forms_in (rows Two) name → write_form_of profile name ≡ Some write.Raw
 unfolding write_form_of
-write_form_raw profile name e = sym (writes_same profile (rows Two) (rows profile) name (agree profile)) ∙ ap (writes_of profile) (sym e)
+write_form_raw profile name e = sym (writes_are profile name) ∙ ap (writes_of profile) (sym e)
 
 -- The forms of the table are those of kinds.
 abbrev ReadOk : Option ReadForm → Type 0
@@ -136,11 +133,31 @@ writes_ok (r ∷ rs) name a = picked WriteOk (bytes_eq r.name name) r.writes (wr
 
 all_ok_one : AllOk (rows One)
 all_ok_one =
-    (tt, tt, ((omega arith, omega arith), (omega arith, omega arith), ((omega arith, omega arith), (omega arith, omega arith), (tt, tt, (tt, tt, (tt, tt, (tt, tt, (tt, (omega arith, omega arith), (tt, (omega arith, omega arith), ((omega arith, omega arith), (omega arith, omega arith), ((omega arith, omega arith), (omega arith, omega arith), (tt, (omega arith, omega arith), (tt, tt, ((omega arith, omega arith), (omega arith, omega arith), ((refl, refl), (refl, refl), ((omega arith, omega arith), (omega arith, omega arith), (tt, tt, ((omega arith, omega arith), (omega arith, omega arith), (tt, tt, (tt, tt, (tt, tt, ((omega arith, omega arith), tt, ((omega arith, omega arith), tt, ((omega arith, omega arith), tt, ((omega arith, omega arith), tt, ((omega arith, omega arith), tt, (tt, tt, (tt, tt, (tt, tt, (tt, tt, (tt, tt, (tt, tt, (tt, tt, ((omega arith, omega arith), (omega arith, omega arith), ((omega arith, omega arith), (omega arith, omega arith), (tt, tt, (tt, tt, (tt, tt, (tt, tt, (tt, tt, (tt, tt, (tt, tt, (tt, tt, (tt, tt, (tt, tt, (tt, tt, (tt, tt, (tt, tt, (tt, (omega arith, omega arith), ((omega arith, omega arith), tt, ((omega arith, omega arith), tt, (tt, tt, (inl refl, inl refl, (inl refl, inl refl, (inl refl, tt, (inl refl, tt, (inl refl, inl refl, (inl refl, tt, (inl refl, tt, (tt, tt, tt))))))))))))))))))))))))))))))))))))))))))))))))))))))))))))
+    let from_52 : AllOk (drop 52 (rows One)) = (inl refl, inl refl, (inl refl, inl refl, (inl refl, tt, (inl refl, tt, (inl refl, inl refl, (inl refl, tt, (inl refl, tt, (tt, tt, tt)))))))) in
+    let from_45 : AllOk (drop 45 (rows One)) = (tt, tt, (tt, tt, (tt, tt, (tt, (omega arith, omega arith), ((omega arith, omega arith), tt, ((omega arith, omega arith), tt, (tt, tt, from_52))))))) in
+    let from_35 : AllOk (drop 35 (rows One)) = (tt, tt, (tt, tt, (tt, tt, (tt, tt, (tt, tt, (tt, tt, (tt, tt, (tt, tt, (tt, tt, (tt, tt, from_45)))))))))) in
+    let from_31 : AllOk (drop 31 (rows One)) = (tt, tt, (tt, tt, ((omega arith, omega arith), (omega arith, omega arith), ((omega arith, omega arith), (omega arith, omega arith), from_35)))) in
+    let from_24 : AllOk (drop 24 (rows One)) = ((omega arith, omega arith), tt, ((omega arith, omega arith), tt, (tt, tt, (tt, tt, (tt, tt, (tt, tt, (tt, tt, from_31))))))) in
+    let from_18 : AllOk (drop 18 (rows One)) = (tt, tt, (tt, tt, (tt, tt, ((omega arith, omega arith), tt, ((omega arith, omega arith), tt, ((omega arith, omega arith), tt, from_24)))))) in
+    let from_15 : AllOk (drop 15 (rows One)) = ((omega arith, omega arith), (omega arith, omega arith), (tt, tt, ((omega arith, omega arith), (omega arith, omega arith), from_18))) in
+    let from_11 : AllOk (drop 11 (rows One)) = (tt, (omega arith, omega arith), (tt, tt, ((omega arith, omega arith), (omega arith, omega arith), ((refl, refl), (refl, refl), from_15)))) in
+    let from_9 : AllOk (drop 9 (rows One)) = ((omega arith, omega arith), (omega arith, omega arith), ((omega arith, omega arith), (omega arith, omega arith), from_11)) in
+    let from_3 : AllOk (drop 3 (rows One)) = (tt, tt, (tt, tt, (tt, tt, (tt, tt, (tt, (omega arith, omega arith), (tt, (omega arith, omega arith), from_9)))))) in
+    (tt, tt, ((omega arith, omega arith), (omega arith, omega arith), ((omega arith, omega arith), (omega arith, omega arith), from_3)))
 
 all_ok_two : AllOk (rows Two)
 all_ok_two =
-    (tt, tt, ((omega arith, omega arith), (omega arith, omega arith), ((omega arith, omega arith), (omega arith, omega arith), (tt, tt, (tt, tt, (tt, tt, (tt, tt, (tt, (omega arith, omega arith), (tt, (omega arith, omega arith), ((omega arith, omega arith), (omega arith, omega arith), ((omega arith, omega arith), (omega arith, omega arith), (tt, (omega arith, omega arith), (tt, tt, ((omega arith, omega arith), (omega arith, omega arith), ((refl, refl), (refl, refl), ((omega arith, omega arith), (omega arith, omega arith), (tt, tt, ((omega arith, omega arith), (omega arith, omega arith), (tt, tt, (tt, tt, (tt, tt, ((omega arith, omega arith), tt, ((omega arith, omega arith), tt, ((omega arith, omega arith), tt, ((omega arith, omega arith), tt, ((omega arith, omega arith), tt, (tt, tt, (tt, tt, (tt, tt, (tt, tt, (tt, tt, (tt, tt, (tt, tt, ((omega arith, omega arith), (omega arith, omega arith), ((omega arith, omega arith), (omega arith, omega arith), (tt, tt, (tt, tt, (tt, tt, (tt, tt, (tt, tt, (tt, tt, (tt, tt, (tt, tt, (tt, tt, (tt, tt, (tt, tt, (tt, tt, (tt, tt, (tt, (omega arith, omega arith), ((omega arith, omega arith), tt, ((omega arith, omega arith), tt, (tt, tt, (inr refl, inr refl, (inr refl, inr refl, (inr refl, tt, (inr refl, tt, (inr refl, inr refl, (inr refl, tt, (inr refl, tt, (tt, tt, tt))))))))))))))))))))))))))))))))))))))))))))))))))))))))))))
+    let from_52 : AllOk (drop 52 (rows Two)) = (inr refl, inr refl, (inr refl, inr refl, (inr refl, tt, (inr refl, tt, (inr refl, inr refl, (inr refl, tt, (inr refl, tt, (tt, tt, tt)))))))) in
+    let from_45 : AllOk (drop 45 (rows Two)) = (tt, tt, (tt, tt, (tt, tt, (tt, (omega arith, omega arith), ((omega arith, omega arith), tt, ((omega arith, omega arith), tt, (tt, tt, from_52))))))) in
+    let from_35 : AllOk (drop 35 (rows Two)) = (tt, tt, (tt, tt, (tt, tt, (tt, tt, (tt, tt, (tt, tt, (tt, tt, (tt, tt, (tt, tt, (tt, tt, from_45)))))))))) in
+    let from_31 : AllOk (drop 31 (rows Two)) = (tt, tt, (tt, tt, ((omega arith, omega arith), (omega arith, omega arith), ((omega arith, omega arith), (omega arith, omega arith), from_35)))) in
+    let from_24 : AllOk (drop 24 (rows Two)) = ((omega arith, omega arith), tt, ((omega arith, omega arith), tt, (tt, tt, (tt, tt, (tt, tt, (tt, tt, (tt, tt, from_31))))))) in
+    let from_18 : AllOk (drop 18 (rows Two)) = (tt, tt, (tt, tt, (tt, tt, ((omega arith, omega arith), tt, ((omega arith, omega arith), tt, ((omega arith, omega arith), tt, from_24)))))) in
+    let from_15 : AllOk (drop 15 (rows Two)) = ((omega arith, omega arith), (omega arith, omega arith), (tt, tt, ((omega arith, omega arith), (omega arith, omega arith), from_18))) in
+    let from_11 : AllOk (drop 11 (rows Two)) = (tt, (omega arith, omega arith), (tt, tt, ((omega arith, omega arith), (omega arith, omega arith), ((refl, refl), (refl, refl), from_15)))) in
+    let from_9 : AllOk (drop 9 (rows Two)) = ((omega arith, omega arith), (omega arith, omega arith), ((omega arith, omega arith), (omega arith, omega arith), from_11)) in
+    let from_3 : AllOk (drop 3 (rows Two)) = (tt, tt, (tt, tt, (tt, tt, (tt, tt, (tt, (omega arith, omega arith), (tt, (omega arith, omega arith), from_9)))))) in
+    (tt, tt, ((omega arith, omega arith), (omega arith, omega arith), ((omega arith, omega arith), (omega arith, omega arith), from_3)))
 
 all_ok : (profile : Profile) → AllOk (rows profile)
 all_ok One = all_ok_one
