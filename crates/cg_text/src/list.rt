@@ -93,7 +93,7 @@ pub(crate) fn list_byte(
 }
 
 /// Sets the last range.
-fn set_last(ranges: &mut Vec<(u32, u32)>, begin: u32, end: u32)
+pub(crate) fn set_last(ranges: &mut Vec<(u32, u32)>, begin: u32, end: u32)
     requires { 0 < length ranges.old.items }
     ensures items { ranges.new.items ≡ front ranges.old.items ++ (begin, end) ∷ [] }
     ensures room { vec_len ranges.old < vec_capacity ranges.old → vec_len ranges.new < vec_capacity ranges.new }
@@ -103,7 +103,7 @@ fn set_last(ranges: &mut Vec<(u32, u32)>, begin: u32, end: u32)
 }
 
 /// Sets the last range, and begins another.
-fn close(ranges: &mut Vec<(u32, u32)>, begin: u32, end: u32) -> Result<(), OutOfMemory>
+pub(crate) fn close(ranges: &mut Vec<(u32, u32)>, begin: u32, end: u32) -> Result<(), OutOfMemory>
     requires { 0 < length ranges.old.items }
     ensures closed { OnOk result (ranges.new.items ≡ (front ranges.old.items ++ (begin, end) ∷ []) ++ (0, 0) ∷ []) }
     ensures same { OnErr result (ranges.new.items ≡ ranges.old.items) }

@@ -4,15 +4,14 @@ ghost use Rattle.cg_text.specs.Token.{Spells};
 ghost use Rattle.cg_text.specs.List.{IsLooseList};
 ghost use Rattle.cg_text.specs.RangesState.{front, number_rest};
 ghost use Rattle.cg_text.specs.LooseState.{IsLooseRest, IsSound, Adds};
-ghost use Rattle.cg_text.specs.Numbers.{IsSet};
-ghost use Rattle.cg_text.specs.NumbersLaws.{inserted};
+ghost use Rattle.cg_text.specs.Numbers.{AreRanges};
 ghost use Rattle.cg_text.specs.DecimalState.{decimal_ends};
-ghost use Rattle.cg_text.specs.LooseSound.{set_prop, sound_prop};
+ghost use Rattle.cg_text.specs.LooseSound.{ranges_prop, sound_prop};
 
 use crate::decimal::DecimalText;
-use crate::list::{ListByte, list_byte, open};
+use crate::list::{ListByte, close, list_byte, open, set_last};
 use crate::memory::OutOfMemory;
-use crate::numbers::{NumberSet, insert_into};
+use crate::numbers::{NumberSet, join};
 use crate::token::Token;
 use std::alloc::Global;
 
@@ -20,51 +19,15 @@ use std::alloc::Global;
 #[derive(Drop)]
 pub struct LooseListText {
     most: u64,
-    /// The set of the ranges so far, and a place for the present one.
+    /// The ranges so far as they came, and a place for the present one.
     ranges: Vec<(u32, u32)>,
     /// Where the present range begins, once its dash was taken.
     low: Option<u32>,
     number: DecimalText,
     ghost small: { most ≤ 4294967295 },
-    ghost set: { IsSet (front ranges.items) } by { set_prop (front ranges.items) },
+    ghost ordered: { AreRanges (front ranges.items) } by { ranges_prop (front ranges.items) },
     ghost sound: { IsSound most low (number_rest number) } by { sound_prop most low (number_rest number) },
     ghost fresh: { length ranges.items ≡ 0 → (n : ℕ) → number_rest number [] n → ⊥ },
-}
-
-/// Adds a range in the place of the last, which is not yet known.
-fn add_last(ranges: &mut Vec<(u32, u32)>, begin: u32, end: u32)
-    requires some { 0 < length ranges.old.items }
-    requires order { begin ≤ end }
-    requires set { IsSet (front ranges.old.items) }
-    ensures items { ranges.new.items ≡ inserted begin end (front ranges.old.items) }
-    ensures room { vec_len ranges.old < vec_capacity ranges.old → vec_len ranges.new < vec_capacity ranges.new }
-    ensures len { vec_len ranges.new ≤ vec_len ranges.old }
-{
-    ranges.pop();
-    match insert_into(ranges, begin, end) {
-        Ok(()) => {}
-        Err(_) => unreachable!(),
-    }
-}
-
-/// Adds a range, and begins another.
-fn close(ranges: &mut Vec<(u32, u32)>, begin: u32, end: u32) -> Result<(), OutOfMemory>
-    requires some { 0 < length ranges.old.items }
-    requires order { begin ≤ end }
-    requires set { IsSet (front ranges.old.items) }
-    ensures closed { OnOk result (ranges.new.items ≡ inserted begin end (front ranges.old.items) ++ (0, 0) ∷ []) }
-    ensures len { vec_len ranges.new ≤ vec_len ranges.old + 1 }
-    ensures same { OnErr result (ranges.new.items ≡ ranges.old.items) }
-{
-    match ranges.reserve(1) {
-        Ok(()) => {}
-        Err(_) => return Err(OutOfMemory),
-    }
-    add_last(ranges, begin, end);
-    match ranges.push((0, 0)) {
-        Ok(()) => Ok(()),
-        Err(_) => unreachable!(),
-    }
 }
 
 impl LooseListText {
@@ -159,7 +122,8 @@ impl Token for LooseListText {
                 Some(low) => low,
                 None => end,
             };
-            add_last(&mut ranges, begin, end);
+            set_last(&mut ranges, begin, end);
+            join(&mut ranges);
         }
         NumberSet { ranges }
     }
@@ -168,11 +132,11 @@ impl Token for LooseListText {
         value.ranges.len() as u64
     }
 
-    ghost completes = { λ s. list_completes s.ranges.items s.most s.low (number_rest s.number) s.set s.sound (IsDecimalRest_completes s.number.lo s.number.hi s.number.progress s.number.range s.number.live) };
+    ghost completes = { λ s. list_completes s.ranges.items s.most s.low (number_rest s.number) s.ordered s.sound (IsDecimalRest_completes s.number.lo s.number.hi s.number.progress s.number.range s.number.live) };
 
     ghost no_size = { λ e _. absurd (true_not_false e) };
 
-    ghost ends_is = { λ s. list_ends s.ranges.items s.most s.low (number_rest s.number) (decimal_ends s.number.lo s.number.hi s.number.progress) s.set s.sound (decimal_ends_is s.number.lo s.number.hi s.number.progress) };
+    ghost ends_is = { λ s. list_ends s.ranges.items s.most s.low (number_rest s.number) (decimal_ends s.number.lo s.number.hi s.number.progress) s.ordered s.sound (decimal_ends_is s.number.lo s.number.hi s.number.progress) };
 
     ghost one_value = { λ s. list_one s.most (number_rest s.number) (number_digits s.number.lo s.number.hi s.number.progress) (IsDecimalRest_one s.number.lo s.number.hi s.number.progress) s.ranges.items s.low s.fresh };
 

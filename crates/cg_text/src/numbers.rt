@@ -1,6 +1,7 @@
 //! Sets of numbers.
 ghost use Rattle.std.specs.Prelude.{◌≡◌, ℕ, ◌+◌, ◌≤◌, ◌<◌, ◌↔◌, ◌⊎◌, List, [], IsTrue, IfOk, IsOk, OnOk, OnErr, vec_len, vec_capacity};
-ghost use Rattle.cg_text.specs.Numbers.{IsSet, Has, size_of, IsCount};
+ghost use Rattle.std.specs.List.Sorted.{IsNonDecreasingBy};
+ghost use Rattle.cg_text.specs.Numbers.{IsSet, AreRanges, Has, size_of, IsCount};
 ghost use Rattle.cg_text.specs.NumbersLaws.{inserted};
 
 use crate::memory::OutOfMemory;
@@ -65,6 +66,45 @@ pub(crate) fn insert_into(
         Ok(()) => Ok(()),
         Err(_) => Err(OutOfMemory),
     }
+}
+
+/// Joins ranges that overlap or touch, where they are in the order of their first numbers. It takes no memory.
+fn join_ordered(ranges: &mut Vec<(u32, u32)>)
+    requires ranges { AreRanges ranges.old.items }
+    requires ordered { IsNonDecreasingBy (λ r. r.0) ranges.old.items }
+    ensures set { IsSet ranges.new.items }
+    ensures members { (n : ℕ) → Has ranges.new.items n ↔ Has ranges.old.items n }
+    ensures len { vec_len ranges.new ≤ vec_len ranges.old }
+{
+    if ranges.is_empty() {
+        return;
+    }
+    let (mut low, mut high) = ranges[0];
+    let mut done = 0;
+    for at in 1..ranges.len() {
+        let (begin, end) = ranges[at];
+        if is_apart(high, begin) {
+            ranges[done] = (low, high);
+            done += 1;
+            low = begin;
+            high = end;
+        } else {
+            high = high.max(end);
+        }
+    }
+    ranges[done] = (low, high);
+    ranges.truncate(done + 1);
+}
+
+/// Makes a set of ranges in any order, in their place: it sorts them, and joins those that overlap or touch.
+pub(crate) fn join(ranges: &mut Vec<(u32, u32)>)
+    requires { AreRanges ranges.old.items }
+    ensures set { IsSet ranges.new.items }
+    ensures members { (n : ℕ) → Has ranges.new.items n ↔ Has ranges.old.items n }
+    ensures len { vec_len ranges.new ≤ vec_len ranges.old }
+{
+    ranges.sort_unstable_by_key(|range| range.0);
+    join_ordered(ranges);
 }
 
 impl NumberSet {

@@ -13,4 +13,4 @@ returns-in-Refused c =
 pub returns-in_default : goal.returns-in_default
 returns-in_default c =
     let s = c.args.self.now in
-    (λ e. begun_list s.ranges.items s.most s.low (number_rest s.number) c.args.byte s.set s.sound (turn_begun false s.most s.low s.number c.args.byte c.list_byte.result c.list_byte.ensures.turn c.in_default.not-Refused), λ h. refl)
+    (λ e. begun_list s.ranges.items s.most s.low (number_rest s.number) c.args.byte s.ordered s.sound (turn_begun false s.most s.low s.number c.args.byte c.list_byte.result c.list_byte.ensures.turn c.in_default.not-Refused), λ h. refl)

@@ -1,10 +1,10 @@
 use Rattle.std.proofs.Common.{◌≡◌, false, ◌∷◌, [], ◌++◌, arith, ap, sym, ◌∙◌, inl, inr}
 use Rattle.cg_text.specs.DecimalLaws.{number_digits, IsDecimalRest_completes}
 use Rattle.cg_text.specs.RangesState.{number_rest, begin_of, front}
-use Rattle.cg_text.specs.RangesLaws.{rest_begun, digit_byte, fresh_new, number_one, begin_some, begin_none, front_push}
+use Rattle.cg_text.specs.RangesLaws.{rest_begun, digit_byte, fresh_new, number_one, some_length, begin_some, begin_none, front_push}
 use Rattle.cg_text.specs.LooseState.{Adds}
-use Rattle.cg_text.specs.NumbersLaws.{inserted, inserted_set}
-use Rattle.cg_text.specs.LooseLaws.{list_digit, list_comma, list_dash, sound_comma, begun_list}
+use Rattle.cg_text.specs.ListLaws.{closed_length}
+use Rattle.cg_text.specs.LooseLaws.{list_digit, list_comma, list_dash, sound_comma, begun_list, more_ranges}
 use Rattle.cg_text.proofs.loose.LooseListTextToken.step.Goals as goal
 use Rattle.cg_text.proofs.loose.LooseListTextToken.step.Goals.{in-Some, in-None}
 
@@ -39,11 +39,11 @@ returns-in-Ok-close-clause-taken c =
           ∙ sym (begin_none s.low c.in-Comma.end w.in-None.is)
     ] in
     let e : c.close.new.ranges.items
-    ≡ inserted (begin_of s.low c.in-Comma.end) c.in-Comma.end (front s.ranges.items) ++ (0, 0) ∷ [] =
+    ≡ (front s.ranges.items ++ (begin_of s.low c.in-Comma.end, c.in-Comma.end) ∷ []) ++ (0, 0) ∷ [] =
     c.in-Ok-close.ensures.closed ∙ ap
-    (λ z. inserted z c.in-Comma.end (front s.ranges.items) ++ (0, 0) ∷ []) b in
+    (λ z. (front s.ranges.items ++ (z, c.in-Comma.end) ∷ []) ++ (0, 0) ∷ []) b in
     λ rest all. rw t.0 (list_comma s.most c.in-Comma.end (number_rest s.number) t.1 (number_one s.number c.in-Comma.end t.1) (number_digits s.number.lo s.number.hi s.number.progress)
-    (number_rest c.in-Comma.number) t.3 s.ranges.items c.close.new.ranges.items s.low s.set (s.sound [] c.in-Comma.end t.1).1 e rest all)
+    (number_rest c.in-Comma.number) t.3 s.ranges.items c.close.new.ranges.items s.low e rest all)
 
 pub invariant_of-self-in-Ok-close : goal.invariant_of-self-in-Ok-close
 invariant_of-self-in-Ok-close c =
@@ -57,22 +57,24 @@ invariant_of-self-in-Ok-close c =
           ∙ sym (begin_none s.low c.in-Comma.end w.in-None.is)
     ] in
     let e : c.close.new.ranges.items
-    ≡ inserted (begin_of s.low c.in-Comma.end) c.in-Comma.end (front s.ranges.items) ++ (0, 0) ∷ [] =
+    ≡ (front s.ranges.items ++ (begin_of s.low c.in-Comma.end, c.in-Comma.end) ∷ []) ++ (0, 0) ∷ [] =
     c.in-Ok-close.ensures.closed ∙ ap
-    (λ z. inserted z c.in-Comma.end (front s.ranges.items) ++ (0, 0) ∷ []) b in
+    (λ z. (front s.ranges.items ++ (z, c.in-Comma.end) ∷ []) ++ (0, 0) ∷ []) b in
     let done : front c.close.new.ranges.items
-    ≡ inserted (begin_of s.low c.in-Comma.end) c.in-Comma.end (front s.ranges.items) =
-    ap front e ∙ front_push (inserted (begin_of s.low c.in-Comma.end) c.in-Comma.end (front s.ranges.items))
-    (0, 0) in
+    ≡ front s.ranges.items ++ (begin_of s.low c.in-Comma.end, c.in-Comma.end) ∷ [] =
+    ap front e ∙ front_push (front s.ranges.items ++ (begin_of s.low c.in-Comma.end, c.in-Comma.end) ∷ []) (0, 0) in
     record {
       small = s.small;
-      set = rw done (inserted_set 0 (begin_of s.low c.in-Comma.end) c.in-Comma.end (front s.ranges.items) (omega arith) (s.sound [] c.in-Comma.end t.1).1 s.set);
+      ordered = rw done (more_ranges (front s.ranges.items) (begin_of s.low c.in-Comma.end) c.in-Comma.end s.ordered (s.sound [] c.in-Comma.end t.1).1);
       sound = sound_comma s.most (number_rest c.in-Comma.number) t.3;
       fresh = λ e. fresh_new 0 s.most (number_rest c.in-Comma.number) t.3;
     }
 
 pub returns-in-Ok-close-clause-size : goal.returns-in-Ok-close-clause-size
-returns-in-Ok-close-clause-size c = omega (arith, c.close.ensures.len, c.close.new.ranges.ok.0, c.args.self.now.ranges.ok.0)
+returns-in-Ok-close-clause-size c =
+    let s = c.args.self.now in
+    let t = c.in-Comma.ensures.turn in
+    omega (arith, closed_length s.ranges.items c.close.new.ranges.items (c.match-self.begin, c.in-Comma.end) (0, 0) (some_length s.ranges.items (λ e. s.fresh e c.in-Comma.end t.1)) c.in-Ok-close.ensures.closed)
 
 pub returns-in-Err-clause-last : goal.returns-in-Err-clause-last
 returns-in-Err-clause-last c =
@@ -80,10 +82,10 @@ returns-in-Err-clause-last c =
     let t = c.in-Digit.ensures.turn in
     let n = c.in-Digit.number in
     let k = IsDecimalRest_completes n.lo n.hi n.progress n.range n.live in
-    begun_list s.ranges.items s.most s.low (number_rest s.number) c.args.byte s.set s.sound (inl (k.0, k.1, (t k.0 k.1).0 k.2))
+    begun_list s.ranges.items s.most s.low (number_rest s.number) c.args.byte s.ordered s.sound (inl (k.0, k.1, (t k.0 k.1).0 k.2))
 
 pub returns-in-Err-close-clause-last : goal.returns-in-Err-close-clause-last
 returns-in-Err-close-clause-last c =
     let s = c.args.self.now in
     let t = c.in-Comma.ensures.turn in
-    begun_list s.ranges.items s.most s.low (number_rest s.number) c.args.byte s.set s.sound (inr (inl (t.0, c.in-Comma.end, t.1, t.2)))
+    begun_list s.ranges.items s.most s.low (number_rest s.number) c.args.byte s.ordered s.sound (inr (inl (t.0, c.in-Comma.end, t.1, t.2)))
