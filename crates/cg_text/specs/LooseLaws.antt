@@ -3,7 +3,7 @@ use Rattle.std.proofs.Common.{◌≡◌, ℕ, ◌≤◌, ◌<◌, ◌⊎◌, ◌
 use Rattle.cg_text.specs.Decimal.{AreDigits, IsDecimal}
 use Rattle.std.proofs.lemmas.List.Elements.{All-append, All-cons, All-head, All-nil, All-tail}
 use Rattle.cg_text.specs.Numbers.{IsSet, AreRanges, Has}
-use Rattle.cg_text.specs.NumbersLaws.{inserted, inserted_set, inserted_has, same_ranges}
+use Rattle.cg_text.specs.NumbersLaws.{inserted, inserted_set, inserted_has, same_ranges, has_append}
 use Rattle.cg_text.specs.List.{IsLooseRangeText, AreLooseTexts, IsLooseList}
 use Rattle.cg_text.specs.RangesState.{front, LowRest, AfterRange, RangesRest, begin_of, Begun}
 use Rattle.cg_text.specs.LooseState.{IsLooseRest, Adds, IsSound}
@@ -31,13 +31,6 @@ set_of_has (r ∷ rs) a n =
     )
 
 -- Ranges are added.
-has_append : (xs ys : List (ℕ × ℕ)) (n : ℕ) → Has (xs ++ ys) n ↔ (Has xs n ⊎ Has ys n)
-has_append [] ys n = (λ h. inr h, λ h. elim h [ inl k ↦ absurd k | inr k ↦ k ])
-has_append (x ∷ xs) ys n = let more = has_append xs ys n in (
-  λ h. elim h [ inl k ↦ inl (inl k) | inr k ↦ elim (more.0 k) [ inl z ↦ inl (inr z) | inr z ↦ inr z ] ],
-  λ h. elim h [ inl k ↦ elim k [ inl z ↦ inl z | inr z ↦ inr (more.1 (inl z)) ] | inr k ↦ inr (more.1 (inr k)) ],
-)
-
 has_three : (xs ys us : List (ℕ × ℕ)) (n : ℕ) → (Has (xs ++ ys) n ⊎ Has us n) ↔ (Has xs n ⊎ Has (ys ++ us) n)
 has_three xs ys us n =
     let a = has_append xs ys n in

@@ -1,6 +1,5 @@
 -- What holds of ranges in a list, be it strict or loose.
-use Rattle.std.proofs.Common.{◌≡◌, ℕ, zero, suc, ◌+◌, ◌-◌, ◌≤◌, ◌<◌, ◌⊎◌, ◌↔◌, inl, inr, Bool, true, false, nat_eq, Option, Some, None, List, [], ◌∷◌, ◌++◌, length, refl, sym, ◌∙◌, ap, arith, eqb-true, eq-eqb}
-use Rattle.std.proofs.Math.ListN.{take}
+use Rattle.std.proofs.Common.{◌≡◌, ℕ, zero, suc, ◌+◌, ◌≤◌, ◌<◌, ◌⊎◌, ◌↔◌, inl, inr, Bool, true, false, nat_eq, Option, Some, None, List, [], ◌∷◌, ◌++◌, length, refl, sym, ◌∙◌, ap, arith, eqb-true, eq-eqb}
 use Rattle.cg_text.specs.Token.{AreBytes}
 use Rattle.cg_text.specs.TokenLaws.{bytes_append}
 use Rattle.cg_text.specs.Decimal.{AreDigits, IsDecimal}
@@ -414,11 +413,6 @@ nothing n b e f = eqb-true n 0 (sym e ∙ f)
 pub nil_set : (xs : List (ℕ × ℕ)) → length xs ≡ 0 → IsSet xs
 nil_set [] e = tt
 nil_set (x ∷ xs) e = absurd (omega (arith, e))
-
-pub front_take : (xs : List (ℕ × ℕ)) → front xs ≡ take (length xs - 1) xs
-front_take [] = refl
-front_take (x ∷ []) = refl
-front_take (x ∷ y ∷ xs) = let e : length (x ∷ y ∷ xs) - 1 ≡ suc (length xs) = omega arith in let k : length (y ∷ xs) - 1 ≡ length xs = omega arith in rw e (ap (λ z. x ∷ z) (front_take (y ∷ xs) ∙ rw k refl))
 
 -- A rest holds bytes.
 pub cut_bytes : (P N : List ℕ → Type 0) → ((x : List ℕ) → P x → AreBytes x) → ((x : List ℕ) → N x → AreBytes x) → (text : List ℕ) → Cut P N text → AreBytes text

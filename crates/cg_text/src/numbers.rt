@@ -1,6 +1,6 @@
 //! Sets of numbers.
-ghost use Rattle.std.specs.Prelude.{◌≡◌, ℕ, ◌+◌, ◌≤◌, ◌<◌, ◌↔◌, ◌⊎◌, List, [], IsTrue, IfOk, IsOk, OnOk, OnErr, vec_len, vec_capacity};
-ghost use Rattle.std.specs.List.Sorted.{IsNonDecreasingBy};
+ghost use Rattle.std.specs.Prelude.{◌≡◌, ℕ, ◌+◌, ◌≤◌, ◌<◌, ◌↔◌, ◌⊎◌, List, [], length, IsTrue, IfOk, OnOk, OnErr, vec_len};
+ghost use Rattle.std.specs.List.Sorted.{IsNonDecreasingBy, IsPartitionPoint};
 ghost use Rattle.cg_text.specs.Numbers.{IsSet, AreRanges, Has, size_of, IsCount};
 ghost use Rattle.cg_text.specs.NumbersLaws.{inserted};
 
@@ -32,40 +32,54 @@ fn is_apart(end: u32, begin: u32) -> bool
     u64::from(end) + 1 < u64::from(begin)
 }
 
-/// Adds a range. It goes from the back, so that ranges in order cost a step each. It takes memory only where one range more is left.
-pub(crate) fn insert_into(
-    ranges: &mut Vec<(u32, u32)>,
-    first: u32,
-    last: u32,
-) -> Result<(), OutOfMemory>
+/// How many ranges lie apart below `first`. It is a step where all do.
+fn count_below(ranges: &[(u32, u32)], first: u32) -> usize
+    requires { IsSet ranges.now }
+    ensures within { result ≤ length ranges.now }
+    ensures parted { IsPartitionPoint (λ r. r.1 + 1 < first) (λ r. first ≤ r.1 + 1) ranges.now result }
+{
+    match ranges.last() {
+        Some(range) if !is_apart(range.1, first) => {
+            ranges.partition_point(|range| is_apart(range.1, first))
+        }
+        _ => ranges.len(),
+    }
+}
+
+/// How many ranges don't lie apart above `last`. It is a step where none does.
+fn count_up_to(ranges: &[(u32, u32)], last: u32) -> usize
+    requires { IsSet ranges.now }
+    ensures within { result ≤ length ranges.now }
+    ensures parted { IsPartitionPoint (λ r. r.0 ≤ last + 1) (λ r. last + 1 < r.0) ranges.now result }
+{
+    match ranges.last() {
+        Some(range) if is_apart(last, range.0) => {
+            ranges.partition_point(|range| !is_apart(last, range.0))
+        }
+        _ => ranges.len(),
+    }
+}
+
+/// Adds a range, in the place of those that it overlaps or touches. It takes memory only where one range more is left.
+fn insert_into(ranges: &mut Vec<(u32, u32)>, first: u32, last: u32) -> Result<(), OutOfMemory>
     requires order { first ≤ last }
     requires set { IsSet ranges.old.items }
     ensures items { OnOk result (ranges.new.items ≡ inserted first last ranges.old.items) }
     ensures same { OnErr result (ranges.new.items ≡ ranges.old.items) }
-    ensures len { vec_len ranges.new ≤ vec_len ranges.old + 1 }
-    ensures room { vec_len ranges.old < vec_capacity ranges.old → IsOk result × (vec_capacity ranges.new ≡ vec_capacity ranges.old) }
 {
-    let mut low = first;
-    let mut high = last;
-    let mut at = ranges.len();
-    while at > 0 {
-        let (begin, end) = ranges[at - 1];
-        if is_apart(end, low) {
-            break;
-        }
-        if is_apart(high, begin) {
-            at -= 1;
-        } else {
-            low = low.min(begin);
-            high = high.max(end);
-            ranges.remove(at - 1);
-            at -= 1;
-        }
+    let start = count_below(ranges.as_slice(), first);
+    let end = count_up_to(ranges.as_slice(), last);
+    if start == end {
+        return match ranges.insert(start, (first, last)) {
+            Ok(()) => Ok(()),
+            Err(_) => Err(OutOfMemory),
+        };
     }
-    match ranges.insert(at, (low, high)) {
-        Ok(()) => Ok(()),
-        Err(_) => Err(OutOfMemory),
-    }
+    let low = first.min(ranges[start].0);
+    let high = last.max(ranges[end - 1].1);
+    ranges[start] = (low, high);
+    ranges.drain(start + 1..end);
+    Ok(())
 }
 
 /// Joins ranges that overlap or touch, where they are in the order of their first numbers. It takes no memory.
