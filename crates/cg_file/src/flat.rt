@@ -9,7 +9,7 @@ use cg_text::{DecimalText, Key, OutOfMemory, Token, WordText};
 use cg_value::{Flat, FlatBuilder, FlatPair, Value};
 use std::alloc::Global;
 
-/// The pairs so far. A key is looked for by a binary search.
+/// The pairs so far. A key is looked for in an index of their keys.
 #[derive(Drop)]
 pub struct FlatPairs {
     building: FlatBuilder,

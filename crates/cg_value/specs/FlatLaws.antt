@@ -1,28 +1,25 @@
--- What follows from the definitions of flat keyed files, and what an index of their pairs is.
-use Rattle.std.proofs.Common.{◌≡◌, ℕ, zero, suc, ◌+◌, ◌-◌, ◌*◌, ◌/◌, ◌<◌, ◌≤◌, ◌^◌, ◌⊎◌, inl, inr, List, [], ◌∷◌, ◌++◌, length, get_or, Option, Some, None, Bool, true, false, cond, option_map, is_some}
-use Rattle.std.proofs.Common.{refl, sym, ap, ◌∙◌, add-one, zero-add, arith}
-use Rattle.std.proofs.Math.Nat.{mul-le-mul_right, mul_assoc, mul_comm, pow-succ'}
-use Rattle.std.proofs.Math.Pow.{pow_mono}
-use Rattle.std.proofs.lemmas.Bool.{cases_lt, cases_order, cond-true, cond-false, false_from_ne_true}
-use Rattle.std.proofs.lemmas.Cmp.{nat_list_cmp_total, tied_itself, nat_list_eq_equiv, nat_eq_equiv, on_equiv, and_equiv}
-use Rattle.std.proofs.lemmas.List.{get_or_default, map-id, length_push}
-use Rattle.std.proofs.lemmas.List.Edits.{length-insert, get_or-insert_below, get_or-insert_at, get_or-insert_above}
-use Rattle.std.proofs.lemmas.List.Elements.{All-from_get_or}
-use Rattle.std.proofs.lemmas.List.FromFn.{length-range_with_len, get_or-range_with_len, map-range_with_len_more}
-use Rattle.std.proofs.lemmas.List.Sorted.{IsPermutation-refl, IsPermutation-trans, IsPermutation-cons, IsPermutation-to_front, IsPermutation-insert, All-permutation, Contains-permutation, length_permutation}
+-- What follows from the definitions of flat keyed files, and what the index of their keys is.
+use Rattle.std.proofs.Common.{◌≡◌, ℕ, zero, suc, ◌+◌, ◌<◌, ◌⊎◌, inl, inr, List, [], ◌∷◌, ◌++◌, length, get_or, map, Option, Some, None, Bool, true, false, cond, option_map, is_some, is_none, IfSome, ◌==◌}
+use Rattle.std.proofs.Common.{refl, sym, ap, ◌∙◌, arith}
+use Rattle.std.proofs.lemmas.Bool.{cond-true, cond-false, false_from_ne_true}
+use Rattle.std.proofs.lemmas.Bool.Decides.{nat_tests}
+use Rattle.std.proofs.lemmas.Cmp.{nat_list_eq_equiv, nat_eq_equiv, on_equiv, and_equiv}
+use Rattle.std.proofs.lemmas.List.{length-map, map-append}
 use Rattle.std.proofs.lemmas.List.Sums.{sum_by-cons, sum_by_push}
-use Rattle.std.proofs.lemmas.Map.Text.{is_eq-slice_cmp}
 use Rattle.std.proofs.lemmas.Slice.Eq.{bytes_eq-Decides}
 use Rattle.std.proofs.Props.{props}
+use Rattle.std.specs.Bool.{then_some}
 use Rattle.std.specs.Coded.{×_prop, Unit-prop}
 use Rattle.std.specs.Cmp.{IsPartialEquivalence, partial_equiv_from_equiv}
-use Rattle.std.specs.Cmp.Lexicographic.{slice_cmp, lists_per}
-use Rattle.std.specs.List.{All, AllPairs, Contains, range_with_len, insert, sum_by}
-use Rattle.std.specs.List.Sorted.{IsPermutation}
-use Rattle.std.specs.Ordering.{nat_cmp, is_eq, ordering_reverse}
-use Rattle.std.specs.declared.cmp.Ordering.TheVariants.{Less, Equal, Greater}
+use Rattle.std.specs.Cmp.Lexicographic.{lists_per}
+use Rattle.std.specs.List.{sum_by}
+use Rattle.std.specs.Str.{bytes_eq}
+use Rattle.cg_text.specs.Word.{AreWordBytes}
+use Rattle.cg_index.specs.Position.{HasNoZero}
+use Rattle.cg_index.specs.IndexLaws.{same_nearest}
+use Rattle.cg_index.specs.Tree.{Indexed, Indexes, IsNear, IsNearest, IsOnlyFor, IsSameBut}
 use Rattle.cg_value.specs.declared.flat.FlatPair.{FlatPair}
-use Rattle.cg_value.specs.Flat.{has_key, number_of, place_of, HasDistinctKeys, flat_size, are_same, IsWithinDigits}
+use Rattle.cg_value.specs.Flat.{has_key, number_of, place_of, HasDistinctKeys, flat_size, are_same}
 
 -- Tests of keys.
 
@@ -42,15 +39,6 @@ pub key_read : (ps : List FlatPair) (i : ℕ) (d : FlatPair) → i < length ps �
 key_read [] i d h = absurd (omega (arith, h))
 key_read (p ∷ ps) zero d h = refl
 key_read (p ∷ ps) (suc i) d h = key_read ps i d (omega arith)
-
-pub key_kept : (ps qs : List FlatPair) (i : ℕ) → i < length ps → key_at (ps ++ qs) i ≡ key_at ps i
-key_kept [] qs i h = absurd (omega (arith, h))
-key_kept (p ∷ ps) qs zero h = refl
-key_kept (p ∷ ps) qs (suc i) h = key_kept ps qs i (omega arith)
-
-pub key_pushed : (ps : List FlatPair) (p : FlatPair) → key_at (ps ++ p ∷ []) (length ps) ≡ p.key
-key_pushed [] p = refl
-key_pushed (q ∷ ps) p = key_pushed ps p
 
 -- Look-ups.
 
@@ -155,220 +143,94 @@ parts_size (p ∷ ps) =
 pub are_same_laws : IsPartialEquivalence are_same
 are_same_laws = lists_per (partial_equiv_from_equiv (and_equiv (on_equiv (λ (p : FlatPair). p.key) nat_list_eq_equiv) (on_equiv (λ (p : FlatPair). p.number) nat_eq_equiv)))
 
--- The order of keys.
+-- The index of the keys.
 
--- The first key comes before the second, by their bytes as in a dictionary.
-abbrev pub IsBefore : List ℕ → List ℕ → Type 0
-IsBefore a b = slice_cmp nat_cmp a b ≡ Less
+abbrev pub keys_of : List FlatPair → List (List ℕ)
+keys_of pairs = map (λ p. p.key) pairs
 
-pub before_through : (a b c : List ℕ) → IsBefore a b → IsBefore b c → IsBefore a c
-before_through = nat_list_cmp_total.trans
+-- No key comes twice, and the index is that of the keys.
+pub record IsFlatIndex {P : Type 0} (pairs : List FlatPair) (index : Indexed P) : Type 0 where
+  pub distinct : HasDistinctKeys pairs
+  pub indexed : Indexes index (keys_of pairs)
 
-pub before_back : (a b : List ℕ) → slice_cmp nat_cmp a b ≡ Greater → IsBefore b a
-before_back a b e = nat_list_cmp_total.antisymm b a ∙ ap ordering_reverse e
+-- The bytes are the key of the pair at the place, and none of no place.
+abbrev pub IsKeyThere : List FlatPair → Option ℕ → List ℕ → Type 0
+IsKeyThere pairs None bytes = bytes ≡ []
+IsKeyThere pairs (Some place) bytes = bytes ≡ key_at pairs place
 
-pub same_keys : (a b : List ℕ) → slice_cmp nat_cmp a b ≡ Equal → a ≡ b
-same_keys a b e = (bytes_eq-Decides a b).0 (sym (is_eq-slice_cmp a b) ∙ ap is_eq e)
+pub keys_read : (pairs : List FlatPair) (i : ℕ) → i < length pairs → get_or (keys_of pairs) i [] ≡ key_at pairs i
+keys_read [] i h = absurd (omega (arith, h))
+keys_read (p ∷ ps) zero h = refl
+keys_read (p ∷ ps) (suc i) h = keys_read ps i (omega (arith, h))
 
-before_apart : (a b : List ℕ) → IsBefore a b → a ≡ b → ⊥
-before_apart a b h e =
-    let same : slice_cmp nat_cmp a b ≡ Equal = rw e (tied_itself nat_list_cmp_total b) in
+-- Words have no byte 0.
+pub word_bytes : (key : List ℕ) → AreWordBytes key → HasNoZero key
+word_bytes [] w = λ k d h. absurd (omega (arith, h))
+word_bytes (c ∷ cs) w = λ k d h. elim k as (λ k. k < length (c ∷ cs) → 0 < get_or (c ∷ cs) k d) [
+  | zero ↦ λ _. omega (arith, w.0)
+  | suc i ↦ λ l. word_bytes cs w.1 i d (omega (arith, l))
+] h
+
+-- What a comparison says of the key that was compared.
+pub compared_same : (a b key : List ℕ) (test : Bool) → test ≡ bytes_eq a b → test ≡ true → b ≡ key → a ≡ key
+compared_same a b key test is holds e = (bytes_eq-Decides a b).0 (sym is ∙ holds) ∙ e
+
+pub compared_other : (a b key : List ℕ) (test : Bool) → test ≡ bytes_eq a b → test ≡ false → b ≡ key → a ≡ key → ⊥
+compared_other a b key test is fails e same =
+    let would = (bytes_eq-Decides a b).1 (same ∙ sym e) in
     cc
 
--- An index.
+no_length : (n : ℕ) → true ≡ (n == 0) → n ≡ 0
+no_length n e = grind (arith, nat_tests)
 
--- The order has the places of the pairs, by their keys.
-pub record IsIndex (pairs : List FlatPair) (order : List ℕ) : Type 0 where
-  pub distinct : HasDistinctKeys pairs
-  pub places : IsPermutation (range_with_len 0 (length pairs)) order
-  pub rising : AllPairs (λ i j. IsBefore (key_at pairs i) (key_at pairs j)) order
+module _ {P : Type 0} {pairs : List FlatPair} {index : Indexed P} (flat : IsFlatIndex pairs index) where
+  pub index_length : length index.besides ≡ length pairs
+  index_length = flat.indexed.count ∙ length-map pairs (λ p. p.key)
 
--- Of the order, what is below low comes before the key, and what is not below high after it.
-pub record IsBetween (pairs : List FlatPair) (order : List ℕ) (key : List ℕ) (low high : ℕ) : Type 0 where
-  pub span : low ≤ high
-  pub within : high ≤ length order
-  pub below : (k : ℕ) → k < low → IsBefore (key_at pairs (get_or order k 0)) key
-  pub above : (k : ℕ) → high ≤ k → k < length order → IsBefore key (key_at pairs (get_or order k 0))
+  -- Where the nearest pair doesn't have the key, none has it.
+  pub none_near : (key : List ℕ) (place : ℕ) → IsOnlyFor index key place → (key_at pairs place ≡ key → ⊥) → place_of key pairs ≡ None
+  none_near key place only apart =
+      no_place key pairs (λ i h e.
+      let same : i ≡ place = only (keys_of pairs) flat.indexed i (rw length-map h) (keys_read pairs i h ∙ e) in
+      apart (rw same at e))
 
--- A search for the key between two places of the order, after so many comparisons: each halves what is left.
-pub record IsSearch (pairs : List FlatPair) (order : List ℕ) (key : List ℕ) (low high count : ℕ) : Type 0 where
-  pub between : IsBetween pairs order key low high
-  pub halved : (high - low) * 2 ^ count ≤ length pairs
-  pub counted : IsWithinDigits count (length pairs)
+  -- The key there is the key that is looked for: a pair has it.
+  pub near_has : (near : Option ℕ) (there key : List ℕ) → IfSome near (λ place. place < length index.besides) → IsKeyThere pairs near there →
+      there ≡ key → 0 < length key → is_some (number_of key pairs) ≡ true
+  near_has None there key within is same some =
+      let none : key ≡ [] = sym same ∙ is in
+      absurd (omega (arith, some, ap length none))
+  near_has (Some place) there key within is same some =
+      sym (place_as_number key pairs) ∙ ap is_some (one_place key pairs place flat.distinct (omega (arith, index_length, within)) (sym is ∙ same))
 
-module _ {pairs : List FlatPair} {order : List ℕ} (index : IsIndex pairs order) where
-  pub order_length : length order ≡ length pairs
-  order_length = length_permutation _ _ index.places ∙ length-range_with_len 0 (length pairs)
+  -- It is another: no pair has it.
+  pub near_lacks : (near : Option ℕ) (there key : List ℕ) → is_none near ≡ (length index.besides == 0) → IfSome near (IsOnlyFor index key) →
+      IsKeyThere pairs near there → (there ≡ key → ⊥) → place_of key pairs ≡ None
+  near_lacks None there key none only is apart =
+      let length_is = no_length (length index.besides) none in
+      no_place key pairs (λ i h e. omega (arith, index_length, length_is, h))
+  near_lacks (Some place) there key none only is apart = none_near key place only (λ e. apart (is ∙ e))
 
-  pub order_within : (k d : ℕ) → k < length order → get_or order k d < length pairs
-  order_within k d h =
-      let n = length pairs in
-      let each : All (λ x. x < n) (range_with_len 0 n) =
-      All-from_get_or (λ x. x < n) (range_with_len 0 n) 0
-      (λ i l. omega (
-        arith,
-        get_or-range_with_len 0 n i 0 (omega
-            (arith, length-range_with_len 0 n, l)),
-        length-range_with_len 0 n,
-        l,
-      )) in
-      All-permutation (λ x. x < n) _ _ index.places each k d h
+  -- The place that is found, where the key there is compared.
+  pub near_found : (place : ℕ) (seen key : List ℕ) (test : Bool) → place < length index.besides → IsOnlyFor index key place →
+      seen ≡ key_at pairs place → test ≡ bytes_eq seen key → then_some test place ≡ place_of key pairs
+  near_found place seen key true within only is holds =
+      sym (one_place key pairs place flat.distinct (omega (arith, index_length, within)) (sym is ∙ compared_same seen key key true holds refl refl))
+  near_found place seen key false within only is fails =
+      sym (none_near key place only (λ e. compared_other seen key key false fails refl refl (is ∙ e)))
 
-  pub order_reaches : (p : ℕ) → p < length pairs → (k : ℕ) × (k < length order) × (get_or order k 0 ≡ p)
-  order_reaches p h =
-      let n = length pairs in
-      let there : Contains (range_with_len 0 n) p = (p, omega (arith, length-range_with_len 0 n), get_or-range_with_len 0 n p p h ∙ zero-add p) in
-      let found = Contains-permutation _ _ p index.places there in
-      (found.0, found.1, get_or_default order found.0 0 p found.1 ∙ found.2)
+  -- The key there is the nearest one.
+  pub near_is : {new : Indexed P} → IsSameBut index new → (near : Option ℕ) (there key : List ℕ) → is_none near ≡ (length index.besides == 0) →
+      IfSome near (λ place. place < length index.besides) → IfSome near (IsNearest index key) → IsKeyThere pairs near there →
+      IsNear new (keys_of pairs) key there
+  near_is same None there key none within nearest is = λ some.
+      let length_is = no_length (length index.besides) none in
+      absurd (omega (arith, index_length, length_is, length-map pairs (λ (p : FlatPair). p.key), some))
+  near_is same (Some place) there key none within nearest is = λ some.
+      (place, same_nearest same nearest, keys_read pairs place (omega (arith, index_length, within)) ∙ sym is)
 
-  module _ (key : List ℕ) where
-    pub between_start : IsBetween pairs order key 0 (length order)
-    between_start = record {
-      span = omega arith;
-      within = omega arith;
-      below = λ k h. absurd (omega (arith, h));
-      above = λ k h l. absurd (omega (arith, h, l));
-    }
-
-    pub between_left : (low high middle : ℕ) → IsBetween pairs order key low high → low ≤ middle → middle < high → IsBefore key (key_at pairs (get_or order middle 0)) → IsBetween pairs order key low middle
-    between_left low high middle b l h e = record {
-      span = l;
-      within = omega (arith, b.within);
-      below = b.below;
-      above = λ k m w. elim (cases_order k middle) [
-        | inl same ↦ rw same e
-        | inr (inl less) ↦ absurd (omega (arith, less, m))
-        | inr (inr more) ↦ before_through key (key_at pairs (get_or order middle 0)) (key_at pairs (get_or order k 0)) e (index.rising middle k 0 more w)
-      ];
-    }
-
-    pub between_right : (low high middle : ℕ) → IsBetween pairs order key low high → low ≤ middle → middle < high → IsBefore (key_at pairs (get_or order middle 0)) key → IsBetween pairs order key (middle + 1) high
-    between_right low high middle b l h e = record {
-      span = omega arith;
-      within = b.within;
-      below = λ k m. elim (cases_order k middle) [
-        | inl same ↦ rw same e
-        | inr (inl less) ↦ before_through (key_at pairs (get_or order k 0)) (key_at pairs (get_or order middle 0)) key (index.rising k middle 0 less (omega (arith, b.within))) e
-        | inr (inr more) ↦ absurd (omega (arith, more, m))
-      ];
-      above = b.above;
-    }
-
-    -- At the end of a search, no pair has the key.
-    pub between_none : (at : ℕ) → IsBetween pairs order key at at → (p : ℕ) → p < length pairs → key_at pairs p ≡ key → ⊥
-    between_none at b p h e =
-        let place = order_reaches p h in
-        elim (cases_lt place.0 at) [
-          | inl less ↦ before_apart _ _ (b.below place.0 less) (ap (key_at pairs) place.2 ∙ e)
-          | inr more ↦ before_apart _ _ (b.above place.0 more place.1) (sym (ap (key_at pairs) place.2 ∙ e))
-        ]
-
-all_pairs_insert : {X : Type 0} (R : X → X → Type 0) (xs : List X) (at : ℕ) (y : X) → AllPairs R xs →
-    at ≤ length xs → ((k : ℕ) (d : X) → k < at → R (get_or xs k d) y) →
-    ((k : ℕ) (d : X) → at ≤ k → k < length xs → R y (get_or xs k d)) → AllPairs R (insert xs at y)
-all_pairs_insert {X} R xs at y all within below above = λ i j d less h.
-    let n = length-insert xs at y within in
-    let after : (k : ℕ) → at < k → get_or (insert xs at y) k d ≡ get_or xs (k - 1) d =
-    λ k l. let e : k ≡ (k - 1) + 1 = omega arith in ap (λ m. get_or (insert xs at y) m d) e ∙ get_or-insert_above xs at y d (k - 1) (omega arith) within in
-    let before : (k : ℕ) → k < at → get_or (insert xs at y) k d ≡ get_or xs k d = λ k l. get_or-insert_below xs at y d k l within in
-    let here : (k : ℕ) → k ≡ at → get_or (insert xs at y) k d ≡ y = λ k e. ap (λ m. get_or (insert xs at y) m d) e ∙ get_or-insert_at xs at y d within in
-    elim (cases_order i at) [
-      | inl same ↦ rw (here i same, after j (omega arith)) (above (j - 1) d (omega arith) (omega (arith, n)))
-      | inr (inl left) ↦ elim (cases_order j at) [
-        | inl same ↦ rw (before i left, here j same) (below i d left)
-        | inr (inl right) ↦ rw (before i left, before j right) (all i j d less (omega arith))
-        | inr (inr right) ↦ rw (before i left, after j right) (all i (j - 1) d (omega arith) (omega (arith, n)))
-      ]
-      | inr (inr left) ↦ rw (after i left, after j (omega arith)) (all (i - 1) (j - 1) d (omega arith) (omega (arith, n)))
-    ]
-
-pub index_start : IsIndex [] []
-index_start = record {
-  distinct = tt;
-  places = IsPermutation-refl [];
-  rising = λ i j d less h. absurd (omega (arith, h));
-}
-
-pub index_push : (pairs : List FlatPair) (order : List ℕ) (p : FlatPair) (at : ℕ) → IsIndex pairs order → IsBetween pairs order p.key at at → IsIndex (pairs ++ p ∷ []) (insert order at (length pairs))
-index_push pairs order p at index between =
-    let n = length pairs in
-    let range = range_with_len 0 n in
-    let more : range_with_len 0 (length (pairs ++ p ∷ [])) ≡ range ++ n ∷ [] = rw length_push (simp map-id at (map-range_with_len_more (λ (x : ℕ). x) 0 n n (zero-add n))) in
-    let kept : (k d : ℕ) → k < length order → key_at (pairs ++ p ∷ []) (get_or order k d) ≡ key_at pairs (get_or order k d) = λ k d h. key_kept pairs (p ∷ []) (get_or order k d) (order_within index k d h) in
-    let added : key_at (pairs ++ p ∷ []) n ≡ p.key = key_pushed pairs p in
-    record {
-      distinct = distinct_push pairs p index.distinct (no_number p.key pairs (no_place p.key pairs (between_none index p.key at between)));
-      places = rw more (IsPermutation-trans (range ++ n ∷ []) (n ∷ range) (insert order at n) (IsPermutation-to_front range n)
-          (IsPermutation-trans (n ∷ range) (n ∷ order) (insert order at n) (IsPermutation-cons n range order index.places) (IsPermutation-insert order at n)));
-      rising = all_pairs_insert (λ i j. IsBefore (key_at (pairs ++ p ∷ []) i) (key_at (pairs ++ p ∷ []) j)) order at n
-          (λ i j d less h. rw (kept i d (omega arith), kept j d h) (index.rising i j d less h))
-          between.within
-          (λ k d h. rw (kept k d (omega (arith, between.within)), added, get_or_default order k d 0 (omega (arith, between.within))) (between.below k h))
-          (λ k d h l. rw (kept k d l, added, get_or_default order k d 0 l) (between.above k h l));
-    }
-
--- Counts of comparisons.
-
-digits_more : (size count n : ℕ) → 0 < size → size * 2 ^ count ≤ n → IsWithinDigits (count + 1) n
-digits_more size count n some le = λ d h.
-    let once : 2 ^ count ≤ size * 2 ^ count = omega (arith, mul-le-mul_right {m = 1} {n = size} (2 ^ count) (omega arith)) in
-    elim (cases_lt count d) [
-      | inl less ↦ omega arith
-      | inr more ↦ absurd (omega (arith, pow_mono more, once, le, h))
-    ]
-
-halved_more : (size half count n : ℕ) → 2 * half ≤ size → size * 2 ^ count ≤ n → half * 2 ^ (count + 1) ≤ n
-halved_more size half count n h le =
-    let twice : half * 2 ^ (count + 1) ≡ (2 * half) * 2 ^ count = rw (add-one, pow-succ') (sym (mul_assoc half 2 (2 ^ count)) ∙ ap (λ m. m * 2 ^ count) (mul_comm half 2)) in
-    omega (arith, twice, mul-le-mul_right (2 ^ count) h)
-
--- Steps of a search.
-
-module _ {pairs : List FlatPair} {order : List ℕ} (index : IsIndex pairs order) where
-  pub search_start : (key : List ℕ) → IsSearch pairs order key 0 (length order) 0
-  search_start key = record {
-    between = between_start index key;
-    halved = omega (arith, order_length index);
-    counted = λ d h. omega arith;
+  pub index_push : {new : Indexed P} (p : FlatPair) → place_of p.key pairs ≡ None → Indexes new (keys_of pairs ++ p.key ∷ []) → IsFlatIndex (pairs ++ p ∷ []) new
+  index_push p none of = record {
+    distinct = distinct_push pairs p flat.distinct (no_number p.key pairs none);
+    indexed = rw map-append of;
   }
-
-  module _ {key : List ℕ} {low high count : ℕ} (search : IsSearch pairs order key low high count) (some : low < high) where
-    -- One more comparison can be counted.
-    pub search_count : length pairs < 2 ^ 64 → count < 64
-    search_count small = omega (arith, digits_more (high - low) count (length pairs) (omega arith) search.halved 64 small)
-
-    -- The place that is compared, of a pair that is there.
-    pub search_within : get_or order (low + (high - low) / 2) 0 < length pairs
-    search_within = order_within index (low + (high - low) / 2) 0 (omega (arith, search.between.within))
-
-    module _ (seen : List ℕ) (is : key_at pairs (get_or order (low + (high - low) / 2) 0) ≡ seen) where
-      pub search_left : slice_cmp nat_cmp key seen ≡ Less → IsSearch pairs order key low (low + (high - low) / 2) (count + 1)
-      search_left e =
-          let middle = low + (high - low) / 2 in
-          record {
-            between = between_left index key low high middle search.between (omega arith) (omega arith) (rw is e);
-            halved = halved_more (high - low) (middle - low) count (length pairs) (omega arith) search.halved;
-            counted = digits_more (high - low) count (length pairs) (omega arith) search.halved;
-          }
-
-      pub search_right : slice_cmp nat_cmp key seen ≡ Greater → IsSearch pairs order key (low + (high - low) / 2 + 1) high (count + 1)
-      search_right e =
-          let middle = low + (high - low) / 2 in
-          record {
-            between = between_right index key low high middle search.between (omega arith) (omega arith) (rw is (before_back key seen e));
-            halved = halved_more (high - low) (high - (middle + 1)) count (length pairs) (omega arith) search.halved;
-            counted = digits_more (high - low) count (length pairs) (omega arith) search.halved;
-          }
-
-      pub search_found : slice_cmp nat_cmp key seen ≡ Equal → place_of key pairs ≡ Some (get_or order (low + (high - low) / 2) 0)
-      search_found e = one_place key pairs (get_or order (low + (high - low) / 2) 0) index.distinct search_within (is ∙ sym (same_keys key seen e))
-
-  -- Nothing is left to search.
-  module _ {key : List ℕ} {low high count : ℕ} (search : IsSearch pairs order key low high count) (done : high ≤ low) where
-    pub search_gap : IsBetween pairs order key low low
-    search_gap =
-        let same : high ≡ low = omega (arith, search.between.span) in
-        rw same at search.between
-
-    pub search_none : place_of key pairs ≡ None
-    search_none = no_place key pairs (between_none index key low search_gap)

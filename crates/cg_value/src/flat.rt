@@ -1,13 +1,13 @@
 //! The pairs of flat keyed files.
-ghost use Rattle.std.specs.Prelude.{◌≡◌, ◌+◌, ◌≤◌, ◌<◌, ◌++◌, ◌∷◌, [], IsTrue, IfOk, OnOk, OnErr, IfErr, length, is_some, is_err};
-ghost use Rattle.std.specs.Result.{result_ok};
+ghost use Rattle.std.specs.Prelude.{◌≡◌, ◌+◌, ◌≤◌, ◌<◌, ◌++◌, ◌∷◌, [], IsTrue, IfOk, IfSome, OnOk, OnErr, IfErr, length, is_some, is_err};
 ghost use Rattle.cg_text.specs.Token.{told};
 ghost use Rattle.cg_value.specs.Flat.{number_of, place_of, HasDistinctKeys, flat_size, IsWithinDigits, IsHandedBack, is_repeated};
-ghost use Rattle.cg_value.specs.FlatLaws.{IsIndex, IsBetween};
+ghost use Rattle.cg_index.specs.Position.{HasNoZero};
+ghost use Rattle.cg_value.specs.FlatLaws.{IsKeyThere};
 
+use cg_index::KeyIndex;
 use cg_text::{Key, KeyFault, OutOfMemory};
 use std::alloc::Global;
-use std::cmp::Ordering;
 use std::marker::Model;
 use thiserror::Error;
 
@@ -38,42 +38,15 @@ pub struct Found {
     pub compares: u64,
 }
 
-/// What a search through the index found.
-#[derive(Drop)]
-struct Searched {
-    /// The place of the pair that has the key; else the place in the order that its own would have.
-    place: Result<usize, usize>,
-    compares: u64,
-}
-
-/// Searches the index for the key.
-fn search(pairs: &[FlatPair], order: &[usize], key: &[u8]) -> Searched
-    requires { IsIndex pairs.now order.now }
-    ensures place { result_ok result.place ≡ place_of key.now pairs.now }
-    ensures gap { IfErr result.place (λ at. IsBetween pairs.now order.now key.now at at) }
-    ensures compares { IsWithinDigits result.compares (length pairs.now) }
+/// The key of the pair at a place, and no bytes of no place.
+fn key_near(pairs: &[FlatPair], place: Option<usize>) -> &[u8]
+    requires { IfSome place (λ i. i < length pairs.now) }
+    ensures key { IsKeyThere pairs.now place result.now }
+    ensures bytes { HasNoZero result.now }
 {
-    let mut low = 0;
-    let mut high = order.len();
-    let mut compares = 0;
-    while low < high {
-        let middle = low + (high - low) / 2;
-        let place = order[middle];
-        compares += 1;
-        match key.cmp(&pairs[place].key.bytes()) {
-            Ordering::Less => high = middle,
-            Ordering::Equal => {
-                return Searched {
-                    place: Ok(place),
-                    compares,
-                };
-            }
-            Ordering::Greater => low = middle + 1,
-        }
-    }
-    Searched {
-        place: Err(low),
-        compares,
+    match place {
+        Some(place) => pairs[place].key.bytes(),
+        None => &[],
     }
 }
 
@@ -102,20 +75,20 @@ fn copy_pairs(alloc: Global, pairs: &[FlatPair]) -> Result<Vec<FlatPair>, OutOfM
 #[derive(Debug, Drop)]
 pub struct FlatBuilder {
     pairs: Vec<FlatPair>,
-    /// The places of the pairs, in the order of their keys.
-    order: Vec<usize>,
+    /// The index of their keys.
+    index: KeyIndex<()>,
 }
 
 impl Model for FlatBuilder {
     ghost use Rattle.std.specs.Prelude.{◌≡◌, ◌&&◌, nat_lt, vec_len, vec_capacity};
     ghost use Rattle.cg_value.specs.Flat.{Building};
-    ghost use Rattle.cg_value.specs.FlatLaws.{IsIndex};
+    ghost use Rattle.cg_value.specs.FlatLaws.{IsFlatIndex};
 
     ghost Value = { Building };
 
-    ghost view = { λ s. record { pairs = s.pairs.items; has_room = nat_lt (vec_len s.pairs) (vec_capacity s.pairs) && nat_lt (vec_len s.order) (vec_capacity s.order) } };
+    ghost view = { λ s. record { pairs = s.pairs.items; has_room = nat_lt (vec_len s.pairs) (vec_capacity s.pairs) && s.index.has_room } };
 
-    ghost invariant = { λ s. IsIndex s.pairs.items s.order.items };
+    ghost invariant = { λ s. IsFlatIndex s.pairs.items s.index };
 }
 
 impl FlatBuilder {
@@ -125,7 +98,7 @@ impl FlatBuilder {
     {
         FlatBuilder {
             pairs: Vec::new(alloc),
-            order: Vec::new(alloc),
+            index: KeyIndex::new(alloc),
         }
     }
 
@@ -135,7 +108,7 @@ impl FlatBuilder {
         ensures room { OnOk result (IsTrue self.new.has_room) }
     {
         self.pairs.try_reserve(1)?;
-        self.order.try_reserve(1)?;
+        self.index.reserve()?;
         Ok(())
     }
 
@@ -148,29 +121,34 @@ impl FlatBuilder {
         ensures repeated { is_repeated result ≡ is_some (number_of key self.old.pairs) }
         ensures room { IsTrue self.old.has_room → is_err result ≡ is_repeated result }
     {
-        let at = match search(self.pairs.as_slice(), self.order.as_slice(), key.bytes()).place {
-            Ok(_) => return Err(FlatRefused::Repeated(key)),
-            Err(at) => at,
-        };
-        if self.pairs.try_reserve(1).is_err() || self.order.try_reserve(1).is_err() {
+        let near = self.index.nearest(key.bytes());
+        if key_near(self.pairs.as_slice(), near) == key.bytes() {
+            return Err(FlatRefused::Repeated(key));
+        }
+        if self.pairs.try_reserve(1).is_err() || self.index.reserve().is_err() {
             return Err(FlatRefused::OutOfMemory(key));
         }
-        let place = self.pairs.len();
-        self.order.insert(at, place).unwrap();
-        self.pairs.push(FlatPair { key, number }).unwrap();
+        self.index
+            .insert(key.bytes(), key_near(self.pairs.as_slice(), near), ());
+        self.pairs.push_reserved(FlatPair { key, number });
         Ok(())
     }
 
-    /// Looks for the pair that has the key, by a binary search: it compares at most as many keys as the
+    /// Looks for the pair that has the key, by the index of the keys: it compares at most as many keys as the
     /// number of pairs has binary digits.
     pub fn find(&self, key: &[u8]) -> Found
         ensures place { result.place ≡ place_of key.now self.now.pairs }
         ensures compares { IsWithinDigits result.compares (length self.now.pairs) }
     {
-        let searched = search(self.pairs.as_slice(), self.order.as_slice(), key);
-        Found {
-            place: searched.place.ok(),
-            compares: searched.compares,
+        match self.index.nearest(key) {
+            None => Found {
+                place: None,
+                compares: 0,
+            },
+            Some(place) => Found {
+                place: (self.pairs[place].key.bytes() == key).then_some(place),
+                compares: 1,
+            },
         }
     }
 
@@ -186,7 +164,7 @@ impl FlatBuilder {
     pub fn held(&self) -> u64
         ensures { result ≡ told (flat_size self.now.pairs) }
     {
-        let mut held = (self.pairs.len() as u64).saturating_add(self.order.len() as u64);
+        let mut held = (self.pairs.len() as u64).saturating_add(self.index.len() as u64);
         for pair in &self.pairs {
             held = held.saturating_add(pair.key.bytes().len() as u64);
         }
@@ -199,7 +177,7 @@ impl FlatBuilder {
     {
         Ok(FlatBuilder {
             pairs: copy_pairs(alloc, self.pairs.as_slice())?,
-            order: Vec::from_slice(alloc, self.order.as_slice())?,
+            index: self.index.copy(alloc)?,
         })
     }
 
@@ -245,7 +223,7 @@ impl Flat {
         self.built.push(key, number)
     }
 
-    /// Looks for the pair that has the key, by a binary search: it compares at most as many keys as the
+    /// Looks for the pair that has the key, by the index of the keys: it compares at most as many keys as the
     /// number of pairs has binary digits.
     pub fn find(&self, key: &[u8]) -> Found
         ensures place { result.place ≡ place_of key.now self.now }

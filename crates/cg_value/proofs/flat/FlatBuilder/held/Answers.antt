@@ -1,14 +1,9 @@
-use Rattle.std.proofs.Common.{ap, ◌∙◌, arith}
+use Rattle.std.proofs.Common.{ap, ◌∙◌}
 use Rattle.std.proofs.lemmas.List.{take_all}
 use Rattle.cg_text.specs.Token.{told}
 use Rattle.cg_value.specs.Flat.{Building, flat_size}
-use Rattle.cg_value.specs.FlatLaws.{order_length, parts_size}
+use Rattle.cg_value.specs.FlatLaws.{parts_size}
 use Rattle.cg_value.proofs.flat.FlatBuilder.held.Goals as goal
-
-pub loop-pair-init : goal.loop-pair-init
-loop-pair-init c =
-    let same = order_length c.self.invariant in
-    omega (arith, same, c.self.inside.pairs.ok.0, c.self.inside.order.ok.0)
 
 pub returns : goal.returns
 returns c =

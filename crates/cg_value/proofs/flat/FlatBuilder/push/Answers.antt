@@ -1,53 +1,57 @@
-use Rattle.std.proofs.Common.{◌≡◌, ℕ, List, length, Ok, Err, is_ok, is_some, IfErr, ap, ◌∙◌}
-use Rattle.std.specs.Result.{result_ok}
-use Rattle.std.specs.declared.result.Result.{Result}
+use Rattle.std.proofs.Common.{is_some, sym, ap, ◌∙◌}
+use Rattle.cg_index.specs.IndexLaws.{same_indexes}
 use Rattle.cg_value.specs.declared.flat.FlatPair.{FlatPair}
-use Rattle.cg_value.specs.Flat.{Building, number_of, place_of}
-use Rattle.cg_value.specs.FlatLaws.{IsBetween, index_push, place_as_number}
+use Rattle.cg_value.specs.Flat.{Building}
+use Rattle.cg_value.specs.FlatLaws.{keys_of, compared_same, compared_other, near_has, near_lacks, near_is, index_push, place_as_number, word_bytes}
 use Rattle.cg_value.proofs.flat.FlatBuilder.push.Goals as goal
 
--- Whether the search found a place is whether the key has a number.
-is_there : (place : Result ℕ ℕ) (seen key : List ℕ) (slice pairs : List FlatPair) (whole : Building) →
-    result_ok place ≡ place_of seen slice → seen ≡ key → slice ≡ pairs → pairs ≡ whole.pairs →
-    is_ok place ≡ is_some (number_of key whole.pairs)
-is_there (Ok p) seen key slice pairs whole e s t w = ap is_some e ∙ rw (s, t, w) (place_as_number key whole.pairs)
-is_there (Err a) seen key slice pairs whole e s t w = ap is_some e ∙ rw (s, t, w) (place_as_number key whole.pairs)
-
--- The gap that the search left, in the vectors themselves.
-gap_in : (place : Result ℕ ℕ) (at : ℕ) (seen key : List ℕ) (slice pairs : List FlatPair) (places order : List ℕ) →
-    IfErr place (λ a. IsBetween slice places seen a a) → place ≡ Err at → seen ≡ key → slice ≡ pairs →
-    places ≡ order → IsBetween pairs order key at at
-gap_in place at seen key slice pairs places order gap e s t o =
-    let gap_at = rw (e, s, t, o) at gap in gap_at
-
-pub returns-in-Ok-clause-repeated : goal.returns-in-Ok-clause-repeated
-returns-in-Ok-clause-repeated c =
-    let there = is_there c.search.result.place c.bytes.result.now c.args.key c.as_slice.result.now
-    c.self.inside.pairs.items c.args.self.now c.search.ensures.place c.bytes.ensures.bytes
-    c.as_slice.ensures.value (ap (λ (b : Building). b.pairs) c.self.view_is) in
-    rw c.in-Ok.is at there
+pub returns-then-eq-clause-repeated : goal.returns-then-eq-clause-repeated
+returns-then-eq-clause-repeated c =
+    let pairs_is = ap (λ (b : Building). b.pairs) c.self.view_is in
+    let there = rw (c.as_slice.ensures.value) at c.key_near.ensures.key in
+    let same = compared_same c.key_near.result.now c.bytes-2.result.now c.args.key c.eq.result c.eq.ensures c.if-eq.true c.bytes-2.ensures.bytes in
+    rw (← pairs_is) (sym (near_has c.self.invariant c.nearest-near.result c.key_near.result.now c.args.key c.nearest-near.ensures.within there same c.bytes-2.ensures.word.0))
 
 pub returns-then-is_err-clause-repeated : goal.returns-then-is_err-clause-repeated
 returns-then-is_err-clause-repeated c =
-    let there = is_there c.search.result.place c.bytes.result.now c.args.key c.as_slice.result.now
-    c.self.inside.pairs.items c.args.self.now c.search.ensures.place c.bytes.ensures.bytes
-    c.as_slice.ensures.value (ap (λ (b : Building). b.pairs) c.self.view_is) in
-    rw c.in-Err.is at there
+    let pairs_is = ap (λ (b : Building). b.pairs) c.self.view_is in
+    let there = rw (c.as_slice.ensures.value) at c.key_near.ensures.key in
+    let only = rw (c.bytes.ensures.bytes) at c.nearest-near.ensures.only in
+    let other = compared_other c.key_near.result.now c.bytes-2.result.now c.args.key c.eq.result c.eq.ensures c.if-eq.false c.bytes-2.ensures.bytes in
+    let none = near_lacks c.self.invariant c.nearest-near.result c.key_near.result.now c.args.key c.nearest-near.ensures.none only there other in
+    rw (← pairs_is) (sym (ap is_some none) ∙ place_as_number c.args.key c.self.inside.pairs.items)
 
-pub returns-clause-repeated : goal.returns-clause-repeated
-returns-clause-repeated c =
-    let there = is_there c.search.result.place c.bytes.result.now c.args.key c.as_slice.result.now
-    c.self.inside.pairs.items c.args.self.now c.search.ensures.place c.bytes.ensures.bytes
-    c.as_slice.ensures.value (ap (λ (b : Building). b.pairs) c.self.view_is) in
-    rw c.in-Err.is at there
+pub insert-requires-clause-key : goal.insert-requires-clause-key
+insert-requires-clause-key c = word_bytes c.bytes-3.result.now (rw (← c.bytes-3.ensures.bytes) at c.bytes-3.ensures.word.1)
+
+pub insert-requires-clause-nearest : goal.insert-requires-clause-nearest
+insert-requires-clause-nearest c =
+    let there = rw (c.as_slice-2.ensures.value, c.try_reserve.ensures.items) at c.key_near-2.ensures.key in
+    let nearest = rw (c.bytes.ensures.bytes ∙ sym c.bytes-3.ensures.bytes) at c.nearest-near.ensures.nearest in (
+      keys_of c.self.inside.pairs.items,
+      same_indexes c.reserve.ensures.same c.self.invariant.indexed,
+      near_is c.self.invariant c.reserve.ensures.same c.nearest-near.result c.key_near-2.result.now c.bytes-3.result.now c.nearest-near.ensures.none c.nearest-near.ensures.within nearest there,
+    )
 
 pub invariant_of-self-2 : goal.invariant_of-self-2
 invariant_of-self-2 c =
     let pairs = c.self.inside.pairs.items in
-    let order = c.self.inside.order.items in
-    let gap = gap_in c.search.result.place c.in-Err.at c.bytes.result.now c.args.key c.as_slice.result.now pairs
-    c.as_slice-2.result.now order c.search.ensures.gap c.in-Err.is c.bytes.ensures.bytes
-    c.as_slice.ensures.value c.as_slice-2.ensures.value in
-    let place : c.len-place.result ≡ length pairs = c.len-place.ensures ∙ c.try_reserve.ensures.len ∙ c.self.inside.pairs.ok.0 in
-    rw (c.push.ensures.items, c.unwrap-2.ensures, c.insert.ensures.items, c.unwrap.ensures, c.try_reserve.ensures.items, c.try_reserve-else-is_err.ensures.items, place)
-    (index_push pairs order (record { key = c.args.key; number = c.args.number }) c.in-Err.at c.self.invariant gap)
+    let p : FlatPair = record { key = c.args.key; number = c.args.number } in
+    let before = rw (c.as_slice.ensures.value) at c.key_near.ensures.key in
+    let only = rw (c.bytes.ensures.bytes) at c.nearest-near.ensures.only in
+    let other = compared_other c.key_near.result.now c.bytes-2.result.now c.args.key c.eq.result c.eq.ensures c.if-eq.false c.bytes-2.ensures.bytes in
+    let none = near_lacks c.self.invariant c.nearest-near.result c.key_near.result.now c.args.key c.nearest-near.ensures.none only before other in
+    let there = rw (c.as_slice-2.ensures.value, c.try_reserve.ensures.items) at c.key_near-2.ensures.key in
+    let nearest = rw (c.bytes.ensures.bytes ∙ sym c.bytes-3.ensures.bytes) at c.nearest-near.ensures.nearest in
+    let near = near_is c.self.invariant c.reserve.ensures.same c.nearest-near.result c.key_near-2.result.now c.bytes-3.result.now c.nearest-near.ensures.none c.nearest-near.ensures.within nearest there in
+    let grown = c.insert.ensures.index (keys_of pairs) (same_indexes c.reserve.ensures.same c.self.invariant.indexed) near in
+    rw (c.push_reserved.ensures.items, c.try_reserve.ensures.items) (index_push c.self.invariant p none (rw (c.bytes-3.ensures.bytes) at grown))
+
+pub returns-clause-repeated : goal.returns-clause-repeated
+returns-clause-repeated c =
+    let pairs_is = ap (λ (b : Building). b.pairs) c.self.view_is in
+    let there = rw (c.as_slice.ensures.value) at c.key_near.ensures.key in
+    let only = rw (c.bytes.ensures.bytes) at c.nearest-near.ensures.only in
+    let other = compared_other c.key_near.result.now c.bytes-2.result.now c.args.key c.eq.result c.eq.ensures c.if-eq.false c.bytes-2.ensures.bytes in
+    let none = near_lacks c.self.invariant c.nearest-near.result c.key_near.result.now c.args.key c.nearest-near.ensures.none only there other in
+    rw (← pairs_is) (sym (ap is_some none) ∙ place_as_number c.args.key c.self.inside.pairs.items)
