@@ -1,14 +1,52 @@
 -- What holders of keys cite of an index.
-use Rattle.std.proofs.Common.{ℕ, List}
-use Rattle.cg_index.specs.Tree.{Indexed, Indexes, IsNearest, IsSameBut}
+use Rattle.std.proofs.Common.{◌≡◌, ◌≢◌, ℕ, ◌<◌, List, [], length, Option, Some, None, is_none, IfSome, true, ◌==◌, sym, ap, ◌∙◌, arith}
+use Rattle.std.proofs.lemmas.Bool.Decides.{nat_tests}
+use Rattle.cg_index.specs.Tree.{Indexed, Indexes, IsNear, IsNearest, IsOnlyFor, IsSameBut, key_at}
 
-module _ {P : Type 0} {old new : Indexed P} (same : IsSameBut old new) where
-  -- What is the same but for the room is the index of the same keys, and has the same nearest ones.
-  pub same_indexes : {keys : List (List ℕ)} → Indexes old keys → Indexes new keys
-  same_indexes of = record {
-    tree = rw (same.forks, same.root) of.tree;
-    count = rw (same.besides) of.count;
-  }
+-- The bytes are the key at the place, and none of no place.
+abbrev pub IsKeyThere : List (List ℕ) → Option ℕ → List ℕ → Type 0
+IsKeyThere keys None bytes = bytes ≡ []
+IsKeyThere keys (Some place) bytes = bytes ≡ key_at keys place
 
-  pub same_nearest : {key : List ℕ} {k : ℕ} → IsNearest old key k → IsNearest new key k
-  same_nearest leads = rw (same.forks, same.root) leads
+no_length : (n : ℕ) → true ≡ (n == 0) → n ≡ 0
+no_length n e = grind (arith, nat_tests)
+
+-- What is the same but for the room is the index of the same keys.
+pub same_indexes : {P : Type 0} {old new : Indexed P} → IsSameBut old new → {keys : List (List ℕ)} → Indexes old keys → Indexes new keys
+same_indexes same of = record {
+  tree = rw (same.forks, same.root) of.tree;
+  count = rw (same.besides) of.count;
+}
+
+module _ {P : Type 0} {index : Indexed P} {keys : List (List ℕ)} (of : Indexes index keys) (near : Option ℕ) (there key : List ℕ) where
+  -- The key there is the one that is looked for, which isn't empty: it has a place among the keys.
+  pub near_has : IfSome near (λ place. place < length index.besides) → IsKeyThere keys near there → there ≡ key → 0 < length key →
+      (place : ℕ) × (place < length keys) × (key_at keys place ≡ key)
+  near_has within is same some = elim near as
+      (λ near. IfSome near (λ place. place < length index.besides) → IsKeyThere keys near there → (place : ℕ) × (place < length keys) × (key_at keys place ≡ key)) [
+        | None ↦ λ w e. (
+            let none : key ≡ [] = sym same ∙ e in
+            absurd (omega (arith, some, ap length none)))
+        | Some place ↦ λ w e. (place, omega (arith, of.count, w), sym e ∙ same)
+      ] within is
+
+  -- It is another: none of the keys is the one that is looked for.
+  pub near_lacks : is_none near ≡ (length index.besides == 0) → IfSome near (IsOnlyFor index key) → IsKeyThere keys near there → there ≢ key →
+      (j : ℕ) → j < length keys → key_at keys j ≢ key
+  near_lacks none only is apart j h e = elim near as
+      (λ near. is_none near ≡ (length index.besides == 0) → IfSome near (IsOnlyFor index key) → IsKeyThere keys near there → ⊥) [
+        | None ↦ λ n o i. omega (arith, of.count, no_length (length index.besides) n, h)
+        | Some place ↦ λ n o i. (
+            let same : j ≡ place = o keys of j h e in
+            apart (i ∙ ap (key_at keys) (sym same) ∙ e))
+      ] none only is
+
+  -- The key there is the nearest one, also where room has been made.
+  pub near_is : {new : Indexed P} → IsSameBut index new → is_none near ≡ (length index.besides == 0) → IfSome near (IsNearest index key) →
+      IsKeyThere keys near there → IsNear new keys key there
+  near_is {new} same none nearest is = λ some. elim near as
+      (λ near. is_none near ≡ (length index.besides == 0) → IfSome near (IsNearest index key) → IsKeyThere keys near there →
+      (k : ℕ) × IsNearest new key k × (key_at keys k ≡ there)) [
+        | None ↦ λ n o i. absurd (omega (arith, of.count, no_length (length index.besides) n, some))
+        | Some place ↦ λ n o i. (place, rw (same.forks, same.root) o, sym i)
+      ] none nearest is

@@ -2,7 +2,6 @@
 use Rattle.std.proofs.Common.{◌≡◌, ℕ, zero, suc, ◌+◌, ◌<◌, ◌⊎◌, inl, inr, List, [], ◌∷◌, ◌++◌, length, get_or, map, Option, Some, None, Bool, true, false, cond, option_map, is_some, is_none, IfSome, ◌==◌}
 use Rattle.std.proofs.Common.{refl, sym, ap, ◌∙◌, arith}
 use Rattle.std.proofs.lemmas.Bool.{cond-true, cond-false, false_from_ne_true}
-use Rattle.std.proofs.lemmas.Bool.Decides.{nat_tests}
 use Rattle.std.proofs.lemmas.Cmp.{nat_list_eq_equiv, nat_eq_equiv, on_equiv, and_equiv}
 use Rattle.std.proofs.lemmas.List.{length-map, map-append}
 use Rattle.std.proofs.lemmas.List.Sums.{sum_by-cons, sum_by_push}
@@ -16,8 +15,8 @@ use Rattle.std.specs.List.{sum_by}
 use Rattle.std.specs.Str.{bytes_eq}
 use Rattle.cg_text.specs.Word.{AreWordBytes}
 use Rattle.cg_index.specs.Position.{HasNoZero}
-use Rattle.cg_index.specs.IndexLaws.{same_nearest}
-use Rattle.cg_index.specs.Tree.{Indexed, Indexes, IsNear, IsNearest, IsOnlyFor, IsSameBut}
+use Rattle.cg_index.specs.IndexLaws.{IsKeyThere, near_has, near_lacks}
+use Rattle.cg_index.specs.Tree.{Indexed, Indexes, IsOnlyFor}
 use Rattle.cg_value.specs.declared.flat.FlatPair.{FlatPair}
 use Rattle.cg_value.specs.Flat.{has_key, number_of, place_of, HasDistinctKeys, flat_size, are_same}
 
@@ -153,11 +152,6 @@ pub record IsFlatIndex {P : Type 0} (pairs : List FlatPair) (index : Indexed P) 
   pub distinct : HasDistinctKeys pairs
   pub indexed : Indexes index (keys_of pairs)
 
--- The bytes are the key of the pair at the place, and none of no place.
-abbrev pub IsKeyThere : List FlatPair → Option ℕ → List ℕ → Type 0
-IsKeyThere pairs None bytes = bytes ≡ []
-IsKeyThere pairs (Some place) bytes = bytes ≡ key_at pairs place
-
 pub keys_read : (pairs : List FlatPair) (i : ℕ) → i < length pairs → get_or (keys_of pairs) i [] ≡ key_at pairs i
 keys_read [] i h = absurd (omega (arith, h))
 keys_read (p ∷ ps) zero h = refl
@@ -180,9 +174,6 @@ compared_other a b key test is fails e same =
     let would = (bytes_eq-Decides a b).1 (same ∙ sym e) in
     cc
 
-no_length : (n : ℕ) → true ≡ (n == 0) → n ≡ 0
-no_length n e = grind (arith, nat_tests)
-
 module _ {P : Type 0} {pairs : List FlatPair} {index : Indexed P} (flat : IsFlatIndex pairs index) where
   pub index_length : length index.besides ≡ length pairs
   index_length = flat.indexed.count ∙ length-map pairs (λ p. p.key)
@@ -194,22 +185,19 @@ module _ {P : Type 0} {pairs : List FlatPair} {index : Indexed P} (flat : IsFlat
       let same : i ≡ place = only (keys_of pairs) flat.indexed i (rw length-map h) (keys_read pairs i h ∙ e) in
       apart (rw same at e))
 
-  -- The key there is the key that is looked for: a pair has it.
-  pub near_has : (near : Option ℕ) (there key : List ℕ) → IfSome near (λ place. place < length index.besides) → IsKeyThere pairs near there →
-      there ≡ key → 0 < length key → is_some (number_of key pairs) ≡ true
-  near_has None there key within is same some =
-      let none : key ≡ [] = sym same ∙ is in
-      absurd (omega (arith, some, ap length none))
-  near_has (Some place) there key within is same some =
-      sym (place_as_number key pairs) ∙ ap is_some (one_place key pairs place flat.distinct (omega (arith, index_length, within)) (sym is ∙ same))
+  -- The key there is the one that is looked for: a pair has it.
+  pub near_number : (near : Option ℕ) (there key : List ℕ) → IfSome near (λ place. place < length index.besides) →
+      IsKeyThere (keys_of pairs) near there → there ≡ key → 0 < length key → is_some (number_of key pairs) ≡ true
+  near_number near there key within is same some =
+      let has = near_has flat.indexed near there key within is same some in
+      let within : has.0 < length pairs = omega (arith, has.1, length-map pairs (λ (p : FlatPair). p.key)) in
+      sym (place_as_number key pairs) ∙ ap is_some (one_place key pairs has.0 flat.distinct within (sym (keys_read pairs has.0 within) ∙ has.2))
 
   -- It is another: no pair has it.
-  pub near_lacks : (near : Option ℕ) (there key : List ℕ) → is_none near ≡ (length index.besides == 0) → IfSome near (IsOnlyFor index key) →
-      IsKeyThere pairs near there → (there ≡ key → ⊥) → place_of key pairs ≡ None
-  near_lacks None there key none only is apart =
-      let length_is = no_length (length index.besides) none in
-      no_place key pairs (λ i h e. omega (arith, index_length, length_is, h))
-  near_lacks (Some place) there key none only is apart = none_near key place only (λ e. apart (is ∙ e))
+  pub near_none : (near : Option ℕ) (there key : List ℕ) → is_none near ≡ (length index.besides == 0) → IfSome near (IsOnlyFor index key) →
+      IsKeyThere (keys_of pairs) near there → (there ≡ key → ⊥) → place_of key pairs ≡ None
+  near_none near there key none only is apart =
+      no_place key pairs (λ i h e. near_lacks flat.indexed near there key none only is apart i (rw length-map h) (keys_read pairs i h ∙ e))
 
   -- The place that is found, where the key there is compared.
   pub near_found : (place : ℕ) (seen key : List ℕ) (test : Bool) → place < length index.besides → IsOnlyFor index key place →
@@ -218,16 +206,6 @@ module _ {P : Type 0} {pairs : List FlatPair} {index : Indexed P} (flat : IsFlat
       sym (one_place key pairs place flat.distinct (omega (arith, index_length, within)) (sym is ∙ compared_same seen key key true holds refl refl))
   near_found place seen key false within only is fails =
       sym (none_near key place only (λ e. compared_other seen key key false fails refl refl (is ∙ e)))
-
-  -- The key there is the nearest one.
-  pub near_is : {new : Indexed P} → IsSameBut index new → (near : Option ℕ) (there key : List ℕ) → is_none near ≡ (length index.besides == 0) →
-      IfSome near (λ place. place < length index.besides) → IfSome near (IsNearest index key) → IsKeyThere pairs near there →
-      IsNear new (keys_of pairs) key there
-  near_is same None there key none within nearest is = λ some.
-      let length_is = no_length (length index.besides) none in
-      absurd (omega (arith, index_length, length_is, length-map pairs (λ (p : FlatPair). p.key), some))
-  near_is same (Some place) there key none within nearest is = λ some.
-      (place, same_nearest same nearest, keys_read pairs place (omega (arith, index_length, within)) ∙ sym is)
 
   pub index_push : {new : Indexed P} (p : FlatPair) → place_of p.key pairs ≡ None → Indexes new (keys_of pairs ++ p.key ∷ []) → IsFlatIndex (pairs ++ p ∷ []) new
   index_push p none of = record {

@@ -2,8 +2,9 @@
 ghost use Rattle.std.specs.Prelude.{◌≡◌, ◌+◌, ◌≤◌, ◌<◌, ◌++◌, ◌∷◌, [], IsTrue, IfOk, IfSome, OnOk, OnErr, IfErr, length, is_some, is_err};
 ghost use Rattle.cg_text.specs.Token.{told};
 ghost use Rattle.cg_value.specs.Flat.{number_of, place_of, HasDistinctKeys, flat_size, IsWithinDigits, IsHandedBack, is_repeated};
+ghost use Rattle.cg_index.specs.IndexLaws.{IsKeyThere};
 ghost use Rattle.cg_index.specs.Position.{HasNoZero};
-ghost use Rattle.cg_value.specs.FlatLaws.{IsKeyThere};
+ghost use Rattle.cg_value.specs.FlatLaws.{keys_of};
 
 use cg_index::KeyIndex;
 use cg_text::{Key, KeyFault, OutOfMemory};
@@ -41,7 +42,7 @@ pub struct Found {
 /// The key of the pair at a place, and no bytes of no place.
 fn key_near(pairs: &[FlatPair], place: Option<usize>) -> &[u8]
     requires { IfSome place (λ i. i < length pairs.now) }
-    ensures key { IsKeyThere pairs.now place result.now }
+    ensures key { IsKeyThere (keys_of pairs.now) place result.now }
     ensures bytes { HasNoZero result.now }
 {
     match place {
