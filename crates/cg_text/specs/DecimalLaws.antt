@@ -199,3 +199,27 @@ number_digits lo hi (Number m) rest n h = h.2
 pub digits_bytes : (rest : List ℕ) → AreDigits rest → AreBytes rest
 digits_bytes [] h = tt
 digits_bytes (c ∷ cs) h = (omega (arith, h.1), digits_bytes cs h.2)
+
+-- The number after a run of digits and a rest of them.
+pub read_on_append : (n : ℕ) (run rest : List ℕ) → read_on n (run ++ rest) ≡ read_on (read_on n run) rest
+read_on_append n [] rest = refl
+read_on_append n (d ∷ ds) rest = read_on_append (10 * n + (d - 48)) ds rest
+
+digits_append : (run rest : List ℕ) → AreDigits run → AreDigits rest → AreDigits (run ++ rest)
+digits_append [] rest h k = k
+digits_append (d ∷ ds) rest h k = (h.0, h.1, digits_append ds rest h.2 k)
+
+digits_after : (run rest : List ℕ) → AreDigits (run ++ rest) → AreDigits rest
+digits_after [] rest h = h
+digits_after (d ∷ ds) rest h = digits_after ds rest h.2
+
+-- What is left of a number after a run of its digits.
+pub number_run : (lo hi n number : ℕ) (run rest : List ℕ) (v : ℕ) → AreDigits run → number ≡ read_on n run → IsDecimalRest lo hi (Number number) rest v ↔ IsDecimalRest lo hi (Number n) (run ++ rest) v
+number_run lo hi n number run rest v d e = (
+  λ h. (h.0, h.1, digits_append run rest d h.2, (rw e at h.3) ∙ sym (read_on_append n run rest)),
+  λ h. (h.0, h.1, digits_after run rest h.2, rw e (h.3 ∙ read_on_append n run rest)),
+)
+
+-- A number of the range is in reach.
+pub number_open : (lo hi n : ℕ) → 0 < n → lo ≤ n → n ≤ hi → IsTrue (is_open lo hi (Number n))
+number_open lo hi n above low high = and_from _ _ (lt-ltb _ _ above) (true_from_Reaches lo hi n above (Spans_here lo hi n (n + 1) (omega arith) high))

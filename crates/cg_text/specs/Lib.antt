@@ -40,6 +40,7 @@ pub mod RangesState
 pub mod Raw
 pub mod RawLaws
 pub mod RawState
+pub mod RunLaws
 pub mod Scan
 pub mod ScanLaws
 pub mod Signed

@@ -1,5 +1,5 @@
 -- What holds of texts without a byte.
-use Rattle.std.proofs.Common.{◌≡◌, ◌≢◌, ℕ, ◌+◌, ◌≤◌, List, [], ◌∷◌, ◌++◌, length, refl, arith}
+use Rattle.std.proofs.Common.{◌≡◌, ◌≢◌, ℕ, ◌≤◌, List, [], ◌∷◌, ◌++◌, length, refl, arith}
 use Rattle.cg_text.specs.Texts.{Lacks}
 
 -- The byte isn't inside.

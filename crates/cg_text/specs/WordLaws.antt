@@ -188,3 +188,27 @@ is_taken_is controller taken word f = (
       let same : word ≡ taken = h.whole ∙ append-nil taken in
       and_from (nat_lt 0 (length taken)) (pointwise nat_eq taken word) some (rw same (nat_list_eq_equiv.refl taken))),
 )
+
+-- A run of word bytes after the bytes taken, or in front of a word that is no controller's.
+pub front_run : (controller : Bool) (taken run : List ℕ) → IsWordFront controller taken → AreWordBytes run → (IsTrue controller → 0 < length taken) → IsWordFront controller (taken ++ run)
+front_run controller (x ∷ xs) run f w c = text_append controller (x ∷ xs) run f w
+front_run false [] [] f w c = tt
+front_run false [] (y ∷ ys) f w c = (omega arith, w)
+front_run true [] run f w c = absurd (omega (arith, c refl))
+
+-- What is left of a word after a run of its bytes.
+pub word_run : (controller : Bool) (taken run rest word : List ℕ) → IsWordRest controller (taken ++ run) rest word ↔ IsWordRest controller taken (run ++ rest) word
+word_run controller taken run rest word = (
+  λ h. record { whole = h.whole ∙ append_assoc taken run rest; is_word = h.is_word },
+  λ h. record { whole = h.whole ∙ sym (append_assoc taken run rest); is_word = h.is_word },
+)
+
+-- What taking a run that may fail leaves.
+pub front_extended : (controller b : Bool) (taken run other new : List ℕ) → new ≡ cond b (taken ++ other) taken → other ≡ run → IsWordFront controller taken → AreWordBytes run → (IsTrue controller → 0 < length taken) → IsWordFront controller new
+front_extended controller true taken run other new e o f w c = rw (e, o) (front_run controller taken run f w c)
+front_extended controller false taken run other new e o f w c = rw e f
+
+-- Some bytes were taken, by the count of them.
+pub some_held : (taken : List ℕ) (n : ℕ) (empty : Bool) → n ≡ length taken → empty ≡ nat_eq n 0 → empty ≡ false → 0 < length taken
+some_held [] n empty e f g = absurd (let t : empty ≡ true = f ∙ eq-eqb n 0 e in cc)
+some_held (x ∷ xs) n empty e f g = omega arith

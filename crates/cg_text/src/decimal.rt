@@ -1,7 +1,8 @@
 //! Decimal numbers of a range.
-ghost use Rattle.std.specs.Prelude.{◌+◌, ◌*◌, ◌≤◌, ◌<◌, ◌↔◌, false, IsTrue, MatchOption, ⊤, refl, ◌^◌};
-ghost use Rattle.cg_text.specs.Decimal.{IsDecimal};
+ghost use Rattle.std.specs.Prelude.{◌+◌, ◌*◌, ◌≤◌, ◌<◌, ◌↔◌, ◌≡◌, false, IsTrue, MatchOption, ⊤, refl, ◌^◌, length, take};
+ghost use Rattle.cg_text.specs.Decimal.{AreDigits, IsDecimal, read_on};
 ghost use Rattle.cg_text.specs.DecimalState.{Reaches, IsDecimalRest, is_open, decimal_ends};
+ghost use Rattle.cg_text.specs.Scan.{FollowsRun};
 ghost use Rattle.cg_text.specs.Token.{Follows, NoneBegins, Spells};
 
 use crate::memory::OutOfMemory;
@@ -70,6 +71,45 @@ pub(crate) fn after(lo: u64, hi: u64, progress: Progress, byte: u8) -> Option<Pr
     }
 }
 
+/// Takes digits in front of `bytes` while any digit after those of `n` gives a number up to `hi`: the number, and how many.
+fn take_digits(hi: u64, n: u64, bytes: &[u8]) -> (u64, usize)
+    requires { n ≤ hi }
+    ensures within { result.1 ≤ length bytes.now }
+    ensures digits { AreDigits (take result.1 bytes.now) }
+    ensures number { result.0 ≡ read_on n (take result.1 bytes.now) }
+    ensures low { n ≤ result.0 }
+    ensures high { result.0 ≤ hi }
+{
+    let room = hi / 10;
+    let mut number = n;
+    for (i, byte) in bytes.iter().enumerate() {
+        if !byte.is_ascii_digit() || number >= room {
+            return (number, i);
+        }
+        number = number * 10 + (*byte - b'0') as u64;
+    }
+    (number, bytes.len())
+}
+
+/// The state after more digits, and how many: those after which every number is of the range.
+fn after_digits(lo: u64, hi: u64, progress: Progress, bytes: &[u8]) -> (Progress, usize)
+    requires live { IsTrue (is_open lo hi progress) }
+    ensures within { result.1 ≤ length bytes.now }
+    ensures follows { FollowsRun (IsDecimalRest lo hi) progress (take result.1 bytes.now) result.0 }
+    ensures live { IsTrue (is_open lo hi result.0) }
+{
+    match progress {
+        Progress::Number(n) => {
+            if n < lo || hi < n {
+                return (progress, 0);
+            }
+            let (number, count) = take_digits(hi, n, bytes);
+            (Progress::Number(number), count)
+        }
+        _ => (progress, 0),
+    }
+}
+
 impl DecimalText {
     /// A token of the numbers from `lo` to `hi`, unless there are none.
     pub fn new(lo: u64, hi: u64) -> Option<DecimalText>
@@ -111,6 +151,20 @@ impl Token for DecimalText {
             }
             None => Ok(false),
         }
+    }
+
+    fn run(&mut self, bytes: &[u8]) -> usize {
+        let (first, rest) = match bytes.split_first() {
+            Some(parts) => parts,
+            None => return 0,
+        };
+        let begun = match after(self.lo, self.hi, self.progress, *first) {
+            Some(progress) => progress,
+            None => return 0,
+        };
+        let (progress, count) = after_digits(self.lo, self.hi, begun, rest);
+        self.progress = progress;
+        count + 1
     }
 
     fn allows(&self, byte: u8) -> bool {

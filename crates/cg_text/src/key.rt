@@ -1,6 +1,6 @@
 //! Keys: the words of a line.
-ghost use Rattle.std.specs.Prelude.{◌≡◌, IsTrue, ◌↔◌};
-ghost use Rattle.cg_text.specs.Word.{IsWord, IsWordByte};
+ghost use Rattle.std.specs.Prelude.{◌≡◌, IsTrue, ◌↔◌, ◌≤◌, length, take};
+ghost use Rattle.cg_text.specs.Word.{IsWord, IsWordByte, AreWordBytes};
 ghost use Rattle.cg_text.specs.Key.{IsKeyMade};
 
 use std::alloc::Global;
@@ -39,6 +39,19 @@ pub(crate) fn is_word_byte(byte: u8) -> bool
     ensures { IsTrue result ↔ IsWordByte byte }
 {
     33 <= byte && byte <= 126 && byte != b'='
+}
+
+/// How many bytes in front are those of words.
+pub(crate) fn count_word_bytes(bytes: &[u8]) -> usize
+    ensures within { result ≤ length bytes.now }
+    ensures words { AreWordBytes (take result bytes.now) }
+{
+    for (i, byte) in bytes.iter().enumerate() {
+        if !is_word_byte(*byte) {
+            return i;
+        }
+    }
+    bytes.len()
 }
 
 /// Whether the bytes are a word.

@@ -1,5 +1,5 @@
 //! Raw lines.
-ghost use Rattle.std.specs.Prelude.{◌≡◌, ◌<◌, ◌↔◌, true, IsTrue, length};
+ghost use Rattle.std.specs.Prelude.{◌≡◌, ◌≤◌, ◌<◌, ◌↔◌, true, ◌++◌, IsTrue, length, take};
 ghost use Rattle.cg_text.specs.Raw.{IsRawLine};
 ghost use Rattle.cg_text.specs.RawState.{IsRawByte, IsRawRest};
 ghost use Rattle.cg_text.specs.Token.{Spells};
@@ -34,6 +34,23 @@ impl RawText {
             bytes: Vec::new(alloc),
         }
     }
+
+    /// Takes the bytes in front that raw lines have, and answers how many. Where memory is refused it takes none.
+    fn take_raw(&mut self, bytes: &[u8]) -> usize
+        ensures within { result ≤ length bytes.now }
+        ensures raw { IsRawLine (take result bytes.now) }
+        ensures items { self.new.bytes.items ≡ self.old.bytes.items ++ take result bytes.now }
+    {
+        let count = match memchr2(0, b'\n', bytes) {
+            Some(place) => place,
+            None => bytes.len(),
+        };
+        let (run, _) = bytes.split_at(count);
+        match self.bytes.extend_from_slice(run) {
+            Ok(()) => count,
+            Err(_) => 0,
+        }
+    }
 }
 
 impl Token for RawText {
@@ -60,6 +77,10 @@ impl Token for RawText {
             Ok(()) => Ok(true),
             Err(_) => Err(OutOfMemory),
         }
+    }
+
+    fn run(&mut self, bytes: &[u8]) -> usize {
+        self.take_raw(bytes)
     }
 
     fn allows(&self, byte: u8) -> bool {
@@ -95,14 +116,6 @@ impl Token for RawText {
 
 impl Scan for RawText {
     fn scan(&mut self, bytes: &[u8]) -> usize {
-        let count = match memchr2(0, b'\n', bytes) {
-            Some(place) => place,
-            None => bytes.len(),
-        };
-        let (run, _) = bytes.split_at(count);
-        match self.bytes.extend_from_slice(run) {
-            Ok(()) => count,
-            Err(_) => 0,
-        }
+        self.take_raw(bytes)
     }
 }

@@ -1,5 +1,6 @@
 //! What every token keeps.
-ghost use Rattle.std.specs.Prelude.{◌≡◌, ℕ, ◌+◌, ◌≤◌, ◌↔◌, Bool, List, [], IsTrue, IsFalse, OnErr};
+ghost use Rattle.std.specs.Prelude.{◌≡◌, ℕ, ◌+◌, ◌≤◌, ◌↔◌, Bool, List, [], IsTrue, IsFalse, OnErr, length, take};
+ghost use Rattle.cg_text.specs.Scan.{FollowsRun};
 ghost use Rattle.cg_text.specs.Token.{Follows, Begins, NoneBegins, Ends, Same, Completes, HasOneValue, HoldsBytes, IfTaken, IfRefused, UnlessTaken, told};
 
 use crate::memory::OutOfMemory;
@@ -48,6 +49,24 @@ pub trait Token: Drop {
         ensures size { size self.new ≤ size self.old + 1 }
         ensures memory { OnErr result (IsTrue grows) }
         ensures last { OnErr result (Begins means self.old byte) };
+
+    /// Takes bytes from the front of `bytes` as `step` would take them one after another, and answers how many. It may leave
+    /// some that `step` would take.
+    fn run(&mut self, bytes: &[u8]) -> usize
+        ensures within { result ≤ length bytes.now }
+        ensures follows { FollowsRun means self.old (take result bytes.now) self.new }
+        ensures size { size self.new ≤ size self.old + result }
+        ensures same_size { result ≡ 0 → size self.new ≡ size self.old }
+    {
+        for (i, byte) in bytes.iter().enumerate() {
+            match self.step(*byte) {
+                Ok(true) => {}
+                Ok(false) => return i,
+                Err(_) => return i,
+            }
+        }
+        bytes.len()
+    }
 
     /// Whether some rest begins with the byte.
     fn allows(&self, byte: u8) -> bool

@@ -5,7 +5,7 @@ ghost use Rattle.cg_text.specs.WordState.{IsWordFront, IsWordRest, is_taken};
 ghost use Rattle.cg_text.specs.WordLaws.{IsWordFront_prop};
 ghost use Rattle.cg_text.specs.Token.{Spells};
 
-use crate::key::{Key, is_word_byte};
+use crate::key::{Key, count_word_bytes, is_word_byte};
 use crate::memory::OutOfMemory;
 use crate::token::Token;
 use std::alloc::Global;
@@ -77,6 +77,19 @@ impl Token for WordText {
         match self.bytes.push(byte) {
             Ok(()) => Ok(true),
             Err(_) => Err(OutOfMemory),
+        }
+    }
+
+    fn run(&mut self, bytes: &[u8]) -> usize {
+        // Where a word of a controller begins, the byte goes by `step`.
+        if self.controller && self.bytes.is_empty() {
+            return 0;
+        }
+        let count = count_word_bytes(bytes);
+        let (run, _) = bytes.split_at(count);
+        match self.bytes.extend_from_slice(run) {
+            Ok(()) => count,
+            Err(_) => 0,
         }
     }
 

@@ -1,0 +1,29 @@
+use Rattle.std.proofs.Common.{◌≡◌, length, take, ◌≤◌, arith}
+use Rattle.std.proofs.lemmas.List.{take_all}
+use Rattle.cg_text.specs.RunLaws.{run_more, run_same}
+use Rattle.cg_text.proofs.token.Token.run.Goals as goal
+
+pub returns-in-Ok-false-clause-follows : goal.returns-in-Ok-false-clause-follows
+returns-in-Ok-false-clause-follows g c =
+    let same = rw c.in-Ok-false.field-0-test at c.in-Ok-false.ensures.same in
+    run_same g.Self.Token.means c.args.self.now c.loop-i.self c.step.new.self (take c.loop-i.i c.args.bytes.now) c.loop-i.invariant.follows same
+
+pub returns-in-Err-clause-follows : goal.returns-in-Err-clause-follows
+returns-in-Err-clause-follows g c =
+    run_same g.Self.Token.means c.args.self.now c.loop-i.self c.step.new.self (take c.loop-i.i c.args.bytes.now) c.loop-i.invariant.follows c.in-Err.ensures.same
+
+pub loop-i-preserved : goal.loop-i-preserved
+loop-i-preserved g c =
+    let taken = rw c.in-Ok-true.field-0-test at c.in-Ok-true.ensures.taken in
+    record {
+      follows = run_more g.Self.Token.means c.args.self.now c.loop-i.self c.step.new.self c.args.bytes.now c.loop-i.i c.loop-i-test.true c.loop-i.invariant.follows taken;
+      size = omega (arith, c.loop-i.invariant.size, c.step.ensures.size);
+      same = λ e. absurd (omega (arith, e));
+    }
+
+pub returns-clause-follows : goal.returns-clause-follows
+returns-clause-follows g c =
+    let done : length c.args.bytes.now ≤ c.loop-i.i = omega arith in
+    let all : take c.loop-i.i c.args.bytes.now ≡ c.args.bytes.now = take_all c.loop-i.i c.args.bytes.now done in
+    let whole : take (length c.args.bytes.now) c.args.bytes.now ≡ c.args.bytes.now = take_all (length c.args.bytes.now) c.args.bytes.now (omega arith) in
+    rw whole (rw all at c.loop-i.invariant.follows)
