@@ -3,6 +3,7 @@ use Rattle.std.proofs.Common.{◌≡◌, ℕ, ◌↔◌, inl, inr, Bool, true, f
 use Rattle.std.specs.Prelude.{OnErr}
 use Rattle.std.specs.declared.result.Result.{Result}
 use Rattle.cg_text.specs.Keyword.{text_of}
+use Rattle.cg_text.specs.Scan.{FollowsRun}
 use Rattle.cg_text.specs.Token.{IfTaken, IfRefused, UnlessTaken, Follows, NoneBegins, Same, Begins, Ends, Completes, HasOneValue, HoldsBytes}
 use Rattle.cg_text.specs.declared.keyword.KeywordText.{KeywordText}
 use Rattle.cg_join.specs.ApartLaws.{fixed_spells}
@@ -10,6 +11,7 @@ use Rattle.cg_join.specs.ByteLaws.{sequence_bytes}
 use Rattle.cg_join.specs.Join.{IsPair, AreApart}
 use Rattle.cg_join.specs.Lawful.{KeywordRest, keyword_ends, keyword_lawful}
 use Rattle.cg_join.specs.LineLaws.{self_spells}
+use Rattle.cg_join.specs.RunLaws.{pair_run}
 use Rattle.cg_join.specs.SequenceLaws.{sequence_completes, sequence_ends, sequence_one, both_same, nil_pair, pair_follows_first, pair_none_begins, pair_begins_first, pair_begins, pair_same}
 
 module _ {T W : Type 0} (M : T → List ℕ → W → Type 0) (label : KeywordText) where
@@ -32,6 +34,9 @@ module _ {T W : Type 0} (M : T → List ℕ → W → Type 0) (label : KeywordTe
   pub label_nil : (token : T) (v : Unit {0} × W) → IsPair KeywordRest M label token [] v.0 v.1 → M token [] v.1
   label_nil token v h = (nil_pair KeywordRest M label token v.0 v.1 h.front h.back h.whole h.begins h.ends).1
 
+  pub label_run : (label' : KeywordText) (token : T) (run : List ℕ) → FollowsRun KeywordRest label run label' → (rest : List ℕ) (v : Unit {0} × W) → IsPair KeywordRest M label' token rest v.0 v.1 ↔ IsPair KeywordRest M label token (run ++ rest) v.0 v.1
+  label_run label' token run f rest v = pair_run KeywordRest M label label' token run (label_apart token) (keyword_lawful label').completes f rest v.0 v.1
+
   -- After the whole text the token's rests are left.
   module _ (ended : IsTrue (keyword_ends label)) where
     nothing : [] ≡ drop label.at (text_of label.keyword)
@@ -50,6 +55,12 @@ module _ {T W : Type 0} (M : T → List ℕ → W → Type 0) (label : KeywordTe
     token_follows token token' byte f rest v = (
       λ h. of_token token (byte ∷ rest) v ((f rest v.1).0 (to_token token' rest v h)),
       λ h. of_token token' rest v ((f rest v.1).1 (to_token token (byte ∷ rest) v h)),
+    )
+
+    pub token_run : (token token' : T) (run : List ℕ) → FollowsRun M token run token' → (rest : List ℕ) (v : Unit {0} × W) → IsPair KeywordRest M label token' rest v.0 v.1 ↔ IsPair KeywordRest M label token (run ++ rest) v.0 v.1
+    token_run token token' run f rest v = (
+      λ h. of_token token (run ++ rest) v ((f rest v.1).0 (to_token token' rest v h)),
+      λ h. of_token token' rest v ((f rest v.1).1 (to_token token (run ++ rest) v h)),
     )
 
     pub token_refuses : (token : T) (byte : ℕ) → NoneBegins M token byte → (rest : List ℕ) (v : Unit {0} × W) → IsPair KeywordRest M label token (byte ∷ rest) v.0 v.1 → ⊥

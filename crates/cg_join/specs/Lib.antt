@@ -43,6 +43,7 @@ pub mod Pairs
 pub mod PairsLaws
 pub mod PairsState
 pub mod PairsStateLaws
+pub mod PartRunLaws
 pub mod Proper
 pub mod ProperLaws
 pub mod Reading
@@ -51,6 +52,7 @@ pub mod Ready
 pub mod ReadyLaws
 pub mod Repeat
 pub mod RepeatLaws
+pub mod RunLaws
 pub mod ScanLaws
 pub mod SequenceLaws
 pub mod SettledLaws

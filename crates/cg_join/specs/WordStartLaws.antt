@@ -1,5 +1,5 @@
 -- What holds of words as the texts of repetitions.
-use Rattle.std.proofs.Common.{◌≡◌, ℕ, ◌+◌, ◌<◌, ◌↔◌, IsTrue, Bool, List, [], ◌∷◌, ◌++◌, length, refl, sym, ◌∙◌, ap, arith}
+use Rattle.std.proofs.Common.{◌≡◌, ℕ, ◌<◌, ◌↔◌, IsTrue, Bool, List, [], ◌∷◌, ◌++◌, length, refl, sym, ◌∙◌, ap, arith}
 use Rattle.cg_text.specs.Token.{AreBytes, HasOneText}
 use Rattle.cg_text.specs.Word.{AreWordBytes, IsWordByte, IsWordText}
 use Rattle.cg_text.specs.WordState.{IsWordFront, IsWordRest, is_taken}

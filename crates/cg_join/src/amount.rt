@@ -92,6 +92,11 @@ impl Token for AmountText {
         self.parts.step(byte)
     }
 
+    #[inline(always)]
+    fn run(&mut self, bytes: &[u8]) -> usize {
+        self.parts.run(bytes)
+    }
+
     fn allows(&self, byte: u8) -> bool {
         self.parts.allows(byte)
     }

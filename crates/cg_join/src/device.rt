@@ -72,6 +72,11 @@ impl Token for DeviceText {
         }
     }
 
+    #[inline(always)]
+    fn run(&mut self, bytes: &[u8]) -> usize {
+        self.parts.run(bytes)
+    }
+
     fn allows(&self, byte: u8) -> bool {
         self.parts.allows(byte)
     }

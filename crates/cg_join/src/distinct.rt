@@ -102,6 +102,14 @@ impl Token for DistinctWords {
         Ok(true)
     }
 
+    fn run(&mut self, bytes: &[u8]) -> usize {
+        match make_room(&mut self.items) {
+            Ok(()) => {}
+            Err(_) => return 0,
+        }
+        self.current.run(bytes)
+    }
+
     fn allows(&self, byte: u8) -> bool {
         let more = self.current.allows(byte);
         let next = byte == self.separator;

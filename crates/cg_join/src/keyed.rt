@@ -1,6 +1,7 @@
 //! Any number of lines of a key and what follows it, the keys all different: the flat keyed and the nested keyed
 //! files of cgroup v2 (cgroup-v2.rst, "Interface Files", "Format").
-ghost use Rattle.std.specs.Prelude.{◌≡◌, ◌+◌, ◌≤◌, ◌<◌, ◌↔◌, true, false, not, ◌&&◌, Some, [], ◌++◌, IsTrue, IsFalse, map, length, OnErr};
+ghost use Rattle.std.specs.Prelude.{◌≡◌, ◌+◌, ◌≤◌, ◌<◌, ◌↔◌, true, false, not, ◌&&◌, Some, [], ◌++◌, IsTrue, IsFalse, map, length, take, OnErr};
+ghost use Rattle.cg_text.specs.Scan.{FollowsRun};
 ghost use Rattle.cg_text.specs.Token.{Begins, Follows, IfRefused, IfTaken, NoneBegins, Same, Spells, UnlessTaken};
 ghost use Rattle.cg_text.specs.WordState.{is_taken};
 ghost use Rattle.cg_join.specs.Distinct.{AreDistinct, any_value};
@@ -220,6 +221,32 @@ impl<V: Token, B: Follow<V>, C: Collection<V>> KeyedLines<V, B, C> {
         self.stage = Stage::Before;
         Ok(true)
     }
+
+    /// Takes bytes of a key where none is ended.
+    fn run_key(&mut self, bytes: &[u8]) -> usize
+        requires { IsFalse (is_marked self.old.stage) }
+        ensures within { result ≤ length bytes.now }
+        ensures follows { FollowsRun ⟦<KeyedLines<V, B, C> as Token>⟧.means self.old (take result bytes.now) self.new }
+        ensures size { ⟦<KeyedLines<V, B, C> as Token>⟧.size self.new ≤ ⟦<KeyedLines<V, B, C> as Token>⟧.size self.old + result }
+        ensures same_size { result ≡ 0 → ⟦<KeyedLines<V, B, C> as Token>⟧.size self.new ≡ ⟦<KeyedLines<V, B, C> as Token>⟧.size self.old }
+    {
+        let count = self.key.run(bytes);
+        if count > 0 {
+            self.stage = Stage::InWord;
+        }
+        count
+    }
+
+    /// Takes bytes of a value.
+    fn run_value(&mut self, bytes: &[u8]) -> usize
+        requires { self.old.stage ≡ InValue }
+        ensures within { result ≤ length bytes.now }
+        ensures follows { FollowsRun ⟦<KeyedLines<V, B, C> as Token>⟧.means self.old (take result bytes.now) self.new }
+        ensures size { ⟦<KeyedLines<V, B, C> as Token>⟧.size self.new ≤ ⟦<KeyedLines<V, B, C> as Token>⟧.size self.old + result }
+        ensures same_size { result ≡ 0 → ⟦<KeyedLines<V, B, C> as Token>⟧.size self.new ≡ ⟦<KeyedLines<V, B, C> as Token>⟧.size self.old }
+    {
+        self.value.run(bytes)
+    }
 }
 
 impl<V: Token, B: Follow<V>, C: Collection<V>> Token for KeyedLines<V, B, C> {
@@ -248,6 +275,14 @@ impl<V: Token, B: Follow<V>, C: Collection<V>> Token for KeyedLines<V, B, C> {
             Stage::Before => self.step_key(byte),
             Stage::InWord => self.step_key(byte),
             Stage::InValue => self.step_value(byte),
+        }
+    }
+
+    fn run(&mut self, bytes: &[u8]) -> usize {
+        match self.stage {
+            Stage::Before => self.run_key(bytes),
+            Stage::InWord => self.run_key(bytes),
+            Stage::InValue => self.run_value(bytes),
         }
     }
 

@@ -43,6 +43,15 @@ impl<T: Token> Token for LabelText<T> {
         }
     }
 
+    #[inline(always)]
+    fn run(&mut self, bytes: &[u8]) -> usize {
+        if self.label.can_end() {
+            self.token.run(bytes)
+        } else {
+            self.label.run(bytes)
+        }
+    }
+
     fn allows(&self, byte: u8) -> bool {
         if self.label.can_end() {
             self.token.allows(byte)

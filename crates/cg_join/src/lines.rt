@@ -91,6 +91,14 @@ impl<T: Token, S: Start<T>> Token for Lines<T, S> {
         Ok(true)
     }
 
+    fn run(&mut self, bytes: &[u8]) -> usize {
+        let count = self.current.run(bytes);
+        if count > 0 {
+            self.begun = true;
+        }
+        count
+    }
+
     fn allows(&self, byte: u8) -> bool {
         if byte == self.end {
             return self.current.can_end();

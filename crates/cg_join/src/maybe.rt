@@ -57,6 +57,15 @@ impl<T: Token> Token for Maybe<T> {
         }
     }
 
+    #[inline(always)]
+    fn run(&mut self, bytes: &[u8]) -> usize {
+        let count = self.token.run(bytes);
+        if count > 0 {
+            self.begun = true;
+        }
+        count
+    }
+
     fn allows(&self, byte: u8) -> bool {
         self.token.allows(byte)
     }

@@ -215,6 +215,14 @@ impl<V: Token, B: Start<V>, F: Pairing<V>> Token for DistinctPairs<V, B, F> {
         }
     }
 
+    fn run(&mut self, bytes: &[u8]) -> usize {
+        match self.stage {
+            Stage::Before => 0,
+            Stage::InWord => self.word.run(bytes),
+            Stage::InValue => self.value.run(bytes),
+        }
+    }
+
     fn allows(&self, byte: u8) -> bool {
         match self.stage {
             Stage::Before => byte == self.separator,

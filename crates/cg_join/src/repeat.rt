@@ -90,6 +90,14 @@ impl<T: Token, S: Start<T>> Token for Repeat<T, S> {
         Ok(true)
     }
 
+    fn run(&mut self, bytes: &[u8]) -> usize {
+        match make_room(&mut self.items) {
+            Ok(()) => {}
+            Err(_) => return 0,
+        }
+        self.current.run(bytes)
+    }
+
     fn allows(&self, byte: u8) -> bool {
         let more = self.current.allows(byte);
         let next = byte == self.separator;
