@@ -2,12 +2,14 @@
 use Rattle.std.proofs.Common.{◌≡◌, ℕ, ◌↔◌, ◌||◌, ◌&&◌, inl, inr, Bool, true, false, List, [], ◌∷◌, ◌++◌, Option, Some, None, refl, sym, ◌∙◌, ap, IsTrue}
 use Rattle.std.proofs.lemmas.Bool.{and_from, and_parts}
 use Rattle.std.proofs.lemmas.List.{append-nil}
+use Rattle.cg_text.specs.Scan.{FollowsRun}
 use Rattle.cg_text.specs.Token.{AreBytes, Begins, Completes, Ends, Follows, HasOneValue, HoldsBytes, NoneBegins, Same, Spells}
 use Rattle.cg_join.specs.ByteLaws.{sequence_bytes}
 use Rattle.cg_join.specs.Join.{IsPair, AreApart}
 use Rattle.cg_join.specs.Maybe.{MaybeRest}
 use Rattle.cg_join.specs.MaybeLaws.{maybe_as, maybe_one, maybe_bytes}
 use Rattle.cg_join.specs.Repeat.{LacksEmpty}
+use Rattle.cg_join.specs.RunLaws.{pair_run}
 use Rattle.cg_join.specs.SequenceLaws.{both_same, sequence_one, pair_follows_first, pair_follows_second, pair_none_begins, pair_begins}
 use Rattle.cg_join.specs.CutLaws.{concat_as}
 use Rattle.cg_join.specs.Spelling.{spells_as}
@@ -145,6 +147,14 @@ module _ {S T V W : Type 0} (first : S → List ℕ → V → Type 0) (second : 
   first_taken First s s' t b live differ apart c f rest None w = (λ h. true_false (sym h.0), λ h. true_false (sym h.0))
   first_taken Second s s' t b live differ apart c f rest v w = true_false (sym live)
   first_taken Both s s' t b live differ apart c f rest v w = true_false (sym live)
+
+  -- The first takes a run of bytes.
+  pub first_run : (s s' : S) (t : T) (run : List ℕ) → AreApart first second s t → Completes first s' → FollowsRun first s run s' →
+      (rest : List ℕ) (v : Option V) (w : Option W) → OneOrBothRest first second First s' t rest v w ↔ OneOrBothRest first second First s t (run ++ rest) v w
+  first_run s s' t run apart c f rest (Some v) w =
+      let k = pair_run first Later s s' (false, t) run (later_apart s t apart) c f rest v w in
+      (λ h. (refl, k.0 h.1), λ h. (refl, k.1 h.1))
+  first_run s s' t run apart c f rest None w = (λ h. true_false (sym h.0), λ h. true_false (sym h.0))
 
   later_follows : (t t' : T) (begun : Bool) (b : ℕ) → Follows second t b t' → Follows Later (begun, t) b (true, t')
   later_follows t t' begun b f rest None = (λ h. true_false h.0, λ h. absurd (no_byte b rest h.1))

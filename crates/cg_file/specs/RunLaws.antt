@@ -1,12 +1,31 @@
 -- What holds of runs of bytes.
-use Rattle.std.proofs.Common.{◌≢◌, ℕ, ◌+◌, ◌<◌, List, [], ◌∷◌, ◌++◌, length, take, get_or}
-use Rattle.std.proofs.lemmas.List.{take_more}
+use Rattle.std.proofs.Common.{◌≢◌, ℕ, zero, suc, ◌+◌, ◌≤◌, ◌<◌, List, [], ◌∷◌, ◌++◌, take, drop, get_or, refl, append_assoc, arith}
+use Rattle.std.proofs.Math.Seq.{take-add}
+use Rattle.memchr.specs.Find.{Nowhere, Passes, is_byte}
+use Rattle.cg_text.specs.Scan.{FollowsRun}
 use Rattle.cg_text.specs.Texts.{Lacks}
 
--- One more byte, which is no newline.
-pub plain_more : (bytes : List ℕ) (i : ℕ) → i < length bytes → get_or bytes i 0 ≢ 10 → Lacks 10 (take i bytes) → Lacks 10 (take (i + 1) bytes)
-plain_more bytes i within other plain = rw (take_more bytes i 0 within) (plain_joined (take i bytes) (get_or bytes i 0) other plain)
-  where
-    plain_joined : (xs : List ℕ) (b : ℕ) → b ≢ 10 → Lacks 10 xs → Lacks 10 (xs ++ b ∷ [])
-    plain_joined [] b other plain = (other, tt)
-    plain_joined (x ∷ xs) b other plain = (plain.0, plain_joined xs b other plain.1)
+plain_at : (bytes : List ℕ) (n : ℕ) → ((i : ℕ) → i < n → get_or bytes i 0 ≢ 10) → Lacks 10 (take n bytes)
+plain_at [] zero other = tt
+plain_at [] (suc n) other = tt
+plain_at (c ∷ cs) zero other = tt
+plain_at (c ∷ cs) (suc n) other = (other 0 (omega arith), plain_at cs n (λ i h. other (suc i) (omega (arith, h))))
+
+-- Where a search finds no newline in front of a place, the bytes there are plain.
+pub plain_searched : (bytes : List ℕ) (n : ℕ) → Nowhere (Passes (is_byte 10) bytes) 0 n → Lacks 10 (take n bytes)
+plain_searched bytes n none = plain_at bytes n (λ i h e. none i (omega arith) h (rw e refl))
+
+-- Fewer of the bytes are plain too.
+pub plain_front : (bytes : List ℕ) (used n : ℕ) → used ≤ n → Lacks 10 (take n bytes) → Lacks 10 (take used bytes)
+plain_front [] zero n few plain = tt
+plain_front [] (suc used) n few plain = tt
+plain_front (c ∷ cs) zero n few plain = tt
+plain_front (c ∷ cs) (suc used) zero few plain = absurd (omega (arith, few))
+plain_front (c ∷ cs) (suc used) (suc n) few plain = (plain.0, plain_front cs used n (omega (arith, few)) plain.1)
+
+-- One run after another.
+pub run_joined : {S V : Type 0} (means : S → List ℕ → V → Type 0) (old s new : S) (bytes : List ℕ) (used count : ℕ) →
+    FollowsRun means old (take used bytes) s → FollowsRun means s (take count (drop used bytes)) new → FollowsRun means old (take (used + count) bytes) new
+run_joined means old s new bytes used count f g rest v =
+    let more = take count (drop used bytes) in
+    rw (take-add used count bytes, append_assoc (take used bytes) more rest) (λ k. (f (more ++ rest) v).0 ((g rest v).0 k), λ k. (g rest v).1 ((f (more ++ rest) v).1 k))

@@ -91,6 +91,14 @@ impl<A: Token, B: Token> Token for Branch<A, B> {
         }
     }
 
+    fn run(&mut self, bytes: &[u8]) -> usize {
+        match self.place {
+            BranchTaken::Start => 0,
+            BranchTaken::First => self.first.run(bytes),
+            BranchTaken::Second => self.second.run(bytes),
+        }
+    }
+
     fn allows(&self, byte: u8) -> bool {
         let first = self.first.allows(byte);
         let second = self.second.allows(byte);

@@ -107,6 +107,10 @@ impl Token for LimitLineText {
         self.parts.step(byte)
     }
 
+    fn run(&mut self, bytes: &[u8]) -> usize {
+        self.parts.run(bytes)
+    }
+
     fn allows(&self, byte: u8) -> bool {
         self.parts.allows(byte)
     }
@@ -218,6 +222,10 @@ impl Token for DeviceLimitsFile {
 
     fn step(&mut self, byte: u8) -> Result<bool, OutOfMemory> {
         self.text.step(byte)
+    }
+
+    fn run(&mut self, bytes: &[u8]) -> usize {
+        self.text.run(bytes)
     }
 
     fn allows(&self, byte: u8) -> bool {

@@ -123,6 +123,10 @@ impl Token for StatPairs {
         self.pairs.step(byte)
     }
 
+    fn run(&mut self, bytes: &[u8]) -> usize {
+        self.pairs.run(bytes)
+    }
+
     fn allows(&self, byte: u8) -> bool {
         self.pairs.allows(byte)
     }
@@ -218,6 +222,10 @@ impl Token for StatLineText {
 
     fn step(&mut self, byte: u8) -> Result<bool, OutOfMemory> {
         self.parts.step(byte)
+    }
+
+    fn run(&mut self, bytes: &[u8]) -> usize {
+        self.parts.run(bytes)
     }
 
     fn allows(&self, byte: u8) -> bool {
@@ -340,6 +348,10 @@ impl Token for DeviceStatsFile {
 
     fn step(&mut self, byte: u8) -> Result<bool, OutOfMemory> {
         self.text.step(byte)
+    }
+
+    fn run(&mut self, bytes: &[u8]) -> usize {
+        self.text.run(bytes)
     }
 
     fn allows(&self, byte: u8) -> bool {

@@ -86,6 +86,10 @@ impl Token for TargetLineText {
         self.parts.step(byte)
     }
 
+    fn run(&mut self, bytes: &[u8]) -> usize {
+        self.parts.run(bytes)
+    }
+
     fn allows(&self, byte: u8) -> bool {
         self.parts.allows(byte)
     }
@@ -197,6 +201,10 @@ impl Token for DeviceTargetsFile {
 
     fn step(&mut self, byte: u8) -> Result<bool, OutOfMemory> {
         self.text.step(byte)
+    }
+
+    fn run(&mut self, bytes: &[u8]) -> usize {
+        self.text.run(bytes)
     }
 
     fn allows(&self, byte: u8) -> bool {

@@ -25,7 +25,7 @@ use crate::run::run_of;
 use crate::set::SetFile;
 use crate::signed::SignedFile;
 use crate::words::WordsFile;
-use cg_text::{OutOfMemory, Scan, Token};
+use cg_text::{OutOfMemory, Token};
 use cg_value::{ReadForm, ReadKind, Value};
 use std::alloc::Global;
 
@@ -117,7 +117,7 @@ impl FileText {
             FileText::Partition(text) => run_of(text, bytes),
             FileText::Pressure(text) => run_of(text, bytes),
             FileText::Nested(text) => run_of(text, bytes),
-            FileText::Raw(text) => text.scan(bytes),
+            FileText::Raw(text) => run_of(text, bytes),
         }
     }
 }

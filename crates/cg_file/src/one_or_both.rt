@@ -106,6 +106,15 @@ impl<A: Token, B: Token> Token for OneOrBoth<A, B> {
         }
     }
 
+    fn run(&mut self, bytes: &[u8]) -> usize {
+        match self.place {
+            PartsTaken::Start => 0,
+            PartsTaken::First => self.first.run(bytes),
+            PartsTaken::Second => self.second.run(bytes),
+            PartsTaken::Both => self.second.run(bytes),
+        }
+    }
+
     fn allows(&self, byte: u8) -> bool {
         let first = self.first.allows(byte);
         let ended = self.first.can_end();

@@ -86,6 +86,14 @@ impl<T: Token> Token for PadText<T> {
         }
     }
 
+    fn run(&mut self, bytes: &[u8]) -> usize {
+        match self.padding {
+            Padding::Before => 0,
+            Padding::Perhaps => 0,
+            Padding::Known(_) => self.token.run(bytes),
+        }
+    }
+
     fn allows(&self, byte: u8) -> bool {
         match self.padding {
             Padding::Before => byte == b' ',

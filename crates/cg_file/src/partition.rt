@@ -59,6 +59,10 @@ impl Token for WhyText {
         self.parts.step(byte)
     }
 
+    fn run(&mut self, bytes: &[u8]) -> usize {
+        self.parts.run(bytes)
+    }
+
     fn allows(&self, byte: u8) -> bool {
         self.parts.allows(byte)
     }
@@ -125,6 +129,10 @@ impl Token for InvalidText {
 
     fn step(&mut self, byte: u8) -> Result<bool, OutOfMemory> {
         self.parts.step(byte)
+    }
+
+    fn run(&mut self, bytes: &[u8]) -> usize {
+        self.parts.run(bytes)
     }
 
     fn allows(&self, byte: u8) -> bool {
@@ -199,6 +207,10 @@ impl Token for RootText {
 
     fn step(&mut self, byte: u8) -> Result<bool, OutOfMemory> {
         self.parts.step(byte)
+    }
+
+    fn run(&mut self, bytes: &[u8]) -> usize {
+        self.parts.run(bytes)
     }
 
     fn allows(&self, byte: u8) -> bool {
@@ -325,6 +337,10 @@ impl Token for PartitionFile {
 
     fn step(&mut self, byte: u8) -> Result<bool, OutOfMemory> {
         self.text.step(byte)
+    }
+
+    fn run(&mut self, bytes: &[u8]) -> usize {
+        self.text.run(bytes)
     }
 
     fn allows(&self, byte: u8) -> bool {

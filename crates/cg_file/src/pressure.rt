@@ -96,6 +96,10 @@ impl Token for PressureLine {
         self.parts.step(byte)
     }
 
+    fn run(&mut self, bytes: &[u8]) -> usize {
+        self.parts.run(bytes)
+    }
+
     fn allows(&self, byte: u8) -> bool {
         self.parts.allows(byte)
     }
@@ -192,6 +196,10 @@ impl Token for PressureFile {
 
     fn step(&mut self, byte: u8) -> Result<bool, OutOfMemory> {
         self.text.step(byte)
+    }
+
+    fn run(&mut self, bytes: &[u8]) -> usize {
+        self.text.run(bytes)
     }
 
     fn allows(&self, byte: u8) -> bool {

@@ -5,7 +5,7 @@ ghost use Rattle.cg_value.specs.Files.{KindText};
 ghost use Rattle.cg_value.specs.declared.kind.ReadForm.TheVariants.{Raw as RawForm};
 
 use cg_join::{Lines, Mapped, Start, Turn};
-use cg_text::{Items, OutOfMemory, RawText, Scan, Token};
+use cg_text::{Items, OutOfMemory, RawText, Token};
 use cg_value::Value;
 use std::alloc::Global;
 
@@ -111,6 +111,10 @@ impl Token for RawFile {
         self.text.step(byte)
     }
 
+    fn run(&mut self, bytes: &[u8]) -> usize {
+        self.text.run(bytes)
+    }
+
     fn allows(&self, byte: u8) -> bool {
         self.text.allows(byte)
     }
@@ -129,11 +133,5 @@ impl Token for RawFile {
 
     fn held_in(_value: &Value) -> u64 {
         0
-    }
-}
-
-impl Scan for RawFile {
-    fn scan(&mut self, bytes: &[u8]) -> usize {
-        self.text.scan(bytes)
     }
 }

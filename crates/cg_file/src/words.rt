@@ -58,6 +58,10 @@ impl Token for SpacedWords {
         self.words.step(byte)
     }
 
+    fn run(&mut self, bytes: &[u8]) -> usize {
+        self.words.run(bytes)
+    }
+
     fn allows(&self, byte: u8) -> bool {
         self.words.allows(byte)
     }
@@ -161,6 +165,10 @@ impl Token for WordsFile {
 
     fn step(&mut self, byte: u8) -> Result<bool, OutOfMemory> {
         self.text.step(byte)
+    }
+
+    fn run(&mut self, bytes: &[u8]) -> usize {
+        self.text.run(bytes)
     }
 
     fn allows(&self, byte: u8) -> bool {

@@ -103,10 +103,10 @@ pub returns-in-Nested-clause-size : goal.returns-in-Nested-clause-size
 returns-in-Nested-clause-size c = rw c.in-Nested.is c.run_of-in-Nested.ensures.size
 
 pub returns-in-Raw-clause-follows : goal.returns-in-Raw-clause-follows
-returns-in-Raw-clause-follows c = rw c.in-Raw.is c.scan.ensures.follows
+returns-in-Raw-clause-follows c = rw c.in-Raw.is c.run_of-in-Raw.ensures.follows
 
 pub returns-in-Raw-clause-size : goal.returns-in-Raw-clause-size
-returns-in-Raw-clause-size c = rw c.in-Raw.is c.scan.ensures.size
+returns-in-Raw-clause-size c = rw c.in-Raw.is c.run_of-in-Raw.ensures.size
 
 pub returns-in-Number-clause-same_size : goal.returns-in-Number-clause-same_size
 returns-in-Number-clause-same_size c = rw c.in-Number.is c.run_of.ensures.same_size
@@ -160,4 +160,4 @@ pub returns-in-Nested-clause-same_size : goal.returns-in-Nested-clause-same_size
 returns-in-Nested-clause-same_size c = rw c.in-Nested.is c.run_of-in-Nested.ensures.same_size
 
 pub returns-in-Raw-clause-same_size : goal.returns-in-Raw-clause-same_size
-returns-in-Raw-clause-same_size c = rw c.in-Raw.is c.scan.ensures.same_size
+returns-in-Raw-clause-same_size c = rw c.in-Raw.is c.run_of-in-Raw.ensures.same_size
