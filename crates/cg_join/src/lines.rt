@@ -7,7 +7,7 @@ ghost use Rattle.cg_join.specs.Lines.{AreLines, AreLinesAfter};
 
 use crate::start::Start;
 use crate::store::{held_in_all, make_room, put};
-use cg_text::{Items, OutOfMemory, Scan, Token};
+use cg_text::{Items, OutOfMemory, Token};
 use std::alloc::Global;
 use std::mem;
 
@@ -131,14 +131,4 @@ impl<T: Token, S: Start<T>> Token for Lines<T, S> {
     ghost one_value = { λ s. lines_after_one s.end (T.means s.current) (S.texts s.start) s.items.items s.begun s.lacks s.starts (T.one_value s.current) (S.one_text s.start) };
 
     ghost holds_bytes = { λ s rest all h. lines_bytes (T.means s.current) (S.texts s.start) s.end s.small (T.holds_bytes s.current) (S.text_bytes s.start) s.begun rest h.0 h.2 };
-}
-
-impl<T: Scan, S: Start<T>> Scan for Lines<T, S> {
-    fn scan(&mut self, bytes: &[u8]) -> usize {
-        let count = self.current.scan(bytes);
-        if count > 0 {
-            self.begun = true;
-        }
-        count
-    }
 }

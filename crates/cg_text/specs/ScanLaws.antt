@@ -4,7 +4,6 @@ use Rattle.memchr.specs.Find.{Nowhere, Passes, is_byte2}
 use Rattle.cg_text.specs.Raw.{IsRawLine}
 use Rattle.cg_text.specs.RawLaws.{raw_append}
 use Rattle.cg_text.specs.RawState.{IsRawRest}
-use Rattle.cg_text.specs.Texts.{Lacks}
 
 -- Where no byte in front of a place is 0 or a newline, those bytes are of a raw line.
 pub raw_front : (bytes : List ℕ) (n : ℕ) → ((i : ℕ) → get_or bytes i 0 < 256) → ((i : ℕ) → i < n → i < length bytes → (get_or bytes i 0 ≢ 0) × (get_or bytes i 0 ≢ 10)) → IsRawLine (take n bytes)
@@ -18,11 +17,6 @@ raw_front (c ∷ cs) (suc n) small none =
 -- The same where a search for both finds nothing in front of the place.
 pub raw_searched : (bytes : List ℕ) (n : ℕ) → ((i : ℕ) → get_or bytes i 0 < 256) → Nowhere (Passes (is_byte2 0 10) bytes) 0 n → IsRawLine (take n bytes)
 raw_searched bytes n small none = raw_front bytes n small (λ i h k. (λ e. none i (omega arith) h (rw e refl), λ e. none i (omega arith) h (rw e refl)))
-
--- A raw line has no newline.
-pub raw_plain : (xs : List ℕ) → IsRawLine xs → Lacks 10 xs
-raw_plain [] h = tt
-raw_plain (c ∷ cs) h = (h.2, raw_plain cs h.3)
 
 raw_rest : (xs ys : List ℕ) → IsRawLine (xs ++ ys) → IsRawLine ys
 raw_rest [] ys h = h

@@ -1,12 +1,11 @@
 //! Raw lines.
-ghost use Rattle.std.specs.Prelude.{◌≡◌, ◌≤◌, ◌<◌, ◌↔◌, true, ◌++◌, IsTrue, length, take};
+ghost use Rattle.std.specs.Prelude.{◌≡◌, ◌<◌, ◌↔◌, true, IsTrue, length};
 ghost use Rattle.cg_text.specs.Raw.{IsRawLine};
 ghost use Rattle.cg_text.specs.RawState.{IsRawByte, IsRawRest};
 ghost use Rattle.cg_text.specs.Token.{Spells};
 
 use crate::items::Items;
 use crate::memory::OutOfMemory;
-use crate::scan::Scan;
 use crate::token::Token;
 use memchr::memchr2;
 use std::alloc::Global;
@@ -32,23 +31,6 @@ impl RawText {
     {
         RawText {
             bytes: Vec::new(alloc),
-        }
-    }
-
-    /// Takes the bytes in front that raw lines have, and answers how many. Where memory is refused it takes none.
-    fn take_raw(&mut self, bytes: &[u8]) -> usize
-        ensures within { result ≤ length bytes.now }
-        ensures raw { IsRawLine (take result bytes.now) }
-        ensures items { self.new.bytes.items ≡ self.old.bytes.items ++ take result bytes.now }
-    {
-        let count = match memchr2(0, b'\n', bytes) {
-            Some(place) => place,
-            None => bytes.len(),
-        };
-        let (run, _) = bytes.split_at(count);
-        match self.bytes.extend_from_slice(run) {
-            Ok(()) => count,
-            Err(_) => 0,
         }
     }
 }
@@ -80,7 +62,15 @@ impl Token for RawText {
     }
 
     fn run(&mut self, bytes: &[u8]) -> usize {
-        self.take_raw(bytes)
+        let count = match memchr2(0, b'\n', bytes) {
+            Some(place) => place,
+            None => bytes.len(),
+        };
+        let (run, _) = bytes.split_at(count);
+        match self.bytes.extend_from_slice(run) {
+            Ok(()) => count,
+            Err(_) => 0,
+        }
     }
 
     fn allows(&self, byte: u8) -> bool {
@@ -112,10 +102,4 @@ impl Token for RawText {
     ghost one_value = { λ s. raw_one s.bytes.items };
 
     ghost holds_bytes = { λ s rest v h. raw_bytes rest h.raw };
-}
-
-impl Scan for RawText {
-    fn scan(&mut self, bytes: &[u8]) -> usize {
-        self.take_raw(bytes)
-    }
 }
