@@ -134,6 +134,12 @@ impl ValueReader {
     fn goes_on(&self) -> bool
         ensures { (kind : ReadForm) (taken : List ℕ) → Reads self.now kind taken → (IsTrue result ↔ SomeNext kind taken) }
     {
+        // Nearly every line begins with a letter or a digit, and the second line of pressure with an f.
+        for likely in b"a0f" {
+            if self.text.allows(*likely) {
+                return true;
+            }
+        }
         for number in 0..256u16 {
             if self.text.allows(number as u8) {
                 return true;

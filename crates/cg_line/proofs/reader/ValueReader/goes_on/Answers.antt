@@ -1,4 +1,4 @@
-use Rattle.std.proofs.Common.{◌≡◌, ◌≤◌, true, refl, arith}
+use Rattle.std.proofs.Common.{◌≡◌, ◌≤◌, ◌∷◌, [], get_or, true, refl, arith}
 use native.Mathlib.Decide.{dec_lt}
 use Prim.{yes, no}
 use Rattle.cg_value.specs.Files.{KindFile}
@@ -9,8 +9,14 @@ use Rattle.cg_line.proofs.reader.ValueReader.goes_on.Goals as goal
 
 pub returns-then-allows : goal.returns-then-allows
 returns-then-allows c kind taken h =
+    let byte = get_or (97 ∷ 48 ∷ 102 ∷ []) c.loop-likely.likely-index 0 in
+    let next = next_byte_is c.args.self.now kind taken byte h in
+    (λ e. record { byte = byte; next = next.0 (c.allows.ensures.0 c.if-allows.true) }, λ some. refl)
+
+pub returns-then-allows-2 : goal.returns-then-allows-2
+returns-then-allows-2 c kind taken h =
     let next = next_byte_is c.args.self.now kind taken c.loop-number.number h in
-    (λ e. record { byte = c.loop-number.number; next = next.0 (c.allows.ensures.0 c.if-allows.true) }, λ some. refl)
+    (λ e. record { byte = c.loop-number.number; next = next.0 (c.allows-in-loop-number.ensures.0 c.if-allows-2.true) }, λ some. refl)
 
 pub loop-number-preserved : goal.loop-number-preserved
 loop-number-preserved c kind taken h byte lt goes =
@@ -18,8 +24,8 @@ loop-number-preserved c kind taken h byte lt goes =
       | yes less ↦ c.loop-number.invariant kind taken h byte less goes
       | no more ↦ (
           let same : byte ≡ c.loop-number.number = omega (arith, more, lt) in
-          let allowed : c.allows.result ≡ true = c.allows.ensures.1 ((next_byte_is c.args.self.now kind taken c.loop-number.number h).1 (rw same at goes)) in
-          let refused = c.if-allows.false in
+          let allowed : c.allows-in-loop-number.result ≡ true = c.allows-in-loop-number.ensures.1 ((next_byte_is c.args.self.now kind taken c.loop-number.number h).1 (rw same at goes)) in
+          let refused = c.if-allows-2.false in
           cc)
     ]
 
