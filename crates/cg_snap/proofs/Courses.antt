@@ -117,7 +117,7 @@ module _ (L : List ℕ → Type 0) (Breaks : List ℕ → ℕ → Why → Type 0
     stayed s old new p es a h u e = rw e (record { state = a; counted = h; unstopped = u; closed = closed s p es a })
 
     -- After a run.
-    pub ran : (s : S) (old new : Meter) (p q : List ℕ) (es : List Part) → At s (p ++ q) es → IsCounted old p → IsCounted new (p ++ q) → new.limits ≡ old.limits → IsStreamUnstopped L Breaks Many old.limits p → Lacks 10 q → AreFew Many p q →
+    pub ran : (s : S) (old new : Meter) (p q : List ℕ) (es : List Part) → At s (p ++ q) es → IsCounted old p → IsCounted new (p ++ q) → new.limits ≡ old.limits → IsStreamUnstopped L Breaks Many old.limits p → Lacks 10 q → AreFew (Many old.limits.max_lines) p q →
         length q ≤ old.limits.max_record - old.record_len → length q ≤ old.limits.max_stream - old.offset → Along s new (p ++ q) es
     ran s old new p [] es a h n li u plain few long far = record { state = a; counted = n; unstopped = rw (li, append-nil p) u; closed = closed s (p ++ []) es a }
     ran s old new p (b ∷ q) es a h n li u plain few long far = record {

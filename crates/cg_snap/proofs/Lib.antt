@@ -12,6 +12,7 @@ pub mod Places
 pub mod Nuls
 pub mod Finishes
 pub mod Runs
+pub mod Heads
 pub mod Holds
 pub mod Offers
 pub mod Taken

@@ -393,9 +393,9 @@ module _ (profile : Profile) where
       )
 
 -- No record of a plan is one too many.
-pub never_few : (p run : List ℕ) → AreFew is_never_many p run
-never_few p [] = tt
-never_few p (byte ∷ run) = ((λ max many. many), never_few (p ++ byte ∷ []) run)
+pub never_few : (max : ℕ) (p run : List ℕ) → AreFew (is_never_many max) p run
+never_few max p [] = tt
+never_few max p (byte ∷ run) = ((λ many. many), never_few max (p ++ byte ∷ []) run)
 
 -- ---- What the records took
 

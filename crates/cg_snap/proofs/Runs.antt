@@ -45,11 +45,11 @@ longer_line : (r path line : List ℕ) (b : ℕ) → r ≡ path ++ 0 ∷ line �
 longer_line r path line b e = ap (λ (t : List ℕ). t ++ b ∷ []) e ∙ append_assoc path (0 ∷ line) (b ∷ [])
 
 module _ (profile : Profile) where
-  few_run : (p r q : List ℕ) → IsBegun p r → RunWhy r q → AreFew (IsManyRecords profile) p q
-  few_run p r [] h why = tt
-  few_run p r (b ∷ q) h why = (
-    λ max. elim why.1 [ inl w ↦ not_many profile p r b max (length p) h w.0 | inr w ↦ not_many_line profile p r w.0 w.1 b max (length p) h w.2 ],
-    few_run (p ++ b ∷ []) (r ++ b ∷ []) q (begun_push p r b why.0.0 h) (why.0.1, elim why.1 [ inl w ↦ inl w.1 | inr w ↦ inr (w.0, w.1 ++ b ∷ [], longer_line r w.0 w.1 b w.2) ]),
+  few_run : (max : ℕ) (p r q : List ℕ) → IsBegun p r → RunWhy r q → AreFew (IsManyRecords profile max) p q
+  few_run max p r [] h why = tt
+  few_run max p r (b ∷ q) h why = (
+    elim why.1 [ inl w ↦ not_many profile p r b max (length p) h w.0 | inr w ↦ not_many_line profile p r w.0 w.1 b max (length p) h w.2 ],
+    few_run max (p ++ b ∷ []) (r ++ b ∷ []) q (begun_push p r b why.0.0 h) (why.0.1, elim why.1 [ inl w ↦ inl w.1 | inr w ↦ inr (w.0, w.1 ++ b ∷ [], longer_line r w.0 w.1 b w.2) ]),
   )
 
   run_flag : (begun : List ℕ) (x : Present) (p r q : List ℕ) (es : List EntryData) (b : Bool) → MatchBool b (AtLine profile begun x p es) (AtPath profile begun x p es) → IsBegun p r → MatchBool b (Lacks 10 q) (ArePathBytes q) → RunWhy r q
@@ -61,8 +61,8 @@ module _ (profile : Profile) where
   run_why begun (Some x) p r q es h g n = run_flag begun x p r q es x.in_line h g n
 
   -- A run has no NUL that ends a path.
-  pub run_few : (begun : List ℕ) (o : Option Present) (p q : List ℕ) (es : List EntryData) → At profile begun o p es → IsRun o q → AreFew (IsManyRecords profile) p q
-  run_few begun o p q es h n = let g = at_begun profile begun o p es h in few_run p g.0 q g.1 (run_why begun o p g.0 q es h g.1 n)
+  pub run_few : (max : ℕ) (begun : List ℕ) (o : Option Present) (p q : List ℕ) (es : List EntryData) → At profile begun o p es → IsRun o q → AreFew (IsManyRecords profile max) p q
+  run_few max begun o p q es h n = let g = at_begun profile begun o p es h in few_run max p g.0 q g.1 (run_why begun o p g.0 q es h g.1 n)
 
 plain_flag : (x : Present) (q : List ℕ) (b : Bool) → MatchBool b (Lacks 10 q) (ArePathBytes q) → Lacks 10 q
 plain_flag x q true n = n

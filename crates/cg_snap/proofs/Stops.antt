@@ -47,7 +47,7 @@ module _ (L : List ℕ → Type 0) (Breaks : List ℕ → ℕ → Why → Type 0
         ]
 
     -- A run of bytes without a newline.
-    pub unstopped_run : (p r q : List ℕ) → IsStreamUnstopped L Breaks Many limits p → Viable L (p ++ q) → IsBegun p r → Lacks 10 q → AreFew Many p q → length r + length q ≤ limits.max_record →
+    pub unstopped_run : (p r q : List ℕ) → IsStreamUnstopped L Breaks Many limits p → Viable L (p ++ q) → IsBegun p r → Lacks 10 q → AreFew (Many limits.max_lines) p q → length r + length q ≤ limits.max_record →
         length p + length q ≤ limits.max_stream → IsStreamUnstopped L Breaks Many limits (p ++ q)
     unstopped_run p r [] u v h n few long far = rw (append-nil p) u
     unstopped_run p r (b ∷ q) u v h n few long far =
@@ -56,7 +56,7 @@ module _ (L : List ℕ → Type 0) (Breaks : List ℕ → ℕ → Why → Type 0
         let next : Next L p b = subst (Viable L) front (viable_front (p ++ b ∷ q) (length p + 1) v) in
         let free : IsFree L Breaks Many limits p b = record {
           short = not_long p r b limits.max_record (length p) h (omega (arith, long));
-          few = few.0 limits.max_lines;
+          few = few.0;
           before = λ e. absurd (omega (arith, far, e));
         } in
         subst (IsStreamUnstopped L Breaks Many limits) whole

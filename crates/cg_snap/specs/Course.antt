@@ -27,10 +27,10 @@ abbrev pub FullIs : (List ℕ → Type 0) → (ℕ → List ℕ → ℕ → Type
 FullIs L Many max p byte true = Next L p byte → Many max (p ++ byte ∷ []) (length p)
 FullIs L Many max p byte false = Many max (p ++ byte ∷ []) (length p) → ⊥
 
--- With no byte of the run are there too many records of one path.
-abbrev pub AreFew : (ℕ → List ℕ → ℕ → Type 0) → List ℕ → List ℕ → Type 0
+-- With no byte of the run are there too many records of one path. Many says so of the last byte of a text.
+abbrev pub AreFew : (List ℕ → ℕ → Type 0) → List ℕ → List ℕ → Type 0
 AreFew Many p [] = Unit {0}
-AreFew Many p (byte ∷ run) = ((max : ℕ) → Many max (p ++ byte ∷ []) (length p) → ⊥) × AreFew Many (p ++ byte ∷ []) run
+AreFew Many p (byte ∷ run) = (Many (p ++ byte ∷ []) (length p) → ⊥) × AreFew Many (p ++ byte ∷ []) run
 
 -- The bytes with which some text goes on, where they are all known at once.
 abbrev pub OffersAre : (List ℕ → Type 0) → List ℕ → Option (List Bool) → Type 0

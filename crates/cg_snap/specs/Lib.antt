@@ -7,6 +7,7 @@ pub mod Decoder
 pub mod DecoderState
 pub mod Encode
 pub mod EncodeLaws
+pub mod HeadState
 pub mod Laws
 pub mod Meter
 pub mod Plan

@@ -57,7 +57,7 @@ fn advance<R: Records>(records: &mut R, meter: &mut Meter, byte: u8) -> Moved<R:
     }
 }
 
-/// Takes at once what comes of a path or of a line, and answers how many bytes.
+/// Takes at once the path of one more record with its NUL, or what comes of a path or of a line, and answers how many bytes.
 fn skip<R: Records>(records: &mut R, meter: &mut Meter, piece: &[u8]) -> usize
     ensures skipped { (form : Profile) (p : List ℕ) (es : List R.Part) →
         IsAlong (R.language form) (R.breaks form) (R.many form) (R.closes form) (λ s. R.at s form) records.old meter.old p es →
@@ -66,7 +66,13 @@ fn skip<R: Records>(records: &mut R, meter: &mut Meter, piece: &[u8]) -> usize
     ensures profile { R.profile records.new ≡ R.profile records.old }
     ensures limits { meter.new.limits ≡ meter.old.limits }
 {
-    let used = records.take_run(piece, meter.room());
+    let room = meter.room();
+    let head = records.take_head(piece, room, meter.limits.max_lines);
+    if head > 0 {
+        meter.count_run(head);
+        return head;
+    }
+    let used = records.take_run(piece, room);
     meter.count_run(used);
     used
 }

@@ -7,6 +7,7 @@ mod course;
 pub mod decode;
 pub mod decoder;
 pub mod encode;
+mod head;
 pub mod laws;
 pub mod limits;
 mod meter;

@@ -225,6 +225,10 @@ impl Records for PlanRecords {
         }
     }
 
+    fn take_head(&mut self, _piece: &[u8], _room: u64, _max_lines: u64) -> usize {
+        0
+    }
+
     fn take_run(&mut self, piece: &[u8], room: u64) -> usize {
         if let Some(writing) = &mut self.present {
             return take_line(&self.begun, writing, piece, room);

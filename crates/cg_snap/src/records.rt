@@ -63,10 +63,20 @@ pub(crate) trait Records: Drop {
         ensures did { (form : Profile) (p : List ℕ) (es : List Self.Part) → at self.old form p es → DidStep (language form) (breaks form) (many form) (closes form) (λ s. at s form) self.new p es byte result }
         ensures profile { profile self.new ≡ profile self.old };
 
+    /// Takes the path of one more record of what is being made, with the NUL after it, where the piece begins with them, there
+    /// is room for them and it is no record too many of its path. Answers how many bytes it took.
+    fn take_head(&mut self, piece: &[u8], room: u64, max_lines: u64) -> usize
+        ensures taken { (form : Profile) (p : List ℕ) (es : List Self.Part) → at self.old form p es → at self.new form (p ++ take result piece.now) es }
+        ensures few { (form : Profile) (p : List ℕ) (es : List Self.Part) → at self.old form p es → AreFew (many form max_lines) p (take result piece.now) }
+        ensures plain { (form : Profile) (p : List ℕ) (es : List Self.Part) → at self.old form p es → Lacks 10 (take result piece.now) }
+        ensures within { result ≤ length piece.now }
+        ensures room { result ≤ room }
+        ensures profile { profile self.new ≡ profile self.old };
+
     /// Takes what comes of a path or of a line, at most so many bytes as there is room for, and answers how many.
     fn take_run(&mut self, piece: &[u8], room: u64) -> usize
         ensures taken { (form : Profile) (p : List ℕ) (es : List Self.Part) → at self.old form p es → at self.new form (p ++ take result piece.now) es }
-        ensures few { (form : Profile) (p : List ℕ) (es : List Self.Part) → at self.old form p es → AreFew (many form) p (take result piece.now) }
+        ensures few { (form : Profile) (p : List ℕ) (es : List Self.Part) (max : ℕ) → at self.old form p es → AreFew (many form max) p (take result piece.now) }
         ensures plain { Lacks 10 (take result piece.now) }
         ensures within { result ≤ length piece.now }
         ensures room { result ≤ room }

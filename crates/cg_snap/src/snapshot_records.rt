@@ -1,6 +1,7 @@
 //! The records of a snapshot.
 ghost use Rattle.std.specs.Prelude.{◌≡◌, []};
 
+use crate::head::take_head;
 use crate::present::{Present, is_full, step};
 use crate::records::{Records, Stepped};
 use crate::refusal::refusal;
@@ -85,6 +86,10 @@ impl Records for SnapshotRecords {
             &mut self.present,
             byte,
         )
+    }
+
+    fn take_head(&mut self, piece: &[u8], room: u64, max_lines: u64) -> usize {
+        take_head(&self.begun, &mut self.present, piece, room, max_lines)
     }
 
     fn take_run(&mut self, piece: &[u8], room: u64) -> usize {

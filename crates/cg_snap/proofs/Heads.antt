@@ -1,0 +1,88 @@
+-- The head of one more record of the present entry, taken at once.
+use Rattle.std.proofs.Common.{◌≡◌, ℕ, suc, zero, ◌+◌, ◌<◌, ◌≤◌, get_or, List, [], ◌∷◌, ◌++◌, take, length, All, refl, sym, ap, subst, ◌∙◌, append_assoc, arith, Some, Bool, true, false}
+use Rattle.std.specs.List.{AllByRecursion}
+use Rattle.std.proofs.lemmas.List.{append-nil, length-append, take-append-le, take_all}
+use Rattle.cg_text.specs.Texts.{Lacks}
+use Rattle.cg_text.specs.TextsLaws.{lacks_both}
+use Rattle.cg_value.specs.Entry.{EntryData, IsPath, IsPathByte}
+use Rattle.cg_value.specs.Lines.{unlines}
+use Rattle.cg_value.specs.declared.kind.ReadForm.{ReadForm}
+use Rattle.cg_value.specs.declared.profile.Profile.{Profile}
+use Rattle.cg_line.specs.Place.{TakesLine}
+use Rattle.cg_line.specs.Reads.{Reads}
+use Rattle.cg_snap.specs.Course.{AreFew}
+use Rattle.cg_snap.specs.DecoderState.{ArePathBytes, At, AtLine, AtPath}
+use Rattle.cg_snap.specs.HeadState.{Repeats}
+use Rattle.cg_snap.specs.SnapStop.{IsManyRecords}
+use Rattle.cg_snap.specs.declared.present.Present.{Present}
+use Rattle.cg_snap.proofs.Nuls.{full_is}
+use Rattle.cg_snap.proofs.Runs.{run_few}
+use Rattle.cg_snap.proofs.States.{at_false, at_true, takes_more}
+use Rattle.cg_snap.proofs.Steps.{bytes_no_newline, path_run, same_path}
+
+-- ---- Lists
+
+few_push : (Many : List ℕ → ℕ → Type 0) (p q : List ℕ) (b : ℕ) → AreFew Many p q → (Many ((p ++ q) ++ b ∷ []) (length (p ++ q)) → ⊥) → AreFew Many p (q ++ b ∷ [])
+few_push Many p [] b few last = (subst (λ (t : List ℕ). Many (t ++ b ∷ []) (length t) → ⊥) (append-nil p) last, tt)
+few_push Many p (c ∷ q) b few last = (
+  few.0,
+  few_push Many (p ++ c ∷ []) q b few.1 (subst (λ (t : List ℕ). Many (t ++ b ∷ []) (length t) → ⊥) (sym (append_assoc p (c ∷ []) q)) last),
+)
+
+-- The head of a piece that begins with a path and a NUL.
+pub head_is : (path rest piece : List ℕ) (n : ℕ) → piece ≡ path ++ 0 ∷ rest → n ≡ length path + 1 → take n piece ≡ path ++ 0 ∷ []
+head_is path rest piece n e m =
+    let whole : piece ≡ (path ++ 0 ∷ []) ++ rest = e ∙ sym (append_assoc path (0 ∷ []) rest) in
+    let long : n ≡ length (path ++ 0 ∷ []) = omega (arith, m, length-append path (0 ∷ [])) in
+    rw (whole, long) (take-append-le {A = ℕ} (length (path ++ 0 ∷ [])) (path ++ 0 ∷ []) rest (omega arith) ∙ take_all (length (path ++ 0 ∷ [])) (path ++ 0 ∷ []) (omega arith))
+
+-- ---- Paths
+
+all_rest : (x : ℕ) (xs : List ℕ) → All IsPathByte (x ∷ xs) → All IsPathByte xs
+all_rest x xs h = λ k d l. h (suc k) d (omega (arith, l))
+
+path_bytes : (path : List ℕ) → All IsPathByte path → ArePathBytes path
+path_bytes [] h = tt
+path_bytes (x ∷ xs) h = (h 0 0 (omega arith), path_bytes xs (all_rest x xs h))
+
+-- ---- The head
+
+module _ (profile : Profile) (x : Present) (p : List ℕ) (es : List EntryData) (h : AtPath profile [] x p es) where
+  head_bytes : ArePathBytes x.path.items
+  head_bytes = path_bytes x.path.items h.good.bytes
+
+  after_path : AtPath profile x.path.items x (p ++ x.path.items) es
+  after_path = path_run profile [] x.path.items x p es x.path.items head_bytes refl h
+
+  pub head_plain : Lacks 10 (x.path.items ++ 0 ∷ [])
+  head_plain = lacks_both 10 x.path.items (0 ∷ []) (bytes_no_newline x.path.items head_bytes) ((λ e. absurd (omega (arith, e))), tt)
+
+  pub head_taken : (begun : List ℕ) (y : Present) (piece : List ℕ) (room max : ℕ) → begun ≡ [] →
+      y.path.items ≡ x.path.items → y.lines ≡ x.lines → y.reader ≡ x.reader → y.in_line ≡ true → Repeats x piece room max →
+      At profile begun (Some y) (p ++ (x.path.items ++ 0 ∷ [])) es
+  head_taken begun y piece room max n e c r i t =
+      let a = after_path in
+      let line = same_path profile x.path.items begun x y (p ++ x.path.items) es 0 a refl n refl e c r (takes_more a.kind a.lines (t.takes a.kind (unlines a.lines) a.reads)) in
+      subst (λ (t : List ℕ). At profile begun (Some y) t es) (append_assoc p x.path.items (0 ∷ []))
+      (at_true (AtLine profile begun y ((p ++ x.path.items) ++ 0 ∷ []) es) (AtPath profile begun y ((p ++ x.path.items) ++ 0 ∷ []) es) y.in_line i line)
+
+  pub head_few : (piece : List ℕ) (room max : ℕ) → max ≤ 18446744073709551615 → x.in_line ≡ false → Repeats x piece room max →
+      AreFew (IsManyRecords profile max) p (x.path.items ++ 0 ∷ [])
+  head_few piece room max u i t =
+      let path = x.path.items in
+      let before : At profile [] (Some x) p es = at_false (AtLine profile [] x p es) (AtPath profile [] x p es) x.in_line i h in
+      let after : At profile path (Some x) (p ++ path) es = at_false (AtLine profile path x (p ++ path) es) (AtPath profile path x (p ++ path) es) x.in_line i after_path in
+      few_push (IsManyRecords profile max) p path 0 (run_few profile max [] (Some x) p path es before (rw i head_bytes))
+      (full_is profile path (Some x) (p ++ path) es x.lines max false u i after ((λ e. refl), (λ n. absurd (n refl))) (λ e. absurd (cc)) (λ e. t.few))
+
+-- What the parts of a test say.
+pub repeats_is : (x : Present) (piece rest : List ℕ) (room max : ℕ) → piece ≡ x.path.items ++ rest → (length rest ≡ 0 → ⊥) → get_or rest 0 0 ≡ 0 → length x.path.items < room → x.lines < max →
+    ((kind : ReadForm) (taken : List ℕ) → Reads x.reader kind taken → TakesLine kind taken) → Repeats x piece room max
+repeats_is x piece [] room max e some nul short few takes = absurd (some refl)
+repeats_is x piece (b ∷ rest) room max e some nul short few takes = record {
+  rest = rest;
+  begins = e ∙ ap (λ (c : ℕ). x.path.items ++ c ∷ rest) nul;
+  short = short;
+  few = few;
+  takes = takes;
+}
