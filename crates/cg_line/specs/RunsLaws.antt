@@ -2,6 +2,7 @@
 use Rattle.std.proofs.Common.{◌≡◌, ◌≢◌, ℕ, ◌+◌, ◌<◌, ◌≤◌, ◌↔◌, inl, inr, List, [], ◌∷◌, ◌++◌, length, take, get_or, refl, sym, ◌∙◌, ap, append_assoc, append-nil, arith, length-append}
 use Rattle.std.proofs.lemmas.List.{take_more}
 use Rattle.cg_text.specs.Texts.{Lacks, Viable, TextOf}
+use Rattle.cg_text.specs.TextsLaws.{lacks_push}
 use Rattle.cg_value.specs.declared.kind.ReadForm.{ReadForm}
 use Rattle.cg_file.specs.Kinds.{TextsOf}
 use Rattle.cg_line.specs.Rests.{Goes, IsRead, Runs}
@@ -70,3 +71,7 @@ module _ (r : ValueReader) (m : FileText) (kind : ReadForm) (taken run : List �
 -- One more byte was taken.
 pub run_more : (Took : List ℕ → Type 0) (taken bytes : List ℕ) (i : ℕ) → i < length bytes → Took ((taken ++ take i bytes) ++ get_or bytes i 0 ∷ []) → Took (taken ++ take (i + 1) bytes)
 run_more Took taken bytes i within h = rw (take_more bytes i 0 within, ← append_assoc taken (take i bytes) (get_or bytes i 0 ∷ [])) h
+
+-- One more byte, which is no newline.
+pub plain_more : (bytes : List ℕ) (i : ℕ) → i < length bytes → get_or bytes i 0 ≢ 10 → Lacks 10 (take i bytes) → Lacks 10 (take (i + 1) bytes)
+plain_more bytes i within other plain = rw (take_more bytes i 0 within) (lacks_push 10 (take i bytes) (get_or bytes i 0) plain other)

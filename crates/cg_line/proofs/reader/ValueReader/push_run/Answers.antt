@@ -1,7 +1,6 @@
 use Rattle.std.proofs.Common.{◌<◌, ◌++◌, length, take, arith}
 use Rattle.cg_line.specs.Reads.{Reads}
-use Rattle.cg_line.specs.RunsLaws.{run_more}
-use Rattle.cg_file.specs.RunLaws.{plain_more}
+use Rattle.cg_line.specs.RunsLaws.{plain_more, run_more}
 use Rattle.cg_line.proofs.reader.ValueReader.push_run.Goals as goal
 
 pub loop-used-preserved : goal.loop-used-preserved
