@@ -1,18 +1,18 @@
 -- How the forks of an index grow by one.
-use Rattle.std.proofs.Common.{◌≡◌, ◌≢◌, ℕ, ◌+◌, ◌<◌, ◌^◌, ◌⊎◌, inl, inr, List, [], ◌∷◌, ◌++◌, length, get_or, set, Option, Some, None, Bool, true, false, not, map}
+use Rattle.std.proofs.Common.{◌≡◌, ◌≢◌, ℕ, ◌+◌, ◌<◌, ◌^◌, ◌⊎◌, inl, inr, List, [], ◌∷◌, ◌++◌, length, get_or, set, Option, Some, None, IfSome, Bool, true, false, not, map}
 use Rattle.std.proofs.Common.{refl, sym, ap, ◌∙◌, arith}
 use Rattle.std.proofs.Math.ListN.{length-set}
 use Rattle.std.proofs.Math.Seq.{get_or-append_seam}
 use Rattle.std.proofs.lemmas.Bool.{cases_lt, cases_order}
-use Rattle.std.proofs.lemmas.List.{get_or_append_left, length_push, get_or-set_other, get_or-set_same, length-map, map-append, map-set}
+use Rattle.std.proofs.lemmas.List.{nil_from_length, get_or_append_left, length_push, get_or-set_other, get_or-set_same, length-map, map-append, map-set}
 use Rattle.cg_index.specs.Position.{number, side}
 use Rattle.cg_index.specs.declared.position.Position.{Position}
 use Rattle.cg_index.specs.declared.fork.Fork.{Fork}
 use Rattle.cg_index.specs.declared.fork.Edge.{Edge}
 use Rattle.cg_index.specs.declared.fork.Link.{Link}
 use Rattle.cg_index.specs.declared.fork.Link.TheVariants as link
-use Rattle.cg_index.specs.Tree.{at, child, way, turned, fork_at, no_fork, key_at, IsBelow, IsTree, stop, Leads, IsOf, IsStep, IsFrom, IsEdge, IsParting, IsRedirected, Indexed, Indexes}
-use Rattle.cg_index.specs.TreeLaws.{IsGrown, IsFirst, IsFound, StandsFor, side_cases, nearest_within, above, fork_read, at_read, IsTree-grown, IsOf-grown}
+use Rattle.cg_index.specs.Tree.{at, child, way, turned, fork_at, no_fork, key_at, IsBelow, IsTree, stop, Leads, IsOf, IsStep, IsFrom, IsTurn, IsEdge, IsParting, IsRedirected, led_from, root_from, Indexed, Indexes, IsNear, IsSeat}
+use Rattle.cg_index.specs.TreeLaws.{IsGrown, IsFirst, IsFound, StandsFor, side_cases, nearest_within, above, fork_read, IsTree-grown, IsOf-grown}
 
 -- The fork that is added is the last.
 
@@ -163,7 +163,7 @@ module _ {old : List Fork} {root : Link} (tree : IsTree old root) {fork : Fork} 
       rw (redirected.0) (position_turned old g (side key (at old g)) (link.Fork (length old)) from.within f)
 
 -- A key is inserted: its fork is added at the end, and the edge before it led to the fork instead.
-pub record IsInserted (old : List Fork) (root : Link) (key near : List ℕ) (position : Position) (edge : Edge) (n : ℕ) (mid : List Fork) (top : Link) (fork : Fork) : Type 0 where
+record IsInserted (old : List Fork) (root : Link) (key near : List ℕ) (position : Position) (edge : Edge) (n : ℕ) (mid : List Fork) (top : Link) (fork : Fork) : Type 0 where
   pub count : n ≡ length old
   pub some : 0 < length old
   pub first : IsFirst key near (number position)
@@ -172,18 +172,17 @@ pub record IsInserted (old : List Fork) (root : Link) (key near : List ℕ) (pos
   pub redirected : IsRedirected old root key edge.from (link.Fork n) mid top
 
 -- The tree is one of the keys, and the walk by the key leads to the near one.
-pub record IsKnown (forks : List Fork) (root : Link) (keys : List (List ℕ)) (key near : List ℕ) : Type 0 where
+record IsKnown (forks : List Fork) (root : Link) (keys : List (List ℕ)) (key near : List ℕ) : Type 0 where
   pub of : IsOf forks root keys
   pub place : ℕ
   pub leads : Leads forks key root place
   pub is : key_at keys place ≡ near
 
-pub known_in : {P : Type 0} (view index : Indexed P) {keys : List (List ℕ)} (key near : List ℕ) → view ≡ index → Indexes index keys →
-    (0 < length keys → (k : ℕ) × Leads index.forks key index.root k × (key_at keys k ≡ near)) → 0 < length view.forks → IsKnown view.forks view.root keys key near
-known_in view index {keys} key near e indexes found some =
-    let more : 0 < length index.forks = rw e at some in
-    let there = found (omega (arith, indexes.tree.count)) in
-    rw e (record { of = indexes.tree; place = there.0; leads = there.1; is = there.2 })
+known_in : {P : Type 0} (view : Indexed P) {keys : List (List ℕ)} (key near : List ℕ) → Indexes view keys → IsNear view keys key near → 0 < length view.forks →
+    IsKnown view.forks view.root keys key near
+known_in view key near of found some =
+    let there = found (omega (arith, some, of.tree.count)) in
+    record { of = of.tree; place = there.0; leads = there.1; is = there.2 }
 
 module _ {old : List Fork} {root : Link} {key near : List ℕ} {position : Position} {edge : Edge} {n : ℕ} {mid : List Fork} {top : Link} {fork : Fork}
     (tree : IsTree old root) (inserted : IsInserted old root key near position edge n mid top fork) where
@@ -215,17 +214,17 @@ module _ {old : List Fork} {root : Link} {key near : List ℕ} {position : Posit
       first = inserted.first;
     }
 
-    pub inserted_tree : position.digit < 8 → position.byte < 2 ^ 64 → IsTree (mid ++ fork ∷ []) top
+    inserted_tree : position.digit < 8 → position.byte < 2 ^ 64 → IsTree (mid ++ fork ∷ []) top
     inserted_tree digit byte = IsTree-grown tree inserted_grown
         (λ f h. elim (inserted_position f h) [ inl is ↦ rw is digit | inr old_one ↦ rw (old_one.1) (tree.digits f old_one.0) ])
         (λ f h. elim (inserted_position f h) [ inl is ↦ rw is byte | inr old_one ↦ rw (old_one.1) (tree.bytes f old_one.0) ])
         inserted.some (above tree known.of inserted_found)
 
-    pub inserted_of : IsOf (mid ++ fork ∷ []) top (keys ++ key ∷ [])
+    inserted_of : IsOf (mid ++ fork ∷ []) top (keys ++ key ∷ [])
     inserted_of = IsOf-grown tree known.of inserted_found inserted_grown inserted.some
 
 -- The first key.
-pub first_of : (fork : Fork) (key : List ℕ) → IsOf (fork ∷ []) (link.Key 0) (key ∷ [])
+first_of : (fork : Fork) (key : List ℕ) → IsOf (fork ∷ []) (link.Key 0) (key ∷ [])
 first_of fork key = record {
   count = refl;
   reached = λ k h. let same : k ≡ 0 = omega (arith, h) in rw same stop;
@@ -234,16 +233,65 @@ first_of fork key = record {
 }
 
 -- The forks of nodes, one of which is turned.
-pub redirected_forks : {A : Type 0} (fork : A → Fork) (items : List A) (place : ℕ) (node new : A) (key : List ℕ) (digit : Bool) (l : Link) →
-    place < length items → node ≡ get_or items place node → digit ≡ side key (number (fork node).at) → fork new ≡ turned (fork node) digit l →
-    map fork (set items place new) ≡ set (map fork items) place (turned (fork_at (map fork items) place) (side key (at (map fork items) place)) l)
-redirected_forks fork items place node new key digit l h is digit_is new_is =
+pub turned_forks_of : {A : Type 0} (fork : A → Fork) (items : List A) (place : ℕ) (node new : A) (digit : Bool) (l : Link) →
+    place < length items → node ≡ get_or items place node → fork new ≡ turned (fork node) digit l →
+    map fork (set items place new) ≡ set (map fork items) place (turned (fork_at (map fork items) place) digit l)
+turned_forks_of fork items place node new digit l h is new_is =
     let within : place < length (map fork items) = simp length-map h in
     let read : fork_at (map fork items) place ≡ fork node = fork_read fork items place node within ∙ ap fork (sym is) in
-    let turned_is : fork new ≡ turned (fork_at (map fork items) place) (side key (at (map fork items) place)) l =
-    new_is ∙ ap (λ (d : Bool). turned (fork node) d l) (digit_is ∙ ap (side key) (sym (at_read (map fork items) place (fork node) read)))
-    ∙ ap (λ (x : Fork). turned x (side key (at (map fork items) place)) l) (sym read) in
-    map-set fork items place new ∙ ap (set (map fork items) place) turned_is
+    map-set fork items place new ∙ ap (set (map fork items) place) (new_is ∙ ap (λ (x : Fork). turned x digit l) (sym read))
+
+-- Seats.
+
+redirected_at : (forks : List Fork) (root : Link) (key : List ℕ) (from : Option ℕ) (digit : Bool) (l : Link) → IsTurn forks key from digit →
+    IsRedirected forks root key from l (led_from forks from digit l) (root_from root from l)
+redirected_at forks root key None digit l turns = (refl, refl)
+redirected_at forks root key (Some f) digit l turns = (ap (λ (d : Bool). set forks f (turned (fork_at forks f) d l)) turns, refl)
+
+from_within : (forks : List Fork) (root : Link) (key : List ℕ) (position : ℕ) (from : Option ℕ) (to : Link) → IsFrom forks root key position from to → IfSome from (λ f. f < length forks)
+from_within forks root key position None to from = tt
+from_within forks root key position (Some f) to from = from.within
+
+-- The seat that the edge gives.
+pub edge_seat : {P : Type 0} (view : Indexed P) (keys : List (List ℕ)) (key near : List ℕ) (position : Position) (edge : Edge) (n : ℕ) (fork : Fork) →
+    IsTree view.forks view.root → Indexes view keys → IsNear view keys key near → n ≡ length view.forks → 0 < length view.forks →
+    IsFirst key near (number position) → IsEdge view.forks view.root key (number position) edge → IsParting fork key position (link.Key n) edge.to →
+    position.digit < 8 → position.byte < 2 ^ 64 → IsSeat view keys key (record { fork = fork; from = edge.from; digit = edge.digit; link = link.Fork n })
+edge_seat view keys key near position edge n fork tree of is_near count some first along parting digit byte =
+    let inserted : IsInserted view.forks view.root key near position edge n (led_from view.forks edge.from edge.digit (link.Fork n)) (root_from view.root edge.from (link.Fork n)) fork = record {
+      count = count;
+      some = some;
+      first = first;
+      along = along;
+      parting = parting;
+      redirected = redirected_at view.forks view.root key edge.from edge.digit (link.Fork n) along.turns;
+    } in
+    let known = known_in view key near of is_near some in
+    record {
+      within = from_within view.forks view.root key (number position) edge.from edge.to along.from;
+      tree = inserted_tree tree inserted known digit byte;
+      of = inserted_of tree inserted known;
+    }
+
+first_tree : IsTree (no_fork ∷ []) (link.Key 0)
+first_tree = record {
+  rooted = λ h. omega arith;
+  rising = λ f digit some h. absurd (omega (arith, some, h));
+  digits = λ f h. let same : f ≡ 0 = omega (arith, h) in rw same (omega arith);
+  bytes = λ f h. let same : f ≡ 0 = omega (arith, h) in rw same (omega arith);
+}
+
+-- The seat of the first key.
+pub first_seat : {P : Type 0} (view : Indexed P) (keys : List (List ℕ)) (key : List ℕ) (fork : Fork) → Indexes view keys → length view.forks ≡ 0 → fork ≡ no_fork →
+    IsSeat view keys key (record { fork = fork; from = None; digit = false; link = link.Key 0 })
+first_seat view keys key fork of none is =
+    let no_forks = nil_from_length view.forks none in
+    let no_keys = nil_from_length keys (sym of.tree.count ∙ none) in
+    rw is (record {
+      within = tt;
+      tree = rw no_forks first_tree;
+      of = rw (no_forks, no_keys) (first_of no_fork key);
+    })
 
 -- An index with a node more.
 pub indexes_with : {A P : Type 0} (fork : A → Fork) (beside : A → P) (mid new : List A) (node : A) (top : Link) (room : Bool) (keys : List (List ℕ)) (key : List ℕ) →
@@ -253,11 +301,3 @@ indexes_with fork beside mid new node top room keys key e of count = record {
   tree = rw (e, map-append) of;
   count = rw (e, map-append) (length_push (map beside mid) (beside node) ∙ ap (λ (n : ℕ). n + 1) count ∙ sym (length_push keys key));
 }
-
--- The index of the first key.
-pub indexes_first : {A P : Type 0} (fork : A → Fork) (beside : A → P) (items new : List A) (node : A) (room : Bool) (keys : List (List ℕ)) (key : List ℕ) →
-    new ≡ items ++ node ∷ [] → length items ≡ 0 → length (map beside items) ≡ length keys →
-    Indexes (record { forks = map fork new; root = link.Key 0; besides = map beside new; has_room = room }) (keys ++ key ∷ [])
-indexes_first fork beside [] new node room [] key e none count = rw e (record { tree = first_of (fork node) key; count = refl })
-indexes_first fork beside [] new node room (k ∷ ks) key e none count = absurd (omega (arith, count))
-indexes_first fork beside (x ∷ xs) new node room keys key e none count = absurd (omega (arith, none))

@@ -1,6 +1,8 @@
 -- What holders of keys cite of an index.
-use Rattle.std.proofs.Common.{◌≡◌, ◌≢◌, ℕ, ◌<◌, List, [], length, Option, Some, None, is_none, IfSome, true, ◌==◌, sym, ap, ◌∙◌, arith}
+use Rattle.std.proofs.Common.{◌≡◌, ◌≢◌, ℕ, zero, suc, ◌<◌, List, [], ◌∷◌, length, get_or, Option, Some, None, is_none, IfSome, true, ◌==◌, sym, ap, ◌∙◌, arith}
 use Rattle.std.proofs.lemmas.Bool.Decides.{nat_tests}
+use Rattle.cg_text.specs.Word.{AreWordBytes}
+use Rattle.cg_index.specs.Position.{HasNoZero}
 use Rattle.cg_index.specs.Tree.{Indexed, Indexes, IsNear, IsNearest, IsOnlyFor, IsSameBut, key_at}
 
 -- The bytes are the key at the place, and none of no place.
@@ -8,7 +10,7 @@ abbrev pub IsKeyThere : List (List ℕ) → Option ℕ → List ℕ → Type 0
 IsKeyThere keys None bytes = bytes ≡ []
 IsKeyThere keys (Some place) bytes = bytes ≡ key_at keys place
 
-no_length : (n : ℕ) → true ≡ (n == 0) → n ≡ 0
+pub no_length : (n : ℕ) → true ≡ (n == 0) → n ≡ 0
 no_length n e = grind (arith, nat_tests)
 
 -- What is the same but for the room is the index of the same keys.
@@ -50,3 +52,11 @@ module _ {P : Type 0} {index : Indexed P} {keys : List (List ℕ)} (of : Indexes
         | None ↦ λ n o i. absurd (omega (arith, of.count, no_length (length index.besides) n, some))
         | Some place ↦ λ n o i. (place, rw (same.forks, same.root) o, sym i)
       ] none nearest is
+
+-- Words have no byte 0.
+pub word_bytes : (key : List ℕ) → AreWordBytes key → HasNoZero key
+word_bytes [] w = λ k d h. absurd (omega (arith, h))
+word_bytes (c ∷ cs) w = λ k d h. elim k as (λ k. k < length (c ∷ cs) → 0 < get_or (c ∷ cs) k d) [
+  | zero ↦ λ _. omega (arith, w.0)
+  | suc i ↦ λ l. word_bytes cs w.1 i d (omega (arith, l))
+] h

@@ -1,6 +1,9 @@
 pub mod GrownLaws
 pub mod IndexLaws
+pub mod Keyed
+pub mod KeyedLaws
 pub mod Position
 pub mod PositionLaws
+pub mod SeatLaws
 pub mod Tree
 pub mod TreeLaws

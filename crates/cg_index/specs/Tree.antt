@@ -1,9 +1,10 @@
 -- The tree of an index, and the keys of which it is the index.
-use Rattle.std.specs.Prelude.{◌≡◌, ℕ, ◌+◌, ◌<◌, ◌≤◌, ◌^◌, List, [], Bool, Option, Some, None, if◌then◌else◌, length, slice_index_or, slice_set, not}
+use Rattle.std.specs.Prelude.{◌≡◌, ℕ, ◌+◌, ◌<◌, ◌≤◌, ◌^◌, List, [], ◌∷◌, ◌++◌, Bool, Option, Some, None, IfSome, if◌then◌else◌, length, slice_index_or, slice_set, not}
 use Rattle.cg_index.specs.Position.{number, side}
 use Rattle.cg_index.specs.declared.position.Position.{Position}
 use Rattle.cg_index.specs.declared.fork.Fork.{Fork}
 use Rattle.cg_index.specs.declared.fork.Edge.{Edge}
+use Rattle.cg_index.specs.declared.fork.Seat.{Seat}
 use Rattle.cg_index.specs.declared.fork.Link.{Link}
 use Rattle.cg_index.specs.declared.fork.Link.TheVariants as link
 
@@ -65,6 +66,22 @@ abbrev pub IsRedirected : List Fork → Link → List ℕ → Option ℕ → Lin
 IsRedirected old root key None link new top = (new ≡ old) × (top ≡ link)
 IsRedirected old root key (Some f) link new top = (new ≡ slice_set old f (turned (fork_at old f) (side key (at old f)) link)) × (top ≡ root)
 
+-- The forks where the step that the seat names goes on at the seat's link.
+abbrev pub led_from : List Fork → Option ℕ → Bool → Link → List Fork
+led_from forks None digit link = forks
+led_from forks (Some f) digit link = slice_set forks f (turned (fork_at forks f) digit link)
+
+abbrev pub led_forks : List Fork → Seat → List Fork
+led_forks forks seat = led_from forks seat.from seat.digit seat.link
+
+-- Where a walk then begins.
+abbrev pub root_from : Link → Option ℕ → Link → Link
+root_from root None link = link
+root_from root (Some f) link = root
+
+abbrev pub led_root : Link → Seat → Link
+led_root root seat = root_from root seat.from seat.link
+
 -- A way over forks leads from the first link to the second.
 pub data Reaches (forks : List Fork) : Link → Link → Type 0 where
   stop : {a : Link} → Reaches forks a a
@@ -109,6 +126,12 @@ pub record IsSameBut {P : Type 0} (old new : Indexed P) : Type 0 where
   pub root : new.root ≡ old.root
   pub besides : new.besides ≡ old.besides
 
+-- The tree is the same, and the room.
+pub record IsSameTree {P : Type 0} (old new : Indexed P) : Type 0 where
+  pub forks : new.forks ≡ old.forks
+  pub root : new.root ≡ old.root
+  pub room : new.has_room ≡ old.has_room
+
 -- To whichever of the keys the walk by the sides of the key leads, it is this one.
 abbrev pub IsNear : {P : Type 0} → Indexed P → List (List ℕ) → List ℕ → List ℕ → Type 0
 IsNear index keys key near = 0 < length keys → (k : ℕ) × IsNearest index key k × (key_at keys k ≡ near)
@@ -125,7 +148,19 @@ abbrev pub IsFrom : List Fork → Link → List ℕ → ℕ → Option ℕ → L
 IsFrom forks root key position None to = to ≡ root
 IsFrom forks root key position (Some f) to = IsStep forks root key position f to
 
+-- It is the digit of the key at the fork, if there is one.
+abbrev pub IsTurn : List Fork → List ℕ → Option ℕ → Bool → Type 0
+IsTurn forks key None digit = Unit {0}
+IsTurn forks key (Some f) digit = digit ≡ side key (at forks f)
+
 pub record IsEdge (forks : List Fork) (root : Link) (key : List ℕ) (position : ℕ) (edge : Edge) : Type 0 where
   pub from : IsFrom forks root key position edge.from edge.to
+  pub turns : IsTurn forks key edge.from edge.digit
   pub behind : IsBelow forks position edge.to
   pub leads : (k : ℕ) → Leads forks key root k → Leads forks key edge.to k
+
+-- The seat is one of the key in the index of these keys: where it is taken, the tree is one of these keys and this one.
+pub record IsSeat {P : Type 0} (index : Indexed P) (keys : List (List ℕ)) (key : List ℕ) (seat : Seat) : Type 0 where
+  pub within : IfSome seat.from (λ f. f < length index.forks)
+  pub tree : IsTree (led_forks index.forks seat ++ seat.fork ∷ []) (led_root index.root seat)
+  pub of : IsOf (led_forks index.forks seat ++ seat.fork ∷ []) (led_root index.root seat) (keys ++ key ∷ [])

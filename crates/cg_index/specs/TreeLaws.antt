@@ -9,7 +9,7 @@ use Rattle.cg_index.specs.declared.fork.Fork.{Fork}
 use Rattle.cg_index.specs.declared.fork.Edge.{Edge}
 use Rattle.cg_index.specs.declared.fork.Link.{Link}
 use Rattle.cg_index.specs.declared.fork.Link.TheVariants as link
-use Rattle.cg_index.specs.Tree.{at, child, way, fork_at, key_at, IsBelow, IsTree, Reaches, stop, step, Leads, here, turn, IsOf, IsFrom, IsEdge}
+use Rattle.cg_index.specs.Tree.{at, child, way, fork_at, key_at, IsBelow, IsTree, Reaches, stop, step, Leads, here, turn, IsOf, IsFrom, IsTurn, IsEdge}
 
 -- Links.
 
@@ -379,6 +379,7 @@ left forks (link.Fork f) = 2 ^ 67 - at forks f
 -- A walk by the sides of the key has come over this edge, and no fork before it stands at the position or after it.
 pub record IsWalk (forks : List Fork) (root : Link) (key : List ℕ) (position : ℕ) (edge : Edge) : Type 0 where
   pub from : IsFrom forks root key position edge.from edge.to
+  pub turns : IsTurn forks key edge.from edge.digit
   pub below : IsBelow forks 0 edge.to
   pub behind : (l : Link) → Reaches forks edge.to l → Reaches forks root l
   pub leads : (k : ℕ) → Leads forks key root k → Leads forks key edge.to k
@@ -411,6 +412,9 @@ module _ (forks : List Fork) (f : ℕ) (fork : Fork) (read : fork_at forks f ≡
   unfolding at
   at_read = ap (λ (x : Fork). number x.at) read
 
+  pub turn_read : (key : List ℕ) (digit : Bool) → digit ≡ side key (number fork.at) → digit ≡ side key (at forks f)
+  turn_read key digit d = d ∙ ap (side key) (sym at_read)
+
   pub child_read : (key : List ℕ) (digit : Bool) (l : Link) → digit ≡ side key (number fork.at) → l ≡ way fork digit → l ≡ child forks f (side key (at forks f))
   unfolding child
   child_read key digit l d e = e ∙ ap (way fork) (d ∙ ap (side key) (sym at_read)) ∙ ap (λ (x : Fork). way x (side key (at forks f))) (sym read)
@@ -427,8 +431,8 @@ module _ {forks : List Fork} {root : Link} (tree : IsTree forks root) {key : Lis
   pub walk_within : (0 < f) × (f < length forks)
   walk_within = let there = below_fork forks 0 edge.to f is walk.below in (there.0, there.1)
 
-  pub walk_on : (l : Link) → l ≡ child forks f (side key (at forks f)) → at forks f < position → IsWalk forks root key position (record { from = Some f; to = l })
-  walk_on l goes before = record {
+  pub walk_on : (digit : Bool) (l : Link) → digit ≡ side key (at forks f) → l ≡ child forks f (side key (at forks f)) → at forks f < position → IsWalk forks root key position (record { from = Some f; digit = digit; to = l })
+  walk_on digit l turns goes before = record {
     from = record {
       some = walk_within.0;
       within = walk_within.1;
@@ -436,6 +440,7 @@ module _ {forks : List Fork} {root : Link} (tree : IsTree forks root) {key : Lis
       goes = sym goes;
       reached = walk.behind (link.Fork f) (rw is stop);
     };
+    turns = turns;
     below = goes_on tree f walk_within.0 walk_within.1 (side key (at forks f)) l goes;
     behind = λ m r. walk.behind m (rw is (step {f = f} {a = m} (side key (at forks f)) (rw (← goes) r)));
     leads = λ k w. let led_on = walk.leads k w in rw goes (leads_on (rw is at led_on));
@@ -444,6 +449,7 @@ module _ {forks : List Fork} {root : Link} (tree : IsTree forks root) {key : Lis
   pub walk_ends : position ≤ at forks f → IsEdge forks root key position edge
   walk_ends le = record {
     from = walk.from;
+    turns = walk.turns;
     behind = rw is (walk_within.0, walk_within.1, le);
     leads = walk.leads;
   }

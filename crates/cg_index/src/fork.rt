@@ -1,7 +1,7 @@
 //! The forks of an index, and walks over them.
-ghost use Rattle.std.specs.Prelude.{◌≡◌, ◌<◌, ◌+◌, ◌++◌, ◌∷◌, [], map, length, vec_len, vec_capacity, IfSome};
+ghost use Rattle.std.specs.Prelude.{◌≡◌, ◌<◌, map, length, vec_len, vec_capacity, IfSome};
 ghost use Rattle.cg_index.specs.Position.{number, side};
-ghost use Rattle.cg_index.specs.Tree.{no_fork, way, turned, IsTree, IsEdge, IsParting, IsRedirected, Leads};
+ghost use Rattle.cg_index.specs.Tree.{no_fork, way, turned, IsTree, IsEdge, IsParting, Leads, led_forks, led_root};
 
 use crate::position::{Position, side};
 
@@ -72,13 +72,21 @@ impl Fork {
     }
 }
 
-/// What an index has for a key.
-#[derive(Clone, Copy, Debug)]
-pub(crate) struct Node<P> {
-    /// What the holder of the key keeps beside it.
-    pub(crate) beside: P,
-    /// The fork that came with the key; the first key came with none.
+/// An item in its place.
+#[derive(Debug, Drop)]
+pub struct Placed<T> {
+    pub(crate) item: T,
+    /// The fork that came with the item's key; the first key came with none.
     pub(crate) fork: Fork,
+}
+
+impl<T> Placed<T> {
+    /// The item.
+    pub fn item(&self) -> &T
+        ensures { result.now ≡ self.now.item }
+    {
+        &self.item
+    }
 }
 
 /// The last step of a walk before a position.
@@ -86,11 +94,26 @@ pub(crate) struct Node<P> {
 pub(crate) struct Edge {
     /// The fork that it comes from, none at the root.
     pub(crate) from: Option<usize>,
+    /// The digit by which it leaves that fork.
+    pub(crate) digit: bool,
     pub(crate) to: Link,
 }
 
+/// Where a key goes into an index.
+#[derive(Clone, Copy, Debug)]
+pub(crate) struct Seat {
+    /// The fork that comes with the key.
+    pub(crate) fork: Fork,
+    /// The fork from which a step then goes on elsewhere, none where it is the one at the root.
+    pub(crate) from: Option<usize>,
+    /// The digit of the key at that fork.
+    pub(crate) digit: bool,
+    /// Where the step then goes on.
+    pub(crate) link: Link,
+}
+
 /// The key to which a walk by the sides of this one leads.
-pub(crate) fn key_of_walk<P>(nodes: &[Node<P>], root: Link, key: &[u8]) -> usize
+pub(crate) fn key_of_walk<T>(nodes: &[Placed<T>], root: Link, key: &[u8]) -> usize
     requires tree { IsTree (map (λ n. n.fork) nodes.now) root }
     requires some { 0 < length nodes.now }
     ensures within { result < length nodes.now }
@@ -109,7 +132,7 @@ pub(crate) fn key_of_walk<P>(nodes: &[Node<P>], root: Link, key: &[u8]) -> usize
 }
 
 /// The last step, before the position, of a walk by the sides of the key.
-pub(crate) fn edge_before<P>(nodes: &[Node<P>], root: Link, key: &[u8], at: Position) -> Edge
+pub(crate) fn edge_before<T>(nodes: &[Placed<T>], root: Link, key: &[u8], at: Position) -> Edge
     requires tree { IsTree (map (λ n. n.fork) nodes.now) root }
     requires some { 0 < length nodes.now }
     requires digit { at.digit < 8 }
@@ -117,6 +140,7 @@ pub(crate) fn edge_before<P>(nodes: &[Node<P>], root: Link, key: &[u8], at: Posi
 {
     let mut edge = Edge {
         from: None,
+        digit: false,
         to: root,
     };
     while let Link::Fork(place) = edge.to {
@@ -124,34 +148,29 @@ pub(crate) fn edge_before<P>(nodes: &[Node<P>], root: Link, key: &[u8], at: Posi
         if !fork.at.is_before(at) {
             break;
         }
+        let digit = side(key, fork.at);
         edge = Edge {
             from: Some(place),
-            to: fork.toward(side(key, fork.at)),
+            digit,
+            to: fork.toward(digit),
         };
     }
     edge
 }
 
-/// Lets the step of the key's walk from this fork, or from the root, go on at the link. It returns the new root.
-pub(crate) fn redirect<P>(
-    nodes: &mut Vec<Node<P>>,
-    root: Link,
-    from: Option<usize>,
-    key: &[u8],
-    link: Link,
-) -> Link
-    requires tree { IsTree (map (λ n. n.fork) nodes.old.items) root }
-    requires within { IfSome from (λ f. f < length nodes.old.items) }
-    ensures forks { IsRedirected (map (λ n. n.fork) nodes.old.items) root key.now from link (map (λ n. n.fork) nodes.new.items) result }
-    ensures besides { map (λ n. n.beside) nodes.new.items ≡ map (λ n. n.beside) nodes.old.items }
+/// Lets the step that the seat names go on at the seat's link. It returns the new root.
+pub(crate) fn redirect<T>(nodes: &mut Vec<Placed<T>>, root: Link, seat: Seat) -> Link
+    requires { IfSome seat.from (λ f. f < length nodes.old.items) }
+    ensures forks { map (λ n. n.fork) nodes.new.items ≡ led_forks (map (λ n. n.fork) nodes.old.items) seat }
+    ensures root { result ≡ led_root root seat }
+    ensures items { map (λ n. n.item) nodes.new.items ≡ map (λ n. n.item) nodes.old.items }
     ensures len { vec_len nodes.new ≡ vec_len nodes.old }
     ensures capacity { vec_capacity nodes.new ≡ vec_capacity nodes.old }
 {
-    match from {
-        None => link,
+    match seat.from {
+        None => seat.link,
         Some(place) => {
-            let fork = &mut nodes[place].fork;
-            fork.turn(side(key, fork.at), link);
+            nodes[place].fork.turn(seat.digit, seat.link);
             root
         }
     }

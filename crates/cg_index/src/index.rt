@@ -1,9 +1,9 @@
 //! An index of distinct keys that are kept elsewhere.
-ghost use Rattle.std.specs.Prelude.{◌≡◌, ℕ, ◌<◌, ◌++◌, ◌∷◌, [], List, IsTrue, IfSome, IfOk, IsOk, OnOk, length, slice_get, slice_index_or, is_none, ◌==◌, Some};
+ghost use Rattle.std.specs.Prelude.{◌≡◌, ℕ, ◌<◌, ◌++◌, ◌∷◌, [], List, IsTrue, IfSome, IfOk, IsOk, OnOk, length, slice_get, map, is_none, ◌==◌, Some};
 ghost use Rattle.cg_index.specs.Position.{HasNoZero};
-ghost use Rattle.cg_index.specs.Tree.{Indexes, IsNearest, IsNear, IsOnlyFor, IsSameBut};
+ghost use Rattle.cg_index.specs.Tree.{Indexes, IsNearest, IsNear, IsOnlyFor, IsSameBut, IsSeat};
 
-use crate::fork::{Fork, Link, Node, edge_before, key_of_walk, redirect};
+use crate::fork::{Fork, Link, Placed, Seat, edge_before, key_of_walk, redirect};
 use crate::position::first_difference;
 use std::alloc::{AllocError, Global};
 use std::marker::Model;
@@ -13,7 +13,7 @@ use std::marker::Model;
 /// beside the key. Contracts see its tree, what is kept beside the keys, and whether there is room for one more.
 #[derive(Debug, Drop)]
 pub struct KeyIndex<P> {
-    nodes: Vec<Node<P>>,
+    pub(crate) nodes: Vec<Placed<P>>,
     root: Link,
 }
 
@@ -26,14 +26,14 @@ impl<P> Model for KeyIndex<P> {
     ghost view = { λ s. record {
       forks = map (λ n. n.fork) s.nodes.items;
       root = s.root;
-      besides = map (λ n. n.beside) s.nodes.items;
+      besides = map (λ n. n.item) s.nodes.items;
       has_room = nat_lt (vec_len s.nodes) (vec_capacity s.nodes);
     } };
 
     ghost invariant = { λ s. IsTree (map (λ n. n.fork) s.nodes.items) s.root };
 }
 
-impl<P: Copy> KeyIndex<P> {
+impl<P> KeyIndex<P> {
     /// Of no keys. It takes no memory.
     pub fn new(alloc: Global) -> KeyIndex<P>
         ensures { Indexes result [] }
@@ -51,12 +51,11 @@ impl<P: Copy> KeyIndex<P> {
         self.nodes.len()
     }
 
-    /// What is kept beside the key of this number.
-    pub fn beside(&self, place: usize) -> P
-        requires { place < length self.now.besides }
-        ensures { slice_get self.now.besides place ≡ Some result }
+    /// What is kept beside the keys, each in its place.
+    pub(crate) fn placed(&self) -> &[Placed<P>]
+        ensures { map (λ n. n.item) result.now ≡ self.now.besides }
     {
-        self.nodes[place].beside
+        self.nodes.as_slice()
     }
 
     /// The number of the only key that can be the same as this one, none where there are no keys. It compares no keys.
@@ -81,6 +80,46 @@ impl<P: Copy> KeyIndex<P> {
         self.nodes.try_reserve(1)
     }
 
+    /// Where the key goes in. Its nearest one is given with it; where there are no keys, that counts for nothing.
+    pub(crate) fn seat(&self, key: &[u8], near: &[u8]) -> Seat
+        requires key { HasNoZero key.now }
+        requires near { HasNoZero near.now }
+        requires apart { 0 < length self.now.besides → near.now ≡ key.now → ⊥ }
+        ensures { (keys : List (List ℕ)) → Indexes self.now keys → IsNear self.now keys key.now near.now → IsSeat self.now keys key.now result }
+    {
+        let place = self.nodes.len();
+        if place == 0 {
+            return Seat {
+                fork: Fork::none(),
+                from: None,
+                digit: false,
+                link: Link::Key(0),
+            };
+        }
+        let at = first_difference(key, near);
+        let edge = edge_before(self.nodes.as_slice(), self.root, key, at);
+        Seat {
+            fork: Fork::new(key, at, Link::Key(place), edge.to),
+            from: edge.from,
+            digit: edge.digit,
+            link: Link::Fork(place),
+        }
+    }
+
+    /// Adds the key whose seat it is. It takes no memory.
+    pub(crate) fn insert_at(&mut self, seat: Seat, beside: P)
+        requires room { IsTrue self.old.has_room }
+        requires seat { (keys : List (List ℕ)) × (key : List ℕ) × IsSeat self.old keys key seat }
+        ensures index { (keys : List (List ℕ)) (key : List ℕ) → Indexes self.old keys → IsSeat self.old keys key seat → Indexes self.new (keys ++ key ∷ []) }
+        ensures besides { self.new.besides ≡ self.old.besides ++ beside ∷ [] }
+    {
+        self.root = redirect(&mut self.nodes, self.root, seat);
+        self.nodes.push_reserved(Placed {
+            item: beside,
+            fork: seat.fork,
+        });
+    }
+
     /// Adds a key. Its nearest one is given with it; where there are no keys, that counts for nothing. It takes no memory.
     pub fn insert(&mut self, key: &[u8], near: &[u8], beside: P)
         requires room { IsTrue self.old.has_room }
@@ -91,34 +130,34 @@ impl<P: Copy> KeyIndex<P> {
         ensures index { (keys : List (List ℕ)) → Indexes self.old keys → IsNear self.old keys key.now near.now → Indexes self.new (keys ++ key.now ∷ []) }
         ensures besides { self.new.besides ≡ self.old.besides ++ beside ∷ [] }
     {
-        let place = self.nodes.len();
-        if place == 0 {
-            self.root = Link::Key(0);
-            self.nodes.push_reserved(Node {
-                beside,
-                fork: Fork::none(),
-            });
-            return;
-        }
-        let at = first_difference(key, near);
-        let edge = edge_before(self.nodes.as_slice(), self.root, key, at);
-        let fork = Fork::new(key, at, Link::Key(place), edge.to);
-        self.root = redirect(
-            &mut self.nodes,
-            self.root,
-            edge.from,
-            key,
-            Link::Fork(place),
-        );
-        self.nodes.push_reserved(Node { beside, fork });
+        let seat = self.seat(key, near);
+        self.insert_at(seat, beside);
+    }
+}
+
+impl<P: Copy> KeyIndex<P> {
+    /// What is kept beside the key of this number.
+    pub fn beside(&self, place: usize) -> P
+        requires { place < length self.now.besides }
+        ensures { slice_get self.now.besides place ≡ Some result }
+    {
+        self.nodes[place].item
     }
 
     /// A copy.
     pub fn copy(&self, alloc: Global) -> Result<KeyIndex<P>, AllocError>
         ensures { IfOk result (IsSameBut self.now) }
     {
+        let mut nodes = Vec::new(alloc);
+        nodes.try_reserve_exact(self.nodes.len())?;
+        for node in &self.nodes {
+            nodes.push(Placed {
+                item: node.item,
+                fork: node.fork,
+            })?;
+        }
         Ok(KeyIndex {
-            nodes: Vec::from_slice(alloc, self.nodes.as_slice())?,
+            nodes,
             root: self.root,
         })
     }

@@ -1,8 +1,11 @@
-//! An index of distinct keys that are kept elsewhere.
+//! An index of distinct keys, and items that are found by their keys.
 #![tactic(auto)]
 
 mod fork;
 mod index;
+pub mod keyed;
 mod position;
 
+pub use fork::Placed;
 pub use index::KeyIndex;
+pub use keyed::{Change, HasKey, KeyedBuilder, KeyedItems, Refused};

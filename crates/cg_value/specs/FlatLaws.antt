@@ -13,8 +13,6 @@ use Rattle.std.specs.Cmp.{IsPartialEquivalence, partial_equiv_from_equiv}
 use Rattle.std.specs.Cmp.Lexicographic.{lists_per}
 use Rattle.std.specs.List.{sum_by}
 use Rattle.std.specs.Str.{bytes_eq}
-use Rattle.cg_text.specs.Word.{AreWordBytes}
-use Rattle.cg_index.specs.Position.{HasNoZero}
 use Rattle.cg_index.specs.IndexLaws.{IsKeyThere, near_has, near_lacks}
 use Rattle.cg_index.specs.Tree.{Indexed, Indexes, IsOnlyFor}
 use Rattle.cg_value.specs.declared.flat.FlatPair.{FlatPair}
@@ -156,14 +154,6 @@ pub keys_read : (pairs : List FlatPair) (i : ℕ) → i < length pairs → get_o
 keys_read [] i h = absurd (omega (arith, h))
 keys_read (p ∷ ps) zero h = refl
 keys_read (p ∷ ps) (suc i) h = keys_read ps i (omega (arith, h))
-
--- Words have no byte 0.
-pub word_bytes : (key : List ℕ) → AreWordBytes key → HasNoZero key
-word_bytes [] w = λ k d h. absurd (omega (arith, h))
-word_bytes (c ∷ cs) w = λ k d h. elim k as (λ k. k < length (c ∷ cs) → 0 < get_or (c ∷ cs) k d) [
-  | zero ↦ λ _. omega (arith, w.0)
-  | suc i ↦ λ l. word_bytes cs w.1 i d (omega (arith, l))
-] h
 
 -- What a comparison says of the key that was compared.
 pub compared_same : (a b key : List ℕ) (test : Bool) → test ≡ bytes_eq a b → test ≡ true → b ≡ key → a ≡ key

@@ -1,7 +1,7 @@
 use Rattle.std.proofs.Common.{map}
 use Rattle.cg_index.specs.Position.{side}
 use Rattle.cg_index.specs.Tree.{at}
-use Rattle.cg_index.specs.TreeLaws.{fork_read, at_read, child_read, digit_read, left_falls, walk_within, walk_on, walk_ends, not_before}
+use Rattle.cg_index.specs.TreeLaws.{fork_read, at_read, turn_read, child_read, digit_read, left_falls, walk_within, walk_on, walk_ends, not_before}
 use Rattle.cg_index.proofs.fork.edge_before.Goals as goal
 
 pub is_before-requires-clause-digit : goal.is_before-requires-clause-digit
@@ -9,8 +9,8 @@ is_before-requires-clause-digit g c =
     let there = walk_within c.requires.tree c.loop-edge.invariant c.in-Fork.is in
     digit_read _ c.in-Fork.place _ (fork_read (λ n. n.fork) c.args.nodes.now c.in-Fork.place c.index-nodes-place.result there.1) c.requires.tree there.1
 
-pub side-requires : goal.side-requires
-side-requires g c =
+pub side-digit-requires : goal.side-digit-requires
+side-digit-requires g c =
     let there = walk_within c.requires.tree c.loop-edge.invariant c.in-Fork.is in
     digit_read _ c.in-Fork.place _ (fork_read (λ n. n.fork) c.args.nodes.now c.in-Fork.place c.index-nodes-place.result there.1) c.requires.tree there.1
 
@@ -18,16 +18,17 @@ pub loop-edge-smaller : goal.loop-edge-smaller
 loop-edge-smaller g c =
     let forks = map (λ n. n.fork) c.args.nodes.now in
     let there = walk_within c.requires.tree c.loop-edge.invariant c.in-Fork.is in
-    let goes = child_read _ c.in-Fork.place _ (fork_read (λ n. n.fork) c.args.nodes.now c.in-Fork.place c.index-nodes-place.result there.1) c.args.key.now c.side.result c.toward.result c.side.ensures c.toward.ensures in
+    let goes = child_read _ c.in-Fork.place _ (fork_read (λ n. n.fork) c.args.nodes.now c.in-Fork.place c.index-nodes-place.result there.1) c.args.key.now c.side-digit.result c.toward.result c.side-digit.ensures c.toward.ensures in
     rw (c.in-Fork.is) (left_falls c.requires.tree c.in-Fork.place there.0 there.1 (side c.args.key.now (at forks c.in-Fork.place)) c.toward.result goes)
 
 pub loop-edge-preserved : goal.loop-edge-preserved
 loop-edge-preserved g c =
     let there = walk_within c.requires.tree c.loop-edge.invariant c.in-Fork.is in
     let read = fork_read (λ n. n.fork) c.args.nodes.now c.in-Fork.place c.index-nodes-place.result there.1 in
-    let goes = child_read _ c.in-Fork.place _ read c.args.key.now c.side.result c.toward.result c.side.ensures c.toward.ensures in
+    let goes = child_read _ c.in-Fork.place _ read c.args.key.now c.side-digit.result c.toward.result c.side-digit.ensures c.toward.ensures in
     let before = c.is_before.ensures.0 c.if-not-is_before.false in
-    walk_on c.requires.tree c.loop-edge.invariant c.in-Fork.is c.toward.result goes (rw (at_read _ c.in-Fork.place _ read) before)
+    let turns = turn_read _ c.in-Fork.place _ read c.args.key.now c.side-digit.result c.side-digit.ensures in
+    walk_on c.requires.tree c.loop-edge.invariant c.in-Fork.is c.side-digit.result c.toward.result turns goes (rw (at_read _ c.in-Fork.place _ read) before)
 
 pub returns-then-not-is_before : goal.returns-then-not-is_before
 returns-then-not-is_before g c =

@@ -1,5 +1,6 @@
 use Rattle.std.proofs.Common.{sym, ◌∙◌}
-use Rattle.cg_value.specs.FlatLaws.{key_read, keys_read, word_bytes}
+use Rattle.cg_index.specs.IndexLaws.{word_bytes}
+use Rattle.cg_value.specs.FlatLaws.{key_read, keys_read}
 use Rattle.cg_value.proofs.flat.key_near.Goals as goal
 
 pub returns-in-Some-clause-key : goal.returns-in-Some-clause-key

@@ -1,8 +1,8 @@
 use Rattle.std.proofs.Common.{is_some, sym, ap, ◌∙◌}
-use Rattle.cg_index.specs.IndexLaws.{same_indexes, near_is}
+use Rattle.cg_index.specs.IndexLaws.{same_indexes, near_is, word_bytes}
 use Rattle.cg_value.specs.declared.flat.FlatPair.{FlatPair}
 use Rattle.cg_value.specs.Flat.{Building}
-use Rattle.cg_value.specs.FlatLaws.{keys_of, compared_same, compared_other, near_number, near_none, index_push, place_as_number, word_bytes}
+use Rattle.cg_value.specs.FlatLaws.{keys_of, compared_same, compared_other, near_number, near_none, index_push, place_as_number}
 use Rattle.cg_value.proofs.flat.FlatBuilder.push.Goals as goal
 
 pub returns-then-eq-clause-repeated : goal.returns-then-eq-clause-repeated
