@@ -1,4 +1,5 @@
 //! A word and a number, as `io.stat` pairs them.
+use cg_index::HasKey;
 use cg_join::Pairing;
 use cg_text::{DecimalText, Key};
 
@@ -7,6 +8,14 @@ use cg_text::{DecimalText, Key};
 pub(crate) struct Stat {
     key: Key,
     number: u64,
+}
+
+impl HasKey for Stat {
+    ghost key_of = { λ s. s.key };
+
+    fn key(&self) -> &Key {
+        &self.key
+    }
 }
 
 /// Makes it.
@@ -34,10 +43,6 @@ impl Pairing<DecimalText> for StatPairing {
         pair.number = value;
     }
 
-    fn word(pair: &Stat) -> &Key {
-        &pair.key
-    }
-
     fn value(pair: &Stat) -> &u64 {
         &pair.number
     }
@@ -47,4 +52,6 @@ impl Pairing<DecimalText> for StatPairing {
     ghost has_value = { λ _ _. refl };
 
     ghost whole = { λ _. refl };
+
+    ghost keyed = { refl };
 }

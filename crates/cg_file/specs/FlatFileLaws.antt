@@ -1,5 +1,5 @@
 -- What holds of the tokens over flat keyed files.
-use Rattle.std.proofs.Common.{◌≡◌, ℕ, ◌≤◌, ◌+◌, ◌↔◌, Bool, true, false, ◌&&◌, ◌||◌, nat_lt, nat_eq, Option, Some, None, is_some, is_err, Result, Err, lt-ltb, eqb-true, cond, option_map, List, [], ◌∷◌, map, length, refl, sym, ◌∙◌, ap, arith}
+use Rattle.std.proofs.Common.{◌≡◌, ℕ, ◌≤◌, ◌+◌, ◌↔◌, Bool, true, false, ◌||◌, nat_eq, Option, Some, None, is_some, is_err, Result, Err, cond, option_map, List, [], ◌∷◌, map, length, refl, sym, ◌∙◌, ap, arith}
 use Rattle.std.proofs.lemmas.Bool.{cond-false, false_from_ne_true}
 use Rattle.std.proofs.lemmas.Cmp.{nat_list_eq_equiv}
 use Rattle.std.proofs.lemmas.Slice.Eq.{bytes_eq-Decides}
@@ -10,6 +10,7 @@ use Rattle.cg_join.specs.Distinct.{LacksValue, any_value}
 use Rattle.cg_join.specs.Keyed.{AreKeyedLines}
 use Rattle.cg_join.specs.Pairs.{IsPairText}
 use Rattle.cg_join.specs.Spelling.{IsTurned}
+use Rattle.cg_join.specs.TakenLaws.{taken_some as among_some}
 use Rattle.cg_join.specs.WordStartLaws.{SpellsWord}
 use Rattle.cg_value.specs.Files.{KindText}
 use Rattle.cg_value.specs.Flat.{has_key, is_repeated, number_of, place_of}
@@ -42,24 +43,9 @@ found_is key [] = refl
 found_is key (p ∷ ps) =
     rw (nat_list_eq_equiv.symm key p.key) (found_first (has_key key p) (place_of key ps) (any_value (λ k. pointwise nat_eq key k) (map (λ q. q.key) ps)) (found_is key ps))
 
-any_both : {V : Type 0} (b : Bool) (f : V → Bool) (vs : List V) → (b && any_value f vs) ≡ any_value (λ v. b && f v) vs
-any_both true f [] = refl
-any_both true f (v ∷ vs) = ap (λ e. f v || e) (any_both true f vs)
-any_both false f [] = refl
-any_both false f (v ∷ vs) = any_both false f vs
-
-taken_is : (taken : List ℕ) (ps : List FlatPair) → (nat_lt 0 (length taken) && is_some (place_of taken ps)) ≡ any_value (is_taken taken) (map (λ p. p.key) ps)
-taken_is taken ps =
-    ap (λ e. nat_lt 0 (length taken) && e) (found_is taken ps) ∙ any_both (nat_lt 0 (length taken)) (λ k. pointwise nat_eq taken k) (map (λ p. p.key) ps)
-
--- What was taken is a pair's key where it has a place; where nothing was taken, it is none.
+-- What was taken is a pair's key where it has a place.
 pub taken_some : (taken : List ℕ) (ps : List FlatPair) → false ≡ nat_eq (length taken) 0 → is_some (place_of taken ps) ≡ any_value (is_taken taken) (map (λ p. p.key) ps)
-taken_some [] ps h = absurd (cc)
-taken_some (b ∷ taken) ps h = ap (λ e. e && is_some (place_of (b ∷ taken) ps)) (sym (lt-ltb 0 (length (b ∷ taken)) (omega arith))) ∙ taken_is (b ∷ taken) ps
-
-pub taken_none : (taken : List ℕ) (ps : List FlatPair) → true ≡ nat_eq (length taken) 0 → false ≡ any_value (is_taken taken) (map (λ p. p.key) ps)
-taken_none [] ps h = taken_is [] ps
-taken_none (b ∷ taken) ps h = absurd (omega (arith, eqb-true (length (b ∷ taken)) 0 (sym h)))
+taken_some taken ps h = found_is taken ps ∙ among_some taken (map (λ p. p.key) ps) h
 
 -- A key that no pair has, has no number.
 pub new_number : (key : List ℕ) (ps : List FlatPair) → LacksValue key (map (λ p. p.key) ps) → number_of key ps ≡ None

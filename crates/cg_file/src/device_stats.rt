@@ -7,6 +7,7 @@ ghost use Rattle.cg_value.specs.ReadLine.{IsStatLine};
 ghost use Rattle.cg_file.specs.StatFileLaws.{AreStatPairs};
 
 use crate::pad::PadText;
+use cg_index::KeyedItems;
 use cg_join::{
     AmountText, DeviceText, DistinctPairs, Lines, Mapped, Pairing, Sequence, Start, Turn, WordStart,
 };
@@ -60,10 +61,6 @@ impl Pairing<AmountText> for StatPairing {
         pair.amount = value;
     }
 
-    fn word(pair: &StatPair) -> &Key {
-        &pair.key
-    }
-
     fn value(pair: &StatPair) -> &Amount {
         &pair.amount
     }
@@ -73,6 +70,8 @@ impl Pairing<AmountText> for StatPairing {
     ghost has_value = { λ _ _. refl };
 
     ghost whole = { λ _. refl };
+
+    ghost keyed = { refl };
 }
 
 type Pairs = DistinctPairs<AmountText, AmountStart, StatPairing>;
@@ -97,7 +96,7 @@ impl StatPairs {
 }
 
 impl Token for StatPairs {
-    type Out = Items<StatPair>;
+    type Out = KeyedItems<StatPair>;
 
     ghost means = { λ s. ⟦<Pairs as Token>⟧.means s.pairs };
 
@@ -139,11 +138,11 @@ impl Token for StatPairs {
         self.pairs.held()
     }
 
-    fn take(self) -> Items<StatPair> {
+    fn take(self) -> KeyedItems<StatPair> {
         self.pairs.take()
     }
 
-    fn held_in(value: &Items<StatPair>) -> u64 {
+    fn held_in(value: &KeyedItems<StatPair>) -> u64 {
         Pairs::held_in(value)
     }
 }
@@ -161,7 +160,7 @@ impl Turn<Sequence<DeviceText, PadText<StatPairs>>> for ToStatLine {
 
     ghost value_size = { stat_size };
 
-    fn turn(value: (Device, (bool, Items<StatPair>))) -> StatLine {
+    fn turn(value: (Device, (bool, KeyedItems<StatPair>))) -> StatLine {
         let (device, (pad, pairs)) = value;
         StatLine { device, pad, pairs }
     }
@@ -188,7 +187,7 @@ impl StatLineText {
         ensures spells { Spells ⟦<StatLineText as Token>⟧.means result (λ text line. IsStatLine line text) }
         ensures size { ⟦<StatLineText as Token>⟧.size result ≡ 0 }
     {
-        let pairs = PadText::new(StatPairs::new(alloc), Items::new(alloc));
+        let pairs = PadText::new(StatPairs::new(alloc), KeyedItems::new(alloc));
         StatLineText {
             parts: Mapped::new(Sequence::new(DeviceText::new(), pairs)),
         }

@@ -4,11 +4,12 @@ ghost use Rattle.cg_text.specs.Token.{Spells};
 ghost use Rattle.cg_value.specs.Files.{KindText};
 ghost use Rattle.cg_value.specs.declared.kind.ReadForm.TheVariants.{Nested as NestedForm};
 
+use cg_index::KeyedItems;
 use cg_join::{
     DistinctPairs, KeyedLines, MakePair, Mapped, NumberStart, PairList, Pairing, PairsStart, Turn,
     WordStart,
 };
-use cg_text::{DecimalText, Items, Key, OutOfMemory, Token};
+use cg_text::{DecimalText, Key, OutOfMemory, Token};
 use cg_value::{NestedLine, NestedPair, Value};
 use std::alloc::Global;
 
@@ -37,10 +38,6 @@ impl Pairing<DecimalText> for NestedPairing {
         pair.number = value;
     }
 
-    fn word(pair: &NestedPair) -> &Key {
-        &pair.key
-    }
-
     fn value(pair: &NestedPair) -> &u64 {
         &pair.number
     }
@@ -50,6 +47,8 @@ impl Pairing<DecimalText> for NestedPairing {
     ghost has_value = { λ _ _. refl };
 
     ghost whole = { λ _. refl };
+
+    ghost keyed = { refl };
 }
 
 /// The pairs of a line, with spaces between, no sub-key twice.
@@ -69,15 +68,11 @@ impl MakePair<NestedPairs> for NestedLineMaking {
 
     ghost paired = { λ key pairs. record { key = key; pairs = pairs } };
 
-    fn pair(key: Key, value: Items<NestedPair>) -> NestedLine {
+    fn pair(key: Key, value: KeyedItems<NestedPair>) -> NestedLine {
         NestedLine { key, pairs: value }
     }
 
-    fn key(pair: &NestedLine) -> &Key {
-        &pair.key
-    }
-
-    fn value(pair: &NestedLine) -> &Items<NestedPair> {
+    fn value(pair: &NestedLine) -> &KeyedItems<NestedPair> {
         &pair.pairs
     }
 
@@ -86,6 +81,8 @@ impl MakePair<NestedPairs> for NestedLineMaking {
     ghost has_value = { λ _ _. refl };
 
     ghost whole = { λ _. refl };
+
+    ghost keyed = { refl };
 }
 
 /// Makes tokens of the pairs of a line.
@@ -124,7 +121,7 @@ impl Turn<NestedLines> for ToNested {
 
     ghost value_size = { λ _. 0 };
 
-    fn turn(value: Items<NestedLine>) -> Value {
+    fn turn(value: KeyedItems<NestedLine>) -> Value {
         Value::Nested(value)
     }
 

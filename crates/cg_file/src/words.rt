@@ -5,8 +5,9 @@ ghost use Rattle.cg_value.specs.Files.{KindText};
 ghost use Rattle.cg_value.specs.declared.kind.ReadForm.TheVariants.{Words as WordsForm};
 ghost use Rattle.cg_file.specs.WordsTurned.{AreSpacedWords, IsWordsText};
 
+use cg_index::KeyedItems;
 use cg_join::{DistinctWords, Mapped, OrReady, Sequence, Turn, WordStart};
-use cg_text::{ByteText, Items, Key, OutOfMemory, Token};
+use cg_text::{ByteText, Key, OutOfMemory, Token};
 use cg_value::Value;
 use std::alloc::Global;
 
@@ -26,13 +27,13 @@ impl SpacedWords {
     {
         let words = DistinctWords::new(alloc, WordStart::new(alloc, true), b' ');
         SpacedWords {
-            words: OrReady::new(words, Items::new(alloc)),
+            words: OrReady::new(words, KeyedItems::new(alloc)),
         }
     }
 }
 
 impl Token for SpacedWords {
-    type Out = Items<Key>;
+    type Out = KeyedItems<Key>;
 
     ghost means = { λ s. ⟦<Spaced as Token>⟧.means s.words };
 
@@ -74,11 +75,11 @@ impl Token for SpacedWords {
         self.words.held()
     }
 
-    fn take(self) -> Items<Key> {
+    fn take(self) -> KeyedItems<Key> {
         self.words.take()
     }
 
-    fn held_in(value: &Items<Key>) -> u64 {
+    fn held_in(value: &KeyedItems<Key>) -> u64 {
         Spaced::held_in(value)
     }
 }
@@ -92,7 +93,7 @@ fn words_line(alloc: Global) -> WordsLine
     ensures size { ⟦<WordsLine as Token>⟧.size result ≡ 0 }
 {
     let line = Sequence::new(SpacedWords::new(alloc), ByteText::new(b'\n'));
-    OrReady::new(line, (Items::new(alloc), ()))
+    OrReady::new(line, (KeyedItems::new(alloc), ()))
 }
 
 /// A line, turned into the file's value.
@@ -109,7 +110,7 @@ impl Turn<WordsLine> for ToWords {
 
     ghost value_size = { λ _. 0 };
 
-    fn turn(value: (Items<Key>, ())) -> Value {
+    fn turn(value: (KeyedItems<Key>, ())) -> Value {
         Value::Words(value.0)
     }
 

@@ -1,16 +1,12 @@
 -- Lists of values that are all different.
-use Rattle.std.specs.Prelude.{ℕ, Bool, false, ◌||◌, List, [], ◌∷◌}
+use Rattle.std.specs.Prelude.{ℕ, List}
 use Rattle.cg_join.specs.Repeat.{AreJoined, IsListAfter}
 pub use Rattle.cg_text.specs.Distinct.{LacksValue, AreDistinct}
+pub use Rattle.cg_index.specs.Keyed.{any_value}
 
 -- One or more texts of the relation with a separator between, each with its value, all different.
 abbrev pub AreDistinctJoined : {V : Type 0} → (List ℕ → V → Type 0) → ℕ → List ℕ → List V → Type 0
 AreDistinctJoined R separator text vs = AreJoined R separator text vs × AreDistinct vs
-
--- Whether a member passes the test.
-abbrev pub any_value : {V : Type 0} → (V → Bool) → List V → Bool
-any_value f [] = false
-any_value f (v ∷ vs) = f v || any_value f vs
 
 -- The values before and those of the rest, all different.
 abbrev pub IsDistinctAfter : {V : Type 0} → List V → (List ℕ → V → Type 0) → (List ℕ → V → Type 0) → ℕ → List ℕ → List V → Type 0

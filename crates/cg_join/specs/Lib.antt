@@ -58,5 +58,6 @@ pub mod SequenceLaws
 pub mod SettledLaws
 pub mod Spelling
 pub mod StartLaws
+pub mod TakenLaws
 pub mod TextBytes
 pub mod WordStartLaws

@@ -73,6 +73,10 @@ module _ {V X : Type 0} (word : X → V) where
   pub last_word : (ps : List X) → 0 < length ps → AreDistinct (map word ps) → (v : V) × IsLastWord word ps v × LacksValue v (map word (before_last ps))
   last_word ps h d = let w = some_word ps h in (w.0, w.1, last_new ps w.0 w.1 d)
 
+-- A pair that gets its value keeps its key.
+pub completed_key : {V W X : Type 0} (key word : X → V) → key ≡ word → (paired : V → W → X) → ((v : V) (w : W) → word (paired v w) ≡ v) → (p : X) (w : W) → key (paired (word p) w) ≡ key p
+completed_key key word e paired has_word p w = rw e (has_word (word p) w)
+
 -- A pair that has got its value.
 module _ {V W X : Type 0} (word : X → V) (value : X → W) where
   pub completed_distinct : (old new : List X) (w : W) → IsCompleted word value old w new → AreDistinct (map word old) → AreDistinct (map word new)

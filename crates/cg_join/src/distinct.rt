@@ -1,5 +1,5 @@
 //! One or more words, all different, with a byte between.
-ghost use Rattle.std.specs.Prelude.{◌≡◌, ◌+◌, ◌<◌, true, false, not, ◌&&◌, [], IsTrue, vec_len, vec_capacity};
+ghost use Rattle.std.specs.Prelude.{◌≡◌, ◌+◌, ◌<◌, true, false, not, ◌&&◌, [], IsTrue, map};
 ghost use Rattle.cg_text.specs.Token.{Spells, told};
 ghost use Rattle.cg_join.specs.Repeat.{LacksEmpty, Stops, items_size, out_size};
 ghost use Rattle.cg_join.specs.Distinct.{AreDistinct, AreDistinctJoined, any_value, IsDistinctAfter};
@@ -8,9 +8,9 @@ ghost use Rattle.cg_join.specs.WordStartLaws.{SpellsWord};
 ghost use Rattle.cg_text.specs.WordState.{is_taken};
 
 use crate::start::Start;
-use crate::store::{held_in_joined, make_room, put};
 use crate::words::{WordStart, has};
-use cg_text::{Items, Key, OutOfMemory, Token, WordText};
+use cg_index::{KeyedBuilder, KeyedItems, Placed};
+use cg_text::{Key, OutOfMemory, Token, WordText};
 use std::alloc::Global;
 use std::mem;
 
@@ -20,14 +20,14 @@ use std::mem;
 pub struct DistinctWords {
     start: WordStart,
     separator: u8,
-    items: Vec<Key>,
+    items: KeyedBuilder<Key>,
     current: WordText,
     items_held: u64,
     ghost counted: { items_held ≡ told (items_size ⟦<WordText as Token>⟧.value_size items.items) },
     ghost stops: { Stops (⟦<WordText as Token>⟧.means current) separator },
     ghost starts: { Stops (SpellsWord start.controller) separator },
     ghost filled: { LacksEmpty (SpellsWord start.controller) },
-    ghost room: { IsTrue (⟦<WordText as Token>⟧.ends current) → vec_len items < vec_capacity items },
+    ghost room: { IsTrue (⟦<WordText as Token>⟧.ends current) → IsTrue items.has_room },
     ghost small: { separator < 256 },
     ghost distinct: { AreDistinct items.items } by { AreDistinct_prop items.items },
 }
@@ -44,15 +44,38 @@ impl DistinctWords {
         DistinctWords {
             start,
             separator,
-            items: Vec::new(alloc),
+            items: KeyedBuilder::new(alloc),
             current,
             items_held: 0,
         }
     }
 }
 
+/// The sum of the lengths of words, and a place for each.
+fn held_in_words(words: &[Placed<Key>]) -> u64
+    ensures { result ≡ told (items_size ⟦<WordText as Token>⟧.value_size (map (λ p. p.item) words.now)) }
+{
+    let mut total: u64 = 0;
+    for word in words {
+        total = total
+            .saturating_add(1)
+            .saturating_add(WordText::held_in(word.item()));
+    }
+    total
+}
+
+/// The same, but that the first has no place.
+fn held_in_joined_words(words: &[Placed<Key>]) -> u64
+    ensures { result ≡ told (out_size ⟦<WordText as Token>⟧.value_size (map (λ p. p.item) words.now)) }
+{
+    match words.split_first() {
+        Some((first, rest)) => held_in_words(rest).saturating_add(WordText::held_in(first.item())),
+        None => 0,
+    }
+}
+
 impl Token for DistinctWords {
-    type Out = Items<Key>;
+    type Out = KeyedItems<Key>;
 
     ghost use Rattle.cg_join.specs.ByteLaws.{list_bytes};
     ghost use Rattle.cg_join.specs.WordStartLaws.{one_word, taken_is, word_new, word_text_bytes};
@@ -70,8 +93,8 @@ impl Token for DistinctWords {
     ghost grows = { true };
 
     fn step(&mut self, byte: u8) -> Result<bool, OutOfMemory> {
-        // The last value is put into the vector by `take`, which takes no memory.
-        match make_room(&mut self.items) {
+        // The last value is put in its place by `take`, which takes no memory.
+        match self.items.reserve() {
             Ok(()) => {}
             Err(e) => {
                 // A byte that is refused is refused without memory too.
@@ -90,20 +113,20 @@ impl Token for DistinctWords {
         if !self.current.can_end() {
             return Ok(false);
         }
-        if has(self.items.as_slice(), &self.current) {
+        if has(&self.items, &self.current) {
             return Ok(false);
         }
         let next = self.start.start();
         let done = mem::replace(&mut self.current, next);
         let value = done.take();
         let new_size = WordText::held_in(&value);
-        put(&mut self.items, value);
+        self.items.push(value);
         self.items_held = self.items_held.saturating_add(1).saturating_add(new_size);
         Ok(true)
     }
 
     fn run(&mut self, bytes: &[u8]) -> usize {
-        match make_room(&mut self.items) {
+        match self.items.reserve() {
             Ok(()) => {}
             Err(_) => return 0,
         }
@@ -119,7 +142,7 @@ impl Token for DistinctWords {
 
     fn can_end(&self) -> bool {
         let ended = self.current.can_end();
-        let old = has(self.items.as_slice(), &self.current);
+        let old = has(&self.items, &self.current);
         ended & !old
     }
 
@@ -127,14 +150,14 @@ impl Token for DistinctWords {
         self.items_held.saturating_add(self.current.held())
     }
 
-    fn take(self) -> Items<Key> {
+    fn take(self) -> KeyedItems<Key> {
         let mut items = self.items;
-        put(&mut items, self.current.take());
-        Items::of(items)
+        items.push(self.current.take());
+        items.finish()
     }
 
-    fn held_in(value: &Items<Key>) -> u64 {
-        held_in_joined::<WordText>(value.as_slice())
+    fn held_in(value: &KeyedItems<Key>) -> u64 {
+        held_in_joined_words(value.placed())
     }
 
     ghost completes = { λ s. distinct_completes (⟦<WordText as Token>⟧.means s.current)

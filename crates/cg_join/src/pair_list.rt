@@ -1,20 +1,20 @@
-//! Pairs of a key and a value in one vector.
-ghost use Rattle.std.specs.Prelude.{◌≡◌, ℕ, ◌<◌, List, [], map, vec_len, vec_capacity};
+//! Pairs of a key and a value.
+ghost use Rattle.std.specs.Prelude.{◌≡◌, ℕ, List, [], IsTrue, map};
 ghost use Rattle.cg_text.specs.Token.{told};
-ghost use Rattle.cg_text.specs.WordState.{is_taken};
-ghost use Rattle.cg_join.specs.Distinct.{any_value};
 ghost use Rattle.cg_join.specs.Pairs.{pair_size};
 ghost use Rattle.cg_join.specs.Repeat.{items_size};
 
 use crate::collection::Collection;
-use crate::store::{make_room, put};
-use cg_text::{Items, Key, OutOfMemory, Token, WordText};
+use crate::words::has;
+use cg_index::{HasKey, KeyedBuilder, KeyedItems, Placed};
+use cg_text::{Key, OutOfMemory, Token, WordText};
 use std::alloc::Global;
 use std::marker::PhantomData;
 
 /// How a key and a value are made a pair.
 pub trait MakePair<V: Token> {
-    type Pair: Drop;
+    /// A pair.
+    type Pair: HasKey;
 
     /// The key of a pair.
     ghost key_of: { Self.Pair → List ℕ };
@@ -38,19 +38,18 @@ pub trait MakePair<V: Token> {
     fn pair(key: Key, value: V::Out) -> Self::Pair
         ensures { result ≡ paired key value };
 
-    /// The key of a pair.
-    fn key(pair: &Self::Pair) -> &Key
-        ensures { result.now ≡ key_of pair.now };
-
     /// The value of a pair.
     fn value(pair: &Self::Pair) -> &V::Out
         ensures { result.now ≡ value_of pair.now };
+
+    /// A pair is found by its key.
+    ghost keyed: { Self.Pair.key_of ≡ key_of };
 }
 
-/// Pairs in one vector. A key is looked for from the first on.
+/// Pairs in order, found by their keys.
 #[derive(Drop)]
 pub struct PairList<V: Token, F: MakePair<V>> {
-    pairs: Vec<F::Pair>,
+    pairs: KeyedBuilder<F::Pair>,
     items_held: u64,
     value: PhantomData<V>,
     make: PhantomData<F>,
@@ -64,7 +63,7 @@ impl<V: Token, F: MakePair<V>> PairList<V, F> {
         ensures size { ⟦<PairList<V, F> as Collection<V>>⟧.size result ≡ 0 }
     {
         PairList {
-            pairs: Vec::new(alloc),
+            pairs: KeyedBuilder::new(alloc),
             items_held: 0,
             value: PhantomData,
             make: PhantomData,
@@ -72,25 +71,14 @@ impl<V: Token, F: MakePair<V>> PairList<V, F> {
     }
 }
 
-/// Whether a pair has the key that was taken.
-fn has_pair<V: Token, F: MakePair<V>>(pairs: &[F::Pair], key: &WordText) -> bool
-    ensures { result ≡ any_value (is_taken key.now.bytes.items) (map F.key_of pairs.now) }
-{
-    for pair in pairs {
-        if key.is(F::key(pair)) {
-            return true;
-        }
-    }
-    false
-}
-
 /// The sum of the lengths of the vectors in pairs, and a place for each.
-fn held_in_made<V: Token, F: MakePair<V>>(pairs: &[F::Pair]) -> u64
-    ensures { result ≡ told (items_size (pair_size F.key_of F.value_of ⟦<WordText as Token>⟧.value_size V.value_size) pairs.now) }
+fn held_in_made<V: Token, F: MakePair<V>>(pairs: &[Placed<F::Pair>]) -> u64
+    ensures { result ≡ told (items_size (pair_size F.key_of F.value_of ⟦<WordText as Token>⟧.value_size V.value_size) (map (λ p. p.item) pairs.now)) }
 {
     let mut total: u64 = 0;
-    for pair in pairs {
-        let new_size = WordText::held_in(F::key(pair)).saturating_add(V::held_in(F::value(pair)));
+    for placed in pairs {
+        let pair = placed.item();
+        let new_size = WordText::held_in(pair.key()).saturating_add(V::held_in(F::value(pair)));
         total = total.saturating_add(1).saturating_add(new_size);
     }
     total
@@ -99,7 +87,7 @@ fn held_in_made<V: Token, F: MakePair<V>>(pairs: &[F::Pair]) -> u64
 impl<V: Token, F: MakePair<V>> Collection<V> for PairList<V, F> {
     type Pair = F::Pair;
 
-    type Out = Items<F::Pair>;
+    type Out = KeyedItems<F::Pair>;
 
     ghost key_of = { F.key_of };
 
@@ -111,7 +99,7 @@ impl<V: Token, F: MakePair<V>> Collection<V> for PairList<V, F> {
 
     ghost given = { λ pairs. pairs };
 
-    ghost has_room = { λ s. vec_len s.pairs < vec_capacity s.pairs };
+    ghost has_room = { λ s. IsTrue s.pairs.has_room };
 
     ghost size = { λ s. items_size (pair_size F.key_of F.value_of ⟦<WordText as Token>⟧.value_size V.value_size) s.pairs.items };
 
@@ -120,16 +108,16 @@ impl<V: Token, F: MakePair<V>> Collection<V> for PairList<V, F> {
     ghost places = { 1 };
 
     fn has(&self, key: &WordText) -> bool {
-        has_pair::<V, F>(self.pairs.as_slice(), key)
+        has(&self.pairs, key)
     }
 
     fn reserve(&mut self) -> Result<(), OutOfMemory> {
-        make_room(&mut self.pairs)
+        self.pairs.reserve()
     }
 
     fn push(&mut self, key: Key, value: V::Out) {
         let new_size = WordText::held_in(&key).saturating_add(V::held_in(&value));
-        put(&mut self.pairs, F::pair(key, value));
+        self.pairs.push(F::pair(key, value));
         self.items_held = self.items_held.saturating_add(1).saturating_add(new_size);
     }
 
@@ -137,12 +125,12 @@ impl<V: Token, F: MakePair<V>> Collection<V> for PairList<V, F> {
         self.items_held
     }
 
-    fn finish(self) -> Items<F::Pair> {
-        Items::of(self.pairs)
+    fn finish(self) -> KeyedItems<F::Pair> {
+        self.pairs.finish()
     }
 
-    fn held_in(out: &Items<F::Pair>) -> u64 {
-        held_in_made::<V, F>(out.as_slice())
+    fn held_in(out: &KeyedItems<F::Pair>) -> u64 {
+        held_in_made::<V, F>(out.placed())
     }
 
     ghost use Rattle.cg_join.specs.KeyedLaws.{one_few};

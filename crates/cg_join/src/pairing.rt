@@ -1,20 +1,23 @@
 //! Pairs of a word and a value.
-ghost use Rattle.std.specs.Prelude.{◌≡◌, ℕ, ◌≤◌, ◌<◌, List, [], IsTrue, map, length, not};
+ghost use Rattle.std.specs.Prelude.{◌≡◌, ℕ, ◌≤◌, ◌<◌, List, [], IsTrue, map, length};
 ghost use Rattle.cg_text.specs.Token.{Spells, told};
 ghost use Rattle.cg_text.specs.WordState.{is_taken};
-ghost use Rattle.cg_join.specs.Repeat.{items_size};
 ghost use Rattle.cg_join.specs.Distinct.{any_value};
+ghost use Rattle.cg_join.specs.Repeat.{items_size};
 ghost use Rattle.cg_join.specs.Pairs.{pair_size};
 ghost use Rattle.cg_join.specs.PairsState.{IsCompleted};
 
 use crate::start::Start;
-use crate::store::put;
+use crate::words::has;
+use cg_index::{Change, HasKey, KeyedBuilder, Placed};
 use cg_text::{Key, Token, WordText};
+use std::marker::PhantomData;
 use std::mem;
 
 /// How a word and a value make a pair.
 pub trait Pairing<V: Token> {
-    type Pair: Drop;
+    /// A pair, whose key is its word.
+    type Pair: HasKey;
 
     /// The word of a pair.
     ghost word_of: { Self.Pair → List ℕ };
@@ -44,49 +47,63 @@ pub trait Pairing<V: Token> {
     fn complete(pair: &mut Self::Pair, value: V::Out)
         ensures { pair.new ≡ paired (word_of pair.old) value };
 
-    /// The word of a pair.
-    fn word(pair: &Self::Pair) -> &Key
-        ensures { result.now ≡ word_of pair.now };
-
     /// The value of a pair.
     fn value(pair: &Self::Pair) -> &V::Out
         ensures { result.now ≡ value_of pair.now };
+
+    /// A pair is found by its word.
+    ghost keyed: { Self.Pair.key_of ≡ word_of };
 }
 
-/// Whether what was taken is a word that no pair has.
-pub(crate) fn is_new_word<V: Token, F: Pairing<V>>(items: &[F::Pair], word: &WordText) -> bool
-    ensures { result ≡ not (any_value (is_taken word.now.bytes.items) (map F.word_of items.now)) }
+/// Whether a pair has the word that was taken.
+pub(crate) fn is_old_word<V: Token, F: Pairing<V>>(
+    items: &KeyedBuilder<F::Pair>,
+    word: &WordText,
+) -> bool
+    ensures { result ≡ any_value (is_taken word.now.bytes.items) (map F.word_of items.now.items) }
 {
-    for pair in items {
-        if word.is(F::word(pair)) {
-            return false;
-        }
+    has(items, word)
+}
+
+/// How a pair gets its value.
+pub struct Completing<V, F> {
+    value: PhantomData<V>,
+    pairing: PhantomData<F>,
+}
+
+impl<V: Token, F: Pairing<V>> Change<F::Pair> for Completing<V, F> {
+    type Part = V::Out;
+
+    ghost use Rattle.cg_join.specs.PairsStateLaws.{completed_key};
+
+    ghost changed = { λ pair value. F.paired (F.word_of pair) value };
+
+    fn change(item: &mut F::Pair, part: V::Out) {
+        F::complete(item, part);
     }
-    true
+
+    ghost same_key = { completed_key F.Pair.key_of F.word_of F.keyed F.paired F.has_word };
 }
 
 /// Gives the last pair its value.
-pub(crate) fn complete_last<V: Token, F: Pairing<V>>(items: &mut Vec<F::Pair>, value: V::Out)
+pub(crate) fn complete_last<V: Token, F: Pairing<V>>(
+    items: &mut KeyedBuilder<F::Pair>,
+    value: V::Out,
+)
     requires { 0 < length items.old.items }
     ensures { IsCompleted F.word_of F.value_of items.old.items value items.new.items }
 {
-    match items.pop() {
-        Some(last) => {
-            let mut pair = last;
-            F::complete(&mut pair, value);
-            put(items, pair);
-        }
-        None => unreachable!(),
-    }
+    items.change_last::<Completing<V, F>>(value);
 }
 
 /// The sum of the lengths of the vectors in pairs, and a place for each.
-pub(crate) fn held_in_pairs<V: Token, F: Pairing<V>>(items: &[F::Pair]) -> u64
-    ensures { result ≡ told (items_size (pair_size F.word_of F.value_of ⟦<WordText as Token>⟧.value_size V.value_size) items.now) }
+pub(crate) fn held_in_pairs<V: Token, F: Pairing<V>>(items: &[Placed<F::Pair>]) -> u64
+    ensures { result ≡ told (items_size (pair_size F.word_of F.value_of ⟦<WordText as Token>⟧.value_size V.value_size) (map (λ p. p.item) items.now)) }
 {
     let mut total: u64 = 0;
-    for pair in items {
-        let new_size = WordText::held_in(F::word(pair)).saturating_add(V::held_in(F::value(pair)));
+    for placed in items {
+        let pair = placed.item();
+        let new_size = WordText::held_in(pair.key()).saturating_add(V::held_in(F::value(pair)));
         total = total.saturating_add(1).saturating_add(new_size);
     }
     total

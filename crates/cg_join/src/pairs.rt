@@ -11,11 +11,11 @@ ghost use Rattle.cg_join.specs.PairsState.{WordAtHand, last_size, whole_pairs};
 ghost use Rattle.cg_join.specs.WordStartLaws.{SpellsWord};
 ghost use Rattle.cg_join.specs.declared.pairs.Stage.TheVariants.{Before, InWord, InValue};
 
-use crate::pairing::{Pairing, complete_last, held_in_pairs, is_new_word, renew};
+use crate::pairing::{Pairing, complete_last, held_in_pairs, is_old_word, renew};
 use crate::start::Start;
-use crate::store::{make_room, put};
 use crate::words::WordStart;
-use cg_text::{Items, OutOfMemory, Token, WordText};
+use cg_index::{KeyedBuilder, KeyedItems};
+use cg_text::{OutOfMemory, Token, WordText};
 use std::alloc::Global;
 use std::marker::PhantomData;
 
@@ -39,7 +39,7 @@ pub struct DistinctPairs<V: Token, B: Start<V>, F: Pairing<V>> {
     separator: u8,
     mark: u8,
     /// In a value, the last pair is that of the value.
-    items: Vec<F::Pair>,
+    items: KeyedBuilder<F::Pair>,
     stage: Stage,
     word: WordText,
     value: V,
@@ -78,7 +78,7 @@ impl<V: Token, B: Start<V>, F: Pairing<V>> DistinctPairs<V, B, F> {
             values,
             separator,
             mark,
-            items: Vec::new(alloc),
+            items: KeyedBuilder::new(alloc),
             stage: Stage::Before,
             word,
             value,
@@ -106,7 +106,7 @@ impl<V: Token, B: Start<V>, F: Pairing<V>> DistinctPairs<V, B, F> {
             values,
             separator,
             mark,
-            items: Vec::new(alloc),
+            items: KeyedBuilder::new(alloc),
             stage: Stage::InWord,
             word,
             value,
@@ -131,16 +131,16 @@ impl<V: Token, B: Start<V>, F: Pairing<V>> DistinctPairs<V, B, F> {
         if !self.word.can_end() {
             return Ok(false);
         }
-        if !is_new_word::<V, F>(self.items.as_slice(), &self.word) {
+        if is_old_word::<V, F>(&self.items, &self.word) {
             return Ok(false);
         }
-        match make_room(&mut self.items) {
+        match self.items.reserve() {
             Ok(()) => {}
             Err(e) => return Err(e),
         }
         let word = renew(&mut self.word, &self.words);
         let new_size = WordText::held_in(&word);
-        put(&mut self.items, F::begin(word));
+        self.items.push(F::begin(word));
         self.items_held = self.items_held.saturating_add(1).saturating_add(new_size);
         self.stage = Stage::InValue;
         Ok(true)
@@ -179,7 +179,7 @@ impl<V: Token, B: Start<V>, F: Pairing<V>> DistinctPairs<V, B, F> {
 }
 
 impl<V: Token, B: Start<V>, F: Pairing<V>> Token for DistinctPairs<V, B, F> {
-    type Out = Items<F::Pair>;
+    type Out = KeyedItems<F::Pair>;
 
     ghost use Rattle.cg_join.specs.RepeatLaws.{true_not_false};
     ghost use Rattle.cg_join.specs.PairsLaws.{ends_at, led_after_bytes, led_after_one, pair_bytes, pair_one, pair_stops};
@@ -231,8 +231,8 @@ impl<V: Token, B: Start<V>, F: Pairing<V>> Token for DistinctPairs<V, B, F> {
                     return self.word.allows(byte);
                 }
                 let ended = self.word.can_end();
-                let new = is_new_word::<V, F>(self.items.as_slice(), &self.word);
-                ended & new
+                let old = is_old_word::<V, F>(&self.items, &self.word);
+                ended & !old
             }
             Stage::InValue => {
                 let more = self.value.allows(byte);
@@ -256,21 +256,21 @@ impl<V: Token, B: Start<V>, F: Pairing<V>> Token for DistinctPairs<V, B, F> {
         self.items_held.saturating_add(at_hand)
     }
 
-    fn take(self) -> Items<F::Pair> {
+    fn take(self) -> KeyedItems<F::Pair> {
         let mut items = self.items;
         let value = self.value;
         match self.stage {
-            Stage::Before => Items::of(items),
+            Stage::Before => items.finish(),
             Stage::InWord => unreachable!(),
             Stage::InValue => {
                 complete_last::<V, F>(&mut items, value.take());
-                Items::of(items)
+                items.finish()
             }
         }
     }
 
-    fn held_in(value: &Items<F::Pair>) -> u64 {
-        held_in_pairs::<V, F>(value.as_slice())
+    fn held_in(value: &KeyedItems<F::Pair>) -> u64 {
+        held_in_pairs::<V, F>(value.placed())
     }
 
     ghost completes = { λ s. state_completes F.word_of F.value_of F.paired F.has_word F.has_value s.items.items

@@ -11,7 +11,8 @@ use crate::pairing::Pairing;
 use crate::pairs::DistinctPairs;
 use crate::start::Start;
 use crate::words::WordStart;
-use cg_text::{Items, Token, WordText};
+use cg_index::KeyedItems;
+use cg_text::{Token, WordText};
 use std::alloc::Global;
 use std::marker::PhantomData;
 
@@ -91,8 +92,8 @@ impl<V: Token, B: Start<V> + Copy, F: Pairing<V>> Follow<DistinctPairs<V, B, F>>
 
     ghost alone = { λ _. Some [] };
 
-    fn alone(&self) -> Option<Items<F::Pair>> {
-        Some(Items::new(self.alloc))
+    fn alone(&self) -> Option<KeyedItems<F::Pair>> {
+        Some(KeyedItems::new(self.alloc))
     }
 
     ghost alone_bare = { λ s ps e. no_pairs (pair_size F.word_of F.value_of ⟦<WordText as Token>⟧.value_size V.value_size) ps e };

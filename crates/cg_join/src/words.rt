@@ -1,11 +1,12 @@
 //! Words as the tokens of repetitions.
-ghost use Rattle.std.specs.Prelude.{◌≡◌};
+ghost use Rattle.std.specs.Prelude.{◌≡◌, map};
 ghost use Rattle.cg_text.specs.Word.{IsWordText};
 ghost use Rattle.cg_text.specs.WordState.{is_taken};
 ghost use Rattle.cg_join.specs.Distinct.{any_value};
 
 use crate::start::Start;
-use cg_text::{Key, WordText};
+use cg_index::{HasKey, KeyedBuilder};
+use cg_text::WordText;
 use std::alloc::Global;
 
 /// Makes tokens of words, or of a controller's words.
@@ -40,14 +41,10 @@ impl Start<WordText> for WordStart {
     ghost text_bytes = { λ s. word_text_bytes s.controller };
 }
 
-/// Whether what was taken is one of the words.
-pub(crate) fn has(words: &[Key], token: &WordText) -> bool
-    ensures { result ≡ any_value (is_taken token.now.bytes.items) words.now }
+/// Whether what was taken is the key of an item.
+pub(crate) fn has<T: HasKey>(items: &KeyedBuilder<T>, token: &WordText) -> bool
+    ensures { result ≡ any_value (is_taken token.now.bytes.items) (map T.key_of items.now.items) }
 {
-    for word in words {
-        if token.is(word) {
-            return true;
-        }
-    }
-    false
+    let taken = token.bytes();
+    !taken.is_empty() && items.has(taken)
 }

@@ -3,7 +3,7 @@ ghost use Rattle.std.specs.Prelude.{◌≡◌, IfOk};
 ghost use Rattle.serde_json.specs.View.{view};
 ghost use Rattle.cg_json.specs.Json.{stat_data, limits_data, weight_data, target_data, weights_data};
 
-use crate::json::{Json, array, object};
+use crate::json::{Json, array, placed_object};
 use cg_text::OutOfMemory;
 use cg_value::{LimitLine, StatLine, TargetLine, WeightLine};
 use serde_json::{Map, Value};
@@ -20,7 +20,7 @@ impl Json for StatLine {
             &mut map,
             alloc,
             "stats",
-            object(alloc, self.pairs.as_slice())?,
+            placed_object(alloc, self.pairs.placed())?,
         )?;
         Ok(Value::Object(map))
     }

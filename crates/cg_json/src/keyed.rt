@@ -1,7 +1,7 @@
 //! Pairs of a key and a number, and lines of such pairs.
 ghost use Rattle.cg_json.specs.Json.{number_data, amount_data, nested_data};
 
-use crate::json::{Json, Member, object};
+use crate::json::{Json, Member, placed_object};
 use cg_text::{Key, OutOfMemory};
 use cg_value::{FlatPair, NestedLine, NestedPair, StatPair};
 use serde_json::Value;
@@ -63,7 +63,7 @@ impl Json for NestedLine {
     ghost tree_of = { nested_data };
 
     fn json(&self, alloc: Global) -> Result<Value, OutOfMemory> {
-        object(alloc, self.pairs.as_slice())
+        placed_object(alloc, self.pairs.placed())
     }
 }
 

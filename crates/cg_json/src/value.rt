@@ -4,7 +4,7 @@ ghost use Rattle.cg_json.specs.Value.{kind_word, value_data};
 
 use crate::cpuset::{cpu_max, partition};
 use crate::devices::weights;
-use crate::json::{Json, array, object};
+use crate::json::{Json, array, object, placed_array, placed_object};
 use crate::pressure::pressure;
 use cg_text::OutOfMemory;
 use cg_value::Value;
@@ -49,7 +49,7 @@ impl Json for Value {
             Value::CpuMax { quota, period } => cpu_max(alloc, *quota, *period),
             Value::Clamp(clamp) => clamp.json(alloc),
             Value::Numbers(numbers) => array(alloc, numbers.as_slice()),
-            Value::Words(words) => array(alloc, words.as_slice()),
+            Value::Words(words) => placed_array(alloc, words.placed()),
             Value::Flat(flat) => object(alloc, flat.pairs()),
             Value::DeviceStats(lines) => array(alloc, lines.as_slice()),
             Value::DeviceLimits(lines) => array(alloc, lines.as_slice()),
@@ -62,7 +62,7 @@ impl Json for Value {
                 reason,
             } => partition(alloc, *role, *valid, reason),
             Value::Pressure { some, full } => pressure(alloc, *some, *full),
-            Value::Nested(lines) => object(alloc, lines.as_slice()),
+            Value::Nested(lines) => placed_object(alloc, lines.placed()),
             Value::Raw(lines) => array(alloc, lines.as_slice()),
         }
     }

@@ -4,6 +4,7 @@ ghost use Rattle.cg_value.specs.Print.{print_given, print_led};
 ghost use Rattle.cg_print.specs.Joined.{led, joined};
 ghost use Rattle.cg_print.specs.Headed.{headed};
 
+use cg_index::{HasKey, KeyedItems, Placed};
 use cg_text::OutOfMemory;
 
 /// What has a canonical text.
@@ -14,6 +15,15 @@ pub(crate) trait Canonical {
     /// Adds the canonical text.
     fn append_to(&self, out: &mut Vec<u8>) -> Result<(), OutOfMemory>
         ensures { OnOk result (out.new.items ≡ out.old.items ++ printed self.now) };
+}
+
+/// The text of what lies in the place.
+impl<T: Canonical> Canonical for Placed<T> {
+    ghost printed = { λ placed. T.printed placed.item };
+
+    fn append_to(&self, out: &mut Vec<u8>) -> Result<(), OutOfMemory> {
+        self.item().append_to(out)
+    }
 }
 
 /// Adds bytes.
@@ -85,6 +95,17 @@ pub(crate) fn append_lines<T: Canonical>(
     Ok(())
 }
 
+/// Adds the lines of items that have keys, each after the head and with its newline.
+pub(crate) fn append_keyed_lines<T: Canonical + HasKey>(
+    out: &mut Vec<u8>,
+    head: &[u8],
+    lines: &KeyedItems<T>,
+) -> Result<(), OutOfMemory>
+    ensures { OnOk result (out.new.items ≡ out.old.items ++ headed head.now (map T.printed lines.now)) }
+{
+    append_lines(out, head, lines.placed())
+}
+
 /// Adds values, each with the mark before it.
 fn append_led<T: Canonical>(out: &mut Vec<u8>, mark: u8, values: &[T]) -> Result<(), OutOfMemory>
     ensures { OnOk result (out.new.items ≡ out.old.items ++ led mark T.printed values.now) }
@@ -96,15 +117,14 @@ fn append_led<T: Canonical>(out: &mut Vec<u8>, mark: u8, values: &[T]) -> Result
     Ok(())
 }
 
-/// Adds values, each with a space before it.
-#[tactic(auto, using(crate::specs::JoinedLaws::led_is))]
-pub(crate) fn append_spaced<T: Canonical>(
+/// Adds items that have keys, each with a space before it.
+pub(crate) fn append_spaced<T: Canonical + HasKey>(
     out: &mut Vec<u8>,
-    values: &[T],
+    items: &KeyedItems<T>,
 ) -> Result<(), OutOfMemory>
-    ensures { OnOk result (out.new.items ≡ out.old.items ++ print_led T.printed values.now) }
+    ensures { OnOk result (out.new.items ≡ out.old.items ++ print_led T.printed items.now) }
 {
-    append_led(out, b' ', values)
+    append_led(out, b' ', items.placed())
 }
 
 /// Adds values, with the mark between them.

@@ -7,7 +7,8 @@ ghost use Rattle.cg_value.specs.declared.kind.ReadForm.{ReadForm};
 ghost use Rattle.cg_print.specs.Headed.{headed};
 
 use crate::canonical::{
-    Canonical, append_bytes, append_labelled, append_line, append_lines, append_newline,
+    Canonical, append_bytes, append_keyed_lines, append_labelled, append_line, append_lines,
+    append_newline,
 };
 use cg_text::{Items, Limit, OutOfMemory};
 use cg_value::{Averages, Role, Value, WeightLine};
@@ -59,7 +60,7 @@ pub(crate) fn append_value(
             reason,
         } => append_partition(text, head, *role, *valid, reason),
         Value::Pressure { some, full } => append_pressure(text, head, *some, *full),
-        Value::Nested(lines) => append_lines(text, head, lines.as_slice()),
+        Value::Nested(lines) => append_keyed_lines(text, head, lines),
         Value::Raw(lines) => append_lines(text, head, lines.as_slice()),
     }
 }

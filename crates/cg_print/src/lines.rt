@@ -37,7 +37,7 @@ impl Canonical for StatLine {
         if self.pad {
             append_bytes(out, b" ")?;
         }
-        append_spaced(out, self.pairs.as_slice())
+        append_spaced(out, &self.pairs)
     }
 }
 
@@ -102,6 +102,6 @@ impl Canonical for NestedLine {
 
     fn append_to(&self, out: &mut Vec<u8>) -> Result<(), OutOfMemory> {
         self.key.append_to(out)?;
-        append_spaced(out, self.pairs.as_slice())
+        append_spaced(out, &self.pairs)
     }
 }

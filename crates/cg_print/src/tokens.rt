@@ -6,6 +6,7 @@ ghost use Rattle.cg_value.specs.ReadLine.{mode_text, role_text, words_line};
 ghost use Rattle.cg_value.specs.WriteLine.{sign_of, toggles_line};
 
 use crate::canonical::{Canonical, append_bytes, append_joined};
+use cg_index::KeyedItems;
 use cg_text::{Amount, Clamp, Device, Hundredths, Items, Key, Limit, NumberSet, OutOfMemory};
 use cg_value::{GroupMode, Role, Toggle};
 use itoa::Buffer;
@@ -125,12 +126,11 @@ impl Canonical for Key {
 }
 
 /// Words, with spaces between them.
-impl Canonical for Items<Key> {
+impl Canonical for KeyedItems<Key> {
     ghost printed = { words_line };
 
-    #[tactic(auto, using(crate::specs::JoinedLaws::words_is))]
     fn append_to(&self, out: &mut Vec<u8>) -> Result<(), OutOfMemory> {
-        append_joined(out, b' ', self.as_slice())
+        append_joined(out, b' ', self.placed())
     }
 }
 

@@ -1,4 +1,5 @@
 //! The values of whole files and the settings of whole writes, compared with those that are built by hand.
+use cg_index::KeyedItems;
 use cg_line::{decode_file, decode_setting};
 use cg_text::{Amount, Clamp, Device, Hundredths, Items, Key, Limit, NumberSet};
 use cg_value::{
@@ -160,7 +161,7 @@ fn numbers(alloc: Global) -> Result<Value, Fail> {
 
 /// The words `cpuset` and `cpu`.
 fn words(alloc: Global) -> Result<Value, Fail> {
-    let mut all = Items::new(alloc);
+    let mut all = KeyedItems::new(alloc);
     for word in ["cpuset", "cpu"] {
         let key = Key::new(alloc, word.as_bytes())?;
         all.push(key)?;
@@ -179,13 +180,13 @@ fn flat(alloc: Global) -> Result<Value, Fail> {
 }
 
 /// The amounts of a device, one of each kind.
-fn amounts(alloc: Global) -> Result<Items<StatPair>, Fail> {
+fn amounts(alloc: Global) -> Result<KeyedItems<StatPair>, Fail> {
     let rows = [
         ("rbytes", Amount::Whole(1459200)),
         ("cost.vrate", Amount::Decimal(percent(15213))),
         ("wios", Amount::Max),
     ];
-    let mut pairs = Items::new(alloc);
+    let mut pairs = KeyedItems::new(alloc);
     for (word, amount) in rows {
         let key = Key::new(alloc, word.as_bytes())?;
         pairs.push(StatPair { key, amount })?;
@@ -203,7 +204,7 @@ fn stats(alloc: Global) -> Result<Value, Fail> {
         pad: true,
         pairs,
     })?;
-    let pairs = Items::new(alloc);
+    let pairs = KeyedItems::new(alloc);
     lines.push(StatLine {
         device,
         pad: false,
@@ -273,8 +274,8 @@ fn invalid(alloc: Global, reason: &[u8]) -> Result<Value, Fail> {
 }
 
 /// The pairs of `N0` and 1, and of `N1` and 22.
-fn nodes(alloc: Global) -> Result<Items<NestedPair>, Fail> {
-    let mut pairs = Items::new(alloc);
+fn nodes(alloc: Global) -> Result<KeyedItems<NestedPair>, Fail> {
+    let mut pairs = KeyedItems::new(alloc);
     for (word, number) in [("N0", 1), ("N1", 22)] {
         let key = Key::new(alloc, word.as_bytes())?;
         pairs.push(NestedPair { key, number })?;
@@ -284,12 +285,12 @@ fn nodes(alloc: Global) -> Result<Items<NestedPair>, Fail> {
 
 /// The key `anon` with its pairs, and the key `file` without any.
 pub(crate) fn nested(alloc: Global) -> Result<Value, Fail> {
-    let mut lines = Items::new(alloc);
+    let mut lines = KeyedItems::new(alloc);
     let key = Key::new(alloc, b"anon")?;
     let pairs = nodes(alloc)?;
     lines.push(NestedLine { key, pairs })?;
     let key = Key::new(alloc, b"file")?;
-    let pairs = Items::new(alloc);
+    let pairs = KeyedItems::new(alloc);
     lines.push(NestedLine { key, pairs })?;
     Ok(Value::Nested(lines))
 }

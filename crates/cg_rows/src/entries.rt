@@ -1,4 +1,5 @@
 //! Entries and items of plans, the names in paths, and which values fit which kinds.
+use cg_index::KeyedItems;
 use cg_text::{Clamp, Device, Hundredths, Items, Key, Limit, NumberSet};
 use cg_value::{
     Entry, EntryFault, ItemFault, PlanItem, Profile, ReadForm, Role, Setting, Toggle, Value,
@@ -156,7 +157,7 @@ fn clamped(count: u64) -> Value {
 
 /// Whether a word can be one of controllers.
 fn is_controller(alloc: Global, word: &[u8]) -> Result<bool, Fail> {
-    let mut words = Items::new(alloc);
+    let mut words = KeyedItems::new(alloc);
     let key = Key::new(alloc, word)?;
     words.push(key)?;
     is_value_of("cgroup.controllers", &Value::Words(words))

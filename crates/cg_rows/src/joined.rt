@@ -1,5 +1,6 @@
 //! Tokens that no file has alone: those of other ranges, and those that are made of others. How they answer a text, which
 //! bytes they let follow it, and how much they hold.
+use cg_index::KeyedItems;
 use cg_join::{
     Choice, DistinctWords, Either, Found, LabelText, Lines, Maybe, NumberStart, OrReady, Ready,
     Repeat, Spaced, WordStart, decimal_in, labelled, read, spaced,
@@ -221,14 +222,14 @@ fn left_out(rt: HostRuntime) {
 fn words_or_none(alloc: Global) -> OrReady<DistinctWords> {
     OrReady::new(
         DistinctWords::new(alloc, WordStart::new(alloc, true), b' '),
-        Items::new(alloc),
+        KeyedItems::new(alloc),
     )
 }
 
 /// How many words a text has.
-fn count(found: Option<Items<Key>>) -> Option<usize> {
+fn count(found: Option<KeyedItems<Key>>) -> Option<usize> {
     match found {
-        Some(words) => Some(words.as_slice().len()),
+        Some(words) => Some(words.len()),
         None => None,
     }
 }

@@ -24,7 +24,7 @@ fn word_of(entry: &Entry, place: usize) -> &[u8]
     ensures { result.now ≡ word_at entry.now.value place }
 {
     match entry.value() {
-        Value::Words(words) => match words.as_slice().get(place) {
+        Value::Words(words) => match words.get(place) {
             Some(word) => word.bytes(),
             None => &[],
         },

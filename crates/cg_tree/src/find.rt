@@ -1,35 +1,34 @@
 //! The findings of a hierarchy.
-ghost use Rattle.std.specs.Prelude.{◌≡◌, ◌++◌, IfOk, OnOk};
+ghost use Rattle.std.specs.Prelude.{◌≡◌, ◌++◌, IfOk, OnOk, map};
 ghost use Rattle.std.specs.List.{flat_map, list_any};
 ghost use Rattle.cg_tree.specs.Find.{words_of, is_among, threaded, allows, lacking, is_domain, find};
 ghost use Rattle.cg_tree.specs.FindLaws.{IsHierarchyOf, looked_up};
 
 use crate::files::{File, Index, named};
 use crate::finding::{Finding, Rule};
+use cg_index::Placed;
 use cg_text::{Key, OutOfMemory};
 use cg_value::{Entry, GroupMode, Value};
 use std::alloc::Global;
 
-/// The words of a value of words. Another value has none.
-fn words_of(value: &Value) -> &[Key]
-    ensures { result.now ≡ words_of value.now }
+/// The words of a value of words, each in its place. Another value has none.
+fn words_of(value: &Value) -> &[Placed<Key>]
+    ensures { map (λ p. p.item) result.now ≡ words_of value.now }
 {
     match value {
-        Value::Words(words) => words.as_slice(),
+        Value::Words(words) => words.placed(),
         _ => &[],
     }
 }
 
-/// Whether the word is one of these.
-fn is_among(word: &[u8], words: &[Key]) -> bool
-    ensures { result ≡ is_among word.now words.now }
+/// Whether the word is one of those of the value.
+fn has_word(value: &Value, word: &[u8]) -> bool
+    ensures { result ≡ is_among word.now (words_of value.now) }
 {
-    for other in words {
-        if word == other.bytes() {
-            return true;
-        }
+    match value {
+        Value::Words(words) => words.find(word).is_some(),
+        _ => false,
     }
-    false
 }
 
 /// Whether the word names a threaded controller.
@@ -47,7 +46,7 @@ fn allows(rule: Rule, other: &File<'_>, word: &[u8]) -> bool
     ensures { result ≡ allows rule other.now word.now }
 {
     match rule {
-        Rule::C1 | Rule::C2 => is_among(word, words_of(other.value)),
+        Rule::C1 | Rule::C2 => has_word(other.value, word),
         Rule::C3 => is_threaded(word),
     }
 }
@@ -61,8 +60,8 @@ fn report(
 ) -> Result<(), OutOfMemory>
     ensures { OnOk result (found.new.items ≡ found.old.items ++ lacking rule control.now other.now) }
 {
-    for (word, key) in words_of(control.value).iter().enumerate() {
-        if !allows(rule, other, key.bytes()) {
+    for (word, placed) in words_of(control.value).iter().enumerate() {
+        if !allows(rule, other, placed.item().bytes()) {
             found.push(Finding {
                 rule,
                 at: control.place,

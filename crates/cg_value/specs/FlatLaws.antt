@@ -77,7 +77,7 @@ one_place key (p ∷ ps) (suc i) d h e =
     let more : i + 1 ≡ suc i = omega arith in
     cond-false _ _ _ (has_key_not key p apart) ∙ ap (option_map (λ n. n + 1)) (one_place key ps i d.1 (omega arith) e) ∙ ap (λ n. Some n) more
 
-place_cases : (first : Bool) (later : Option ℕ) (i : ℕ) → cond first (Some 0) (option_map (λ n. n + 1) later) ≡ Some i → ((first ≡ true) × (i ≡ 0)) ⊎ ((first ≡ false) × (k : ℕ) × (i ≡ suc k) × (later ≡ Some k))
+pub place_cases : (first : Bool) (later : Option ℕ) (i : ℕ) → cond first (Some 0) (option_map (λ n. n + 1) later) ≡ Some i → ((first ≡ true) × (i ≡ 0)) ⊎ ((first ≡ false) × (k : ℕ) × (i ≡ suc k) × (later ≡ Some k))
 place_cases true later i e =
     let same : i ≡ 0 = cc in
     inl (refl, same)

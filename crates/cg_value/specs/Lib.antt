@@ -1,3 +1,4 @@
+pub mod CopiedLaws
 pub mod Entry
 pub mod EntryLaws
 pub mod EntryRefusal
@@ -13,6 +14,7 @@ pub mod LimitPairsPrintLaws
 pub mod LineLaws
 pub mod Lines
 pub mod LookUp
+pub mod LookUpLaws
 pub mod NextRowLaws
 pub mod Path
 pub mod PathLaws

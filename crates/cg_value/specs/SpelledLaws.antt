@@ -1,12 +1,11 @@
 -- Which parts of values some text spells.
-use Rattle.std.proofs.Common.{◌≡◌, ℕ, ◌+◌, ◌-◌, ◌/◌, ◌%◌, ◌≤◌, ◌<◌, ◌≢◌, ◌↔◌, inl, inr, Bool, true, false, cond, ℤ, ◌≤ℤ◌, pos, negsuc, suc, List, [], ◌∷◌, ◌++◌, Option, Some, None, All, map, drop}
-use Rattle.std.proofs.Common.{take, length, length-drop, drop-cons, add-one, get_or, codes, zero, refl, sym, ap, arith}
-use Rattle.std.proofs.lemmas.List.Elements.{All-nil, All-cons, All-head, All-tail}
-use Rattle.std.proofs.lemmas.Bool.{cases_lt, or_parts, or_cases}
-use Rattle.std.proofs.lemmas.List.{take_all, drop-map}
+use Rattle.std.proofs.Common.{◌≡◌, ℕ, ◌+◌, ◌/◌, ◌%◌, ◌≤◌, ◌<◌, ◌≢◌, ◌↔◌, inl, inr, Bool, true, false, cond, ℤ, ◌≤ℤ◌, pos, negsuc, suc, List, [], ◌∷◌, ◌++◌, Option, Some, None, All, map}
+use Rattle.std.proofs.Common.{get_or, codes, refl, sym, ap, arith}
+use Rattle.std.proofs.lemmas.List.Elements.{All-nil, All-cons, All-head, All-tail, All-map}
+use Rattle.std.proofs.lemmas.Bool.{cases_lt}
 use Rattle.std.proofs.lemmas.Slice.Eq.{bytes_eq-Decides}
 use Rattle.std.specs.Str.{bytes_eq}
-use Rattle.std.specs.List.{AllZip, list_any}
+use Rattle.std.specs.List.{AllZip}
 use Rattle.cg_text.specs.Amount.{IsAmount}
 use Rattle.cg_text.specs.Clamp.{IsClamp}
 use Rattle.cg_text.specs.Decimal.{IsDecimal}
@@ -131,6 +130,25 @@ lines_back P (x ∷ xs) (line ∷ lines) h = All-cons (λ y. HasText (P y)) x xs
 -- Each has a line exactly where they have lines together.
 pub lines_text : {X : Type 0} (P : X → List ℕ → Type 0) (xs : List X) → All (λ x. HasText (P x)) xs ↔ HasLines (AllZip P xs)
 lines_text P xs = (lines_on P xs, λ h. lines_back P xs h.lines h.spelled)
+
+mapped_on : {X Y : Type 0} (f : X → Y) (P : Y → List ℕ → Type 0) (xs : List X) (lines : List (List ℕ)) → AllZip (λ x. P (f x)) xs lines → AllZip P (map f xs) lines
+mapped_on f P [] [] h = h
+mapped_on f P [] (line ∷ lines) h = h
+mapped_on f P (x ∷ xs) [] h = h
+mapped_on f P (x ∷ xs) (line ∷ lines) h = (h.0, mapped_on f P xs lines h.1)
+
+mapped_back : {X Y : Type 0} (f : X → Y) (P : Y → List ℕ → Type 0) (xs : List X) (lines : List (List ℕ)) → AllZip P (map f xs) lines → AllZip (λ x. P (f x)) xs lines
+mapped_back f P [] [] h = h
+mapped_back f P [] (line ∷ lines) h = h
+mapped_back f P (x ∷ xs) [] h = h
+mapped_back f P (x ∷ xs) (line ∷ lines) h = (h.0, mapped_back f P xs lines h.1)
+
+-- What lies in places has lines exactly where the places have.
+pub mapped_text : {X Y : Type 0} (f : X → Y) (P : Y → List ℕ → Type 0) (xs : List X) → HasLines (AllZip (λ x. P (f x)) xs) ↔ HasLines (AllZip P (map f xs))
+mapped_text f P xs = (
+  λ h. record { lines = h.lines; spelled = mapped_on f P xs h.lines h.spelled },
+  λ h. record { lines = h.lines; spelled = mapped_back f P xs h.lines h.spelled },
+)
 
 led_on : {X : Type 0} (P : X → List ℕ → Type 0) (xs : List X) (lines : List (List ℕ)) → AllZip P xs lines → HasText (AreLed P xs)
 led_on P [] lines h = record { text = []; spelled = refl }
@@ -343,11 +361,23 @@ same_words : (words : List (List ℕ)) → map (λ w. w) words ≡ words
 same_words [] = refl
 same_words (w ∷ ws) = ap (λ x. w ∷ x) (same_words ws)
 
-pub words_text : (words : List (List ℕ)) → (All IsControllerWord words × AreDistinct (map (λ w. w) words)) ↔ HasLines (AreWords words)
+words_text : (words : List (List ℕ)) → (All IsControllerWord words × AreDistinct (map (λ w. w) words)) ↔ HasLines (AreWords words)
 words_text words = rw same_words (
   λ h. record { lines = words_line words ∷ []; spelled = record { each = h.0; distinct = h.1; lines_are = inl refl } },
   λ h. (h.spelled.each, h.spelled.distinct),
 )
+
+words_back : {X : Type 0} (f : X → List ℕ) (xs : List X) → All IsControllerWord (map f xs) → All (λ x. IsControllerWord (f x)) xs
+words_back f [] h = All-nil (λ x. IsControllerWord (f x))
+words_back f (x ∷ xs) h =
+    let first = All-head IsControllerWord (f x) (map f xs) h in
+    All-cons (λ y. IsControllerWord (f y)) x xs first (words_back f xs (All-tail IsControllerWord (f x) (map f xs) h))
+
+-- Different words that lie in places have lines exactly where each is a controller's.
+pub placed_words : {X : Type 0} (f : X → List ℕ) (xs : List X) → AreDistinct (map (λ w. w) (map f xs)) → All (λ x. IsControllerWord (f x)) xs ↔ HasLines (AreWords (map f xs))
+placed_words f xs d =
+    let text = words_text (map f xs) in
+    (λ h. text.0 (All-map IsControllerWord f xs h, d), λ h. words_back f xs (text.1 h).0)
 
 pressure_line : (word : List ℕ) (a : Averages) → HasText (AreAverages a) ↔ HasText (IsPressureLine word a)
 pressure_line word a = (
@@ -378,12 +408,6 @@ both_text a b = (
 
 -- ---- Distinct keys
 
--- Whatever follows in a list of different values is different too.
-pub distinct_drop : {V : Type 0} (k : ℕ) (vs : List V) → AreDistinct vs → AreDistinct (drop k vs)
-distinct_drop zero vs h = h
-distinct_drop (suc k) [] h = tt
-distinct_drop (suc k) (v ∷ vs) h = distinct_drop k vs h.1
-
 chosen : (b : Bool) (n : ℕ) (o : Option ℕ) → cond b (Some n) o ≡ None → (b ≡ false) × (o ≡ None)
 chosen true n o h = absurd (cc)
 chosen false n o h = (refl, h)
@@ -396,44 +420,6 @@ lacks_key key [] h = tt
 lacks_key key (p ∷ ps) h =
     let none = chosen (bytes_eq p.key key) p.number (number_of key ps) h in
     (other_key key p.key none.0, lacks_key key ps none.1)
-
--- None of them has the key.
-pub none_lacks : {X : Type 0} (f : X → List ℕ) (key : List ℕ) (xs : List X) → list_any (λ x. bytes_eq (f x) key) xs ≡ false → LacksValue key (map f xs)
-none_lacks f key [] h = tt
-none_lacks f key (x ∷ xs) h =
-    let parts = or_parts (bytes_eq (f x) key) (list_any (λ y. bytes_eq (f y) key) xs) h in
-    (other_key key (f x) parts.0, none_lacks f key xs parts.1)
-
--- One of them has the key.
-pub some_has : {X : Type 0} (f : X → List ℕ) (key : List ℕ) (xs : List X) → list_any (λ x. bytes_eq (f x) key) xs ≡ true → LacksValue key (map f xs) → ⊥
-some_has f key [] h l = cc
-some_has f key (x ∷ xs) h l = elim (or_cases (bytes_eq (f x) key) (list_any (λ y. bytes_eq (f y) key) xs) h) [
-  | inl e ↦ l.0 (sym ((bytes_eq-Decides (f x) key).0 e))
-  | inr more ↦ some_has f key xs more l.1
-]
-
-all_after : {X : Type 0} (xs : List X) (k : ℕ) → take (length xs - (k + 1)) (drop (k + 1) xs) ≡ drop (k + 1) xs
-all_after xs k = take_all (length xs - (k + 1)) (drop (k + 1) xs) (omega (arith, length-drop (k + 1) xs))
-
-from_here : {X : Type 0} (f : X → List ℕ) (xs : List X) (k : ℕ) (x : X) (key : List ℕ) → k < length xs → x ≡ get_or xs k x → key ≡ f x → map f (drop k xs) ≡ key ∷ map f (drop (k + 1) xs)
-from_here f xs k x key lt at is =
-    let cut : drop k xs ≡ get_or xs k x ∷ drop (k + 1) xs = rw add-one (drop-cons xs k x lt) in
-    let here : get_or xs k x ≡ x = sym at in
-    rw (cut, here, is) refl
-
--- The key at k is that of an element after it.
-pub key_again : {X : Type 0} (f : X → List ℕ) (xs : List X) (k : ℕ) (x : X) (key : List ℕ) → k < length xs → x ≡ get_or xs k x → key ≡ f x →
-    list_any (λ y. bytes_eq (f y) key) (take (length xs - (k + 1)) (drop (k + 1) xs)) ≡ true → AreDistinct (map f xs) → ⊥
-key_again f xs k x key lt at is again d =
-    let rest : AreDistinct (map f (drop k xs)) = rw (sym (drop-map f k xs)) (distinct_drop k (map f xs) d) in
-    let here = rw (from_here f xs k x key lt at is) at rest in
-    some_has f key (drop (k + 1) xs) (rw (all_after xs k) at again) here.0
-
--- The key at k is that of none after it.
-pub key_alone : {X : Type 0} (f : X → List ℕ) (xs : List X) (k : ℕ) (x : X) (key : List ℕ) → k < length xs → x ≡ get_or xs k x → key ≡ f x →
-    list_any (λ y. bytes_eq (f y) key) (take (length xs - (k + 1)) (drop (k + 1) xs)) ≡ false → AreDistinct (map f (drop (k + 1) xs)) → AreDistinct (map f (drop k xs))
-key_alone f xs k x key lt at is alone d =
-    rw (from_here f xs k x key lt at is) (none_lacks f key (drop (k + 1) xs) (rw (all_after xs k) at alone), d)
 
 -- Pairs with different keys, as flat values have them.
 pub flat_distinct : (ps : List FlatPair) → HasDistinctKeys ps → AreDistinct (map (λ p. p.key) ps)

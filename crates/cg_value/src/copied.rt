@@ -5,6 +5,7 @@ use crate::flat::Flat;
 use crate::value::{
     LimitLine, NestedLine, NestedPair, StatLine, StatPair, TargetLine, Value, WeightLine,
 };
+use cg_index::{HasKey, KeyedBuilder, KeyedItems};
 use cg_text::{Items, Key, KeyFault, NumberSet, OutOfMemory};
 use std::alloc::Global;
 
@@ -44,6 +45,18 @@ impl<T: Copied> Copied for Items<T> {
             held.push(item.copy(alloc)?)?;
         }
         Ok(Items::of(held))
+    }
+}
+
+impl<T: Copied + HasKey> Copied for KeyedItems<T> {
+    fn copy(&self, alloc: Global) -> Result<KeyedItems<T>, OutOfMemory> {
+        let mut copies = KeyedBuilder::new(alloc);
+        for placed in self.placed() {
+            let copy = placed.item().copy(alloc)?;
+            copies.reserve()?;
+            copies.push(copy);
+        }
+        Ok(copies.finish())
     }
 }
 

@@ -7,10 +7,9 @@ ghost use Rattle.cg_value.specs.ReadLine.{ArePressureLines, AreWords, CanBeInval
 ghost use Rattle.cg_value.specs.SpelledLaws.{HasText, HasLines};
 
 use crate::kind::{ReadForm, ReadKind};
-use crate::spelled::{
-    Spelled, are_distinct, are_keyed, are_spelled, are_within, is_between, is_raw, is_within,
-};
+use crate::spelled::{Spelled, are_keyed, are_spelled, are_within, is_between, is_raw, is_within};
 use crate::value::{Averages, Role, Value};
+use cg_index::KeyedItems;
 use cg_text::{Items, Key, NumberSet};
 
 /// Whether it is a controller's name, which begins with neither sign.
@@ -22,10 +21,13 @@ fn is_controller(word: &Key) -> bool
 }
 
 /// Whether they are names of controllers, all different.
-fn are_words(words: &[Key]) -> bool
+fn are_words(words: &KeyedItems<Key>) -> bool
     ensures { IsTrue result ↔ HasLines (AreWords words.now) }
 {
-    words.iter().all(|word| is_controller(word)) && are_distinct(words)
+    words
+        .placed()
+        .iter()
+        .all(|placed| is_controller(placed.item()))
 }
 
 /// Whether no number of the set is greater than `most`.
@@ -87,7 +89,7 @@ impl Value {
             (ReadForm::Numbers { lo, hi }, Value::Numbers(numbers)) => {
                 are_within(lo, hi, numbers.as_slice())
             }
-            (ReadForm::Words, Value::Words(words)) => are_words(words.as_slice()),
+            (ReadForm::Words, Value::Words(words)) => are_words(words),
             (ReadForm::Flat, Value::Flat(flat)) => are_spelled(flat.pairs()),
             (ReadForm::DeviceStats, Value::DeviceStats(lines)) => are_spelled(lines.as_slice()),
             (ReadForm::DeviceLimits, Value::DeviceLimits(lines)) => are_spelled(lines.as_slice()),
@@ -105,7 +107,7 @@ impl Value {
                 },
             ) => is_partition(*role, *valid, reason),
             (ReadForm::Pressure, Value::Pressure { some, full }) => are_pressure(some, full),
-            (ReadForm::Nested, Value::Nested(lines)) => are_keyed(lines.as_slice()),
+            (ReadForm::Nested, Value::Nested(lines)) => are_keyed(lines),
             (ReadForm::Raw, Value::Raw(lines)) => are_spelled(lines.as_slice()),
             _ => false,
         }

@@ -19,7 +19,7 @@ impl Value {
             Value::Pressure { some, full } => {
                 usize::from(some.is_some()) + usize::from(full.is_some())
             }
-            Value::Nested(lines) => lines.as_slice().len(),
+            Value::Nested(lines) => lines.len(),
             Value::Raw(lines) => lines.as_slice().len(),
             Value::Number(_)
             | Value::Signed(_)

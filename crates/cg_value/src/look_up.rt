@@ -3,18 +3,15 @@ ghost use Rattle.std.specs.Prelude.{◌≡◌};
 ghost use Rattle.cg_value.specs.LookUp.{number_in, pair_amount, line_amount, amount_in, line_weight, weight_in};
 
 use crate::value::{StatLine, StatPair, Value, WeightLine};
+use cg_index::KeyedItems;
 use cg_text::{Amount, Device};
 
-/// The amount of the first pair that has the sub-key.
-fn pair_amount(pairs: &[StatPair], key: &[u8]) -> Option<Amount>
+/// The amount of the pair that has the sub-key.
+fn pair_amount(pairs: &KeyedItems<StatPair>, key: &[u8]) -> Option<Amount>
     ensures { result ≡ pair_amount key.now pairs.now }
 {
-    for pair in pairs {
-        if pair.key.bytes() == key {
-            return Some(pair.amount);
-        }
-    }
-    None
+    let pair = pairs.get(pairs.find(key)?)?;
+    Some(pair.amount)
 }
 
 /// The amount of the sub-key in the first line of the device that has it.
@@ -23,7 +20,7 @@ fn line_amount(lines: &[StatLine], device: Device, key: &[u8]) -> Option<Amount>
 {
     for line in lines {
         if line.device == device {
-            if let Some(amount) = pair_amount(line.pairs.as_slice(), key) {
+            if let Some(amount) = pair_amount(&line.pairs, key) {
                 return Some(amount);
             }
         }

@@ -1,7 +1,6 @@
 //! Which parts of values some text spells.
-ghost use Rattle.std.specs.Prelude.{◌≡◌, ◌↔◌, ℕ, List, map, IsTrue};
-ghost use Rattle.std.specs.List.{AllZip, list_any};
-ghost use Rattle.std.specs.Str.{bytes_eq};
+ghost use Rattle.std.specs.Prelude.{◌↔◌, ℕ, List, map, IsTrue};
+ghost use Rattle.std.specs.List.{AllZip};
 ghost use Rattle.cg_text.specs.Amount.{IsAmount};
 ghost use Rattle.cg_text.specs.Clamp.{IsClamp};
 ghost use Rattle.cg_text.specs.Decimal.{IsDecimal};
@@ -21,6 +20,7 @@ use crate::flat::FlatPair;
 use crate::value::{
     Averages, LimitLine, NestedLine, NestedPair, StatLine, StatPair, TargetLine, WeightLine,
 };
+use cg_index::{HasKey, KeyedItems, Placed};
 use cg_text::{Amount, Clamp, Device, Hundredths, Items, Key, Limit};
 
 /// A part of a value, which some text may spell.
@@ -164,7 +164,7 @@ impl Spelled for StatLine {
 
     #[tactic(auto, using(crate::specs::SpelledLaws::stat_text))]
     fn is_spelled(&self) -> bool {
-        self.device.is_spelled() && are_keyed(self.pairs.as_slice())
+        self.device.is_spelled() && are_keyed(&self.pairs)
     }
 }
 
@@ -218,7 +218,7 @@ impl Spelled for NestedLine {
 
     #[tactic(auto, using(crate::specs::SpelledLaws::nested_text))]
     fn is_spelled(&self) -> bool {
-        self.key.is_spelled() && are_keyed(self.pairs.as_slice())
+        self.key.is_spelled() && are_keyed(&self.pairs)
     }
 }
 
@@ -237,69 +237,17 @@ pub(crate) fn is_raw(bytes: &[u8]) -> bool
     bytes.iter().all(|byte| *byte != 0 && *byte != b'\n')
 }
 
-/// What has a key, which may tell it from others of its type.
-pub(crate) trait Keyed {
-    ghost key_of: { Self → List ℕ };
+impl<T: Spelled> Spelled for Placed<T> {
+    ghost spells = { λ placed. T.spells placed.item };
 
-    /// Its key.
-    fn key(&self) -> &Key
-        ensures { result.now ≡ key_of self.now };
-}
-
-impl Keyed for Key {
-    ghost key_of = { λ key. key };
-
-    fn key(&self) -> &Key {
-        self
+    fn is_spelled(&self) -> bool {
+        self.item().is_spelled()
     }
 }
 
-impl Keyed for StatPair {
-    ghost key_of = { λ pair. pair.key };
-
-    fn key(&self) -> &Key {
-        &self.key
-    }
-}
-
-impl Keyed for NestedPair {
-    ghost key_of = { λ pair. pair.key };
-
-    fn key(&self) -> &Key {
-        &self.key
-    }
-}
-
-impl Keyed for NestedLine {
-    ghost key_of = { λ line. line.key };
-
-    fn key(&self) -> &Key {
-        &self.key
-    }
-}
-
-/// Whether one of them has the key.
-fn has_key<T: Keyed>(items: &[T], key: &Key) -> bool
-    ensures { result ≡ list_any (λ item. bytes_eq (T.key_of item) key.now) items.now }
-{
-    items.iter().any(|item| item.key() == key)
-}
-
-/// Whether no two of them have one key.
-pub(crate) fn are_distinct<T: Keyed>(items: &[T]) -> bool
-    ensures { IsTrue result ↔ AreDistinct (map T.key_of items.now) }
-{
-    for (place, item) in items.iter().enumerate() {
-        if has_key(&items[place + 1..], item.key()) {
-            return false;
-        }
-    }
-    true
-}
-
-/// Whether some text spells each, and no two have one key.
-pub(crate) fn are_keyed<T: Spelled + Keyed>(items: &[T]) -> bool
+/// Whether some text spells each. No two have one key.
+pub(crate) fn are_keyed<T: Spelled + HasKey>(items: &KeyedItems<T>) -> bool
     ensures { IsTrue result ↔ (HasLines (AllZip T.spells items.now) × AreDistinct (map T.key_of items.now)) }
 {
-    are_spelled(items) && are_distinct(items)
+    are_spelled(items.placed())
 }

@@ -1,6 +1,7 @@
 //! The values of files.
 
 use crate::flat::Flat;
+use cg_index::{HasKey, KeyedItems};
 use cg_text::{Amount, Clamp, Device, Hundredths, Items, Key, Limit, NumberSet};
 
 /// What a file holds.
@@ -24,7 +25,7 @@ pub enum Value {
     /// Numbers in order, with their repeats.
     Numbers(Items<u64>),
     /// Names of controllers, all different.
-    Words(Items<Key>),
+    Words(KeyedItems<Key>),
     /// Pairs of a key and a number, the keys all different.
     Flat(Flat),
     /// What devices did, a line for each.
@@ -52,7 +53,7 @@ pub enum Value {
         full: Option<Averages>,
     },
     /// Lines of a key with pairs of a sub-key and a number, the keys all different.
-    Nested(Items<NestedLine>),
+    Nested(KeyedItems<NestedLine>),
     /// Lines of bytes.
     Raw(Items<Items<u8>>),
 }
@@ -85,12 +86,20 @@ pub struct StatPair {
     pub amount: Amount,
 }
 
+impl HasKey for StatPair {
+    ghost key_of = { λ pair. pair.key };
+
+    fn key(&self) -> &Key {
+        &self.key
+    }
+}
+
 /// What a device did (cgroup-v2.rst, io.stat). Where `pad` is true, a space of its own follows the device.
 #[derive(Debug, Drop, PartialEq)]
 pub struct StatLine {
     pub device: Device,
     pub pad: bool,
-    pub pairs: Items<StatPair>,
+    pub pairs: KeyedItems<StatPair>,
 }
 
 /// The limits of a device, in bytes and operations a second (cgroup-v2.rst, io.max).
@@ -133,9 +142,25 @@ pub struct NestedPair {
     pub number: u64,
 }
 
+impl HasKey for NestedPair {
+    ghost key_of = { λ pair. pair.key };
+
+    fn key(&self) -> &Key {
+        &self.key
+    }
+}
+
 /// A key with its pairs, the sub-keys all different (cgroup-v2.rst, memory.numa_stat).
 #[derive(Debug, Drop, PartialEq)]
 pub struct NestedLine {
     pub key: Key,
-    pub pairs: Items<NestedPair>,
+    pub pairs: KeyedItems<NestedPair>,
+}
+
+impl HasKey for NestedLine {
+    ghost key_of = { λ line. line.key };
+
+    fn key(&self) -> &Key {
+        &self.key
+    }
 }

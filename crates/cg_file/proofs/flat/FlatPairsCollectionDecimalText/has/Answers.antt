@@ -1,7 +1,8 @@
 use Rattle.std.proofs.Common.{sym, ap, ◌∙◌, is_some, map, not}
 use Rattle.cg_text.specs.WordState.{is_taken}
 use Rattle.cg_join.specs.Distinct.{any_value}
-use Rattle.cg_file.specs.FlatFileLaws.{taken_none, taken_some}
+use Rattle.cg_join.specs.TakenLaws.{taken_none}
+use Rattle.cg_file.specs.FlatFileLaws.{taken_some}
 use Rattle.cg_file.proofs.flat.FlatPairsCollectionDecimalText.has.Goals as goal
 
 pub returns-then-not-is_empty : goal.returns-then-not-is_empty
@@ -13,5 +14,5 @@ returns-then-not-is_empty c =
 pub returns-else-not-is_empty : goal.returns-else-not-is_empty
 returns-else-not-is_empty c =
     let pairs = c.args.self.now.building.pairs in
-    let none = taken_none c.bytes-taken.result.now pairs (sym c.if-not-is_empty.false ∙ c.is_empty.ensures) in
+    let none = taken_none c.bytes-taken.result.now (map (λ p. p.key) pairs) (sym c.if-not-is_empty.false ∙ c.is_empty.ensures) in
     ap not c.if-not-is_empty.false ∙ none ∙ ap (λ taken. any_value (is_taken taken) (map (λ p. p.key) pairs)) c.bytes-taken.ensures

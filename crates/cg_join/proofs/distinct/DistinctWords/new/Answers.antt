@@ -7,7 +7,7 @@ use Rattle.cg_join.proofs.distinct.DistinctWords.new.Goals as goal
 
 pub returns-clause-spells : goal.returns-clause-spells
 returns-clause-spells c = record {
-  is = rw c.new.ensures.items (λ rest all. with_distinct
+  is = rw c.new.ensures (λ rest all. with_distinct
       (list_new c.args.separator (word_text.ghosts.means c.start-current.result)
       (SpellsWord c.args.start.controller) c.start-current.ensures.spells.is rest all));
 }

@@ -8,5 +8,5 @@ pub returns-clause-follows : goal.returns-clause-follows
 returns-clause-follows c =
     let old = c.args.self.now in
     let new = c.run.new.self in
-    rw c.make_room.ensures.items (distinct_run old.separator (SpellsWord old.start.controller) old.items.items (word_text.ghosts.means old.current) (word_text.ghosts.means new)
+    rw c.reserve.ensures.items (distinct_run old.separator (SpellsWord old.start.controller) old.items.items (word_text.ghosts.means old.current) (word_text.ghosts.means new)
     (take c.run.result c.args.bytes.now) old.stops (word_text.ghosts.completes new) c.run.ensures.follows)

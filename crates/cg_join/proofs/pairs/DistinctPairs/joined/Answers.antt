@@ -15,7 +15,7 @@ returns-clause-spells g c =
     let D = g.V.Token.means c.start-value.result in
     let T = SpellsWord c.args.words.controller in
     let U = g.B.Start.texts c.args.values in
-    record { is = rw c.new.ensures.items (joined_new w c.args.separator (IsPairText w v K D c.args.mark) (IsPairText w v T U c.args.mark) (pair_alike w v c.args.mark T K U D c.start-word.ensures.spells.is c.start-value.ensures.spells.is)) }
+    record { is = rw c.new.ensures (joined_new w c.args.separator (IsPairText w v K D c.args.mark) (IsPairText w v T U c.args.mark) (pair_alike w v c.args.mark T K U D c.start-word.ensures.spells.is c.start-value.ensures.spells.is)) }
 
 pub invariant_of-result-clause-lacks : goal.invariant_of-result-clause-lacks
 invariant_of-result-clause-lacks g c =

@@ -16,7 +16,7 @@ returns-clause-spells g c =
     let T = SpellsWord c.args.words.controller in
     let U = g.B.Start.texts c.args.values in
     record {
-      is = rw c.new.ensures.items (λ rest all. with_distinct
+      is = rw c.new.ensures (λ rest all. with_distinct
           (led_new c.args.separator (IsPairText w v K D c.args.mark) (IsPairText w v T U c.args.mark)
           (pair_alike w v c.args.mark T K U D c.start-word.ensures.spells.is c.start-value.ensures.spells.is) rest
           all));

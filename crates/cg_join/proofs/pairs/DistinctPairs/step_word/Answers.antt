@@ -1,5 +1,5 @@
 use Rattle.cg_join.specs.LabelLaws.{if_err_as}
-use Rattle.std.proofs.Common.{◌≡◌, Bool, true, false, not, [], ◌∷◌, ◌++◌, map, refl, sym, ◌∙◌, ap, arith}
+use Rattle.std.proofs.Common.{◌≡◌, true, false, not, [], ◌∷◌, ◌++◌, map, refl, sym, ◌∙◌, ap, arith}
 use Rattle.cg_text.specs.Token.{told}
 use Rattle.cg_join.specs.Repeat.{items_size}
 use Rattle.cg_join.specs.RepeatLaws.{told_more, size_pushed}
@@ -18,14 +18,6 @@ use Rattle.cg_join.proofs.pairs.DistinctPairs.step_word.Goals as goal
 
 word_not_value : (s : Stage) → s ≡ InWord → s ≡ InValue → ⊥
 word_not_value s e f = cc
-
-not_true : (b : Bool) → not b ≡ true → b ≡ false
-not_true true e = cc
-not_true false e = refl
-
-not_false : (b : Bool) → not b ≡ false → b ≡ true
-not_false true e = refl
-not_false false e = cc
 
 pub invariant_of-self : goal.invariant_of-self
 invariant_of-self g c =
@@ -102,8 +94,8 @@ returns-then-not-can_end-clause-refused g c =
     (mark_refused w v old.mark old.separator old.items.items R K D old.lacks
     (λ x h. absurd (let t : word_text.ghosts.ends old.word ≡ true = (word_text.ghosts.ends_is old.word).1 (x, h) in let f = c.if-not-can_end.true in let q = c.can_end.ensures in cc)))
 
-pub returns-then-not-is_new_word-clause-refused : goal.returns-then-not-is_new_word-clause-refused
-returns-then-not-is_new_word-clause-refused g c =
+pub returns-then-is_old_word-clause-refused : goal.returns-then-is_old_word-clause-refused
+returns-then-is_old_word-clause-refused g c =
     let old = c.args.self.now in
     let w = g.F.Pairing.word_of in
     let v = g.F.Pairing.value_of in
@@ -114,14 +106,24 @@ returns-then-not-is_new_word-clause-refused g c =
     let D = g.V.Token.means old.value in
     let R = IsPairText w v (SpellsWord old.words.controller) (g.B.Start.texts old.values) old.mark in
     let f = is_taken old.word.bytes.items in
-    let there : any_value f (map w old.items.items) ≡ true =
-    not_false (any_value f (map w old.items.items)) (ap (λ x. not (any_value f (map w x))) (sym c.as_slice.ensures.value) ∙ sym c.is_new_word.ensures ∙ c.if-not-is_new_word.true) in
+    let there : any_value f (map w old.items.items) ≡ true = sym c.is_old_word.ensures ∙ c.if-is_old_word.true in
     rw (c.requires, c.if-byte-self.false)
     (old_word_refused w v old.mark old.separator old.items.items R K D old.lacks (word_text.ghosts.one_value old.word) f (λ x t. (taken_is old.word.controller old.word.bytes.items old.word.sound x).0 t) there)
 
 pub returns-in-Err-clause-same : goal.returns-in-Err-clause-same
 returns-in-Err-clause-same g c =
-    rw (c.make_room.ensures.items, c.requires) (λ rest all. (λ h. h, λ h. h))
+    rw (c.reserve.ensures.items, c.requires) (λ rest all. (λ h. h, λ h. h))
+
+pub push-requires-clause-new : goal.push-requires-clause-new
+push-requires-clause-new g c =
+    let old = c.args.self.now in
+    let w = g.F.Pairing.word_of in
+    let f = is_taken old.word.bytes.items in
+    let x = c.renew-word.result in
+    let fresh : any_value f (map w old.items.items) ≡ false = sym c.is_old_word.ensures ∙ c.if-is_old_word.false in
+    let is = taken_is old.word.controller old.word.bytes.items old.word.sound in
+    rw (g.met.F.Pairing.keyed, c.begin.ensures.word, c.reserve.ensures.items)
+    (lacks_value f (map w old.items.items) x fresh ((is x).1 c.renew-word.ensures.value) (λ y e. (is y).1 (rw e c.renew-word.ensures.value)))
 
 pub invariant_of-self-2 : goal.invariant_of-self-2
 invariant_of-self-2 g c =
@@ -136,19 +138,16 @@ invariant_of-self-2 g c =
     let R = IsPairText w v (SpellsWord old.words.controller) (g.B.Start.texts old.values) old.mark in
     let x = c.renew-word.result in
     let p = c.begin.result in
-    let items : c.put.new.items.items ≡ old.items.items ++ p ∷ [] = c.put.ensures ∙ ap (λ y. y ++ p ∷ []) c.make_room.ensures.items in
+    let items : c.push.new.self.items ≡ old.items.items ++ p ∷ [] = c.push.ensures ∙ ap (λ y. y ++ p ∷ []) c.reserve.ensures.items in
     let f = pair_size w v word_text.ghosts.value_size g.V.Token.value_size in
     let one : f p ≡ word_text.ghosts.value_size x = (let e = ap word_text.ghosts.value_size c.begin.ensures.word in let h = c.begin.ensures.value_size in omega (arith, e, h)) in
     let k = c.renew-word.ensures.value in
     let is = taken_is old.word.controller old.word.bytes.items old.word.sound in
-    let fresh : any_value (is_taken old.word.bytes.items) (map w old.items.items) ≡ false =
-    not_true (any_value (is_taken old.word.bytes.items) (map w old.items.items))
-    (ap (λ y. not (any_value (is_taken old.word.bytes.items) (map w y))) (sym c.as_slice.ensures.value)
-    ∙ sym c.is_new_word.ensures ∙ c.if-not-is_new_word.false) in
+    let fresh : any_value (is_taken old.word.bytes.items) (map w old.items.items) ≡ false = sym c.is_old_word.ensures ∙ c.if-is_old_word.false in
     let new_told : c.held_in-new_size.result ≡ told (f p) = c.held_in-new_size.ensures ∙ ap told (sym one) in
     record {
-      counted = told_more (items_size f old.items.items) (f p) (items_size f c.put.new.items.items) old.items_held c.saturating_add.result c.held_in-new_size.result c.saturating_add-self.result
-          old.counted c.saturating_add.ensures new_told c.saturating_add-self.ensures (size_pushed f c.put.new.items.items old.items.items p items);
+      counted = told_more (items_size f old.items.items) (f p) (items_size f c.push.new.self.items) old.items_held c.saturating_add.result c.held_in-new_size.result c.saturating_add-self.result
+          old.counted c.saturating_add.ensures new_told c.saturating_add-self.ensures (size_pushed f c.push.new.self.items old.items.items p items);
       lacks = lacks_same old.mark (SpellsWord old.words.controller) (word_text.ghosts.means c.renew-word.new.token) c.renew-word.ensures.spells.is old.words_lack;
       words_lack = old.words_lack;
       stops = old.stops;
@@ -157,7 +156,7 @@ invariant_of-self-2 g c =
       small_mark = old.small_mark;
       begun = λ _. rw items (some_last old.items.items p);
       awaits = λ _. rw items (size_last (λ q. g.V.Token.value_size (v q)) old.items.items p ∙ c.begin.ensures.value_size);
-      distinct = words_pushed w old.items.items c.put.new.items.items p items old.distinct
+      distinct = words_pushed w old.items.items c.push.new.self.items p items old.distinct
           (rw c.begin.ensures.word (lacks_value (is_taken old.word.bytes.items) (map w old.items.items) x fresh ((is x).1 k) (λ y e. (is y).1 (rw e k))));
     }
 
@@ -174,10 +173,10 @@ returns-clause-taken g c =
     let R = IsPairText w v (SpellsWord old.words.controller) (g.B.Start.texts old.values) old.mark in
     let x = c.renew-word.result in
     let p = c.begin.result in
-    let items : c.put.new.items.items ≡ old.items.items ++ p ∷ [] = c.put.ensures ∙ ap (λ y. y ++ p ∷ []) c.make_room.ensures.items in
+    let items : c.push.new.self.items ≡ old.items.items ++ p ∷ [] = c.push.ensures ∙ ap (λ y. y ++ p ∷ []) c.reserve.ensures.items in
     let f = pair_size w v word_text.ghosts.value_size g.V.Token.value_size in
     let one : f p ≡ word_text.ghosts.value_size x = (let e = ap word_text.ghosts.value_size c.begin.ensures.word in let h = c.begin.ensures.value_size in omega (arith, e, h)) in
-    let new = c.put.new.items.items in
+    let new = c.push.new.self.items in
     let k = c.renew-word.ensures.value in
     let d = g.V.Token.completes old.value in
     rw (c.requires, c.if-byte-self.false)
@@ -196,10 +195,10 @@ returns-clause-size g c =
     let R = IsPairText w v (SpellsWord old.words.controller) (g.B.Start.texts old.values) old.mark in
     let x = c.renew-word.result in
     let p = c.begin.result in
-    let items : c.put.new.items.items ≡ old.items.items ++ p ∷ [] = c.put.ensures ∙ ap (λ y. y ++ p ∷ []) c.make_room.ensures.items in
+    let items : c.push.new.self.items ≡ old.items.items ++ p ∷ [] = c.push.ensures ∙ ap (λ y. y ++ p ∷ []) c.reserve.ensures.items in
     let f = pair_size w v word_text.ghosts.value_size g.V.Token.value_size in
     let one : f p ≡ word_text.ghosts.value_size x = (let e = ap word_text.ghosts.value_size c.begin.ensures.word in let h = c.begin.ensures.value_size in omega (arith, e, h)) in
-    omega (arith, size_pushed f c.put.new.items.items old.items.items p items, one, c.renew-word.ensures.size, c.renew-word.ensures.value_size)
+    omega (arith, size_pushed f c.push.new.self.items old.items.items p items, one, c.renew-word.ensures.size, c.renew-word.ensures.value_size)
 
 pub returns-then-byte-self-clause-last : goal.returns-then-byte-self-clause-last
 returns-then-byte-self-clause-last g c =
@@ -227,7 +226,7 @@ returns-in-Err-clause-last g c =
     let R = IsPairText w v (SpellsWord old.words.controller) (g.B.Start.texts old.values) old.mark in
     let K = word_text.ghosts.means old.word in
     let f = is_taken old.word.bytes.items in
-    let new : not (any_value f (map w old.items.items)) ≡ true = ap (λ x. not (any_value f (map w x))) (sym c.as_slice.ensures.value) ∙ sym c.is_new_word.ensures ∙ c.if-not-is_new_word.false in
+    let new : not (any_value f (map w old.items.items)) ≡ true = ap not (sym c.is_old_word.ensures ∙ c.if-is_old_word.false) in
     rw (c.requires, c.if-byte-self.false)
     ((mark_begins w v paired hw hv old.mark old.separator old.items.items R K D old.distinct old.lacks
     (word_text.ghosts.one_value old.word) f

@@ -1,5 +1,4 @@
-use Rattle.std.proofs.Common.{◌≡◌, not, [], ◌∷◌, map, sym, ◌∙◌, ap, eq-eqb, eqb-true, eqb}
-use Rattle.cg_join.specs.Distinct.{any_value}
+use Rattle.std.proofs.Common.{[], ◌∷◌, map, sym, ◌∙◌, eq-eqb, eqb-true, eqb}
 use Rattle.cg_join.specs.Pairs.{IsPairText}
 use Rattle.cg_join.specs.PairsLaws.{first_begins, mark_begins, new_pair, value_begins, word_begins}
 use Rattle.cg_join.specs.PairsState.{WordAtHand, before_last}
@@ -54,8 +53,7 @@ returns-else-byte-self g c =
     let R = IsPairText w v (SpellsWord old.words.controller) (g.B.Start.texts old.values) old.mark in
     let f = is_taken old.word.bytes.items in
     let ends = word_text.ghosts.ends_is old.word in
-    let new : c.is_new_word-new.result ≡ not (any_value f (map w old.items.items)) = c.is_new_word-new.ensures ∙ ap (λ x. not (any_value f (map w x))) c.as_slice.ensures.value in
-    rw (c.in-InWord.is, c.if-byte-self.false, new)
+    rw (c.in-InWord.is, c.if-byte-self.false, c.is_old_word-old.ensures)
     (mark_begins w v paired hw hv old.mark old.separator old.items.items R K D old.distinct old.lacks (word_text.ghosts.one_value old.word) f (taken_is old.word.controller old.word.bytes.items old.word.sound) c.can_end-ended.result
     (λ e. ends.0 (sym c.can_end-ended.ensures ∙ e), λ h. c.can_end-ended.ensures ∙ ends.1 h) (g.V.Token.completes old.value))
 

@@ -1,0 +1,6 @@
+use Rattle.std.proofs.Common.{rules}
+use Rattle.cg_print.specs.JoinedLaws.{led_is}
+use Rattle.cg_print.proofs.canonical.append_spaced.Goals as goal
+
+pub returns : goal.returns
+returns g c = rw (← c.placed.ensures.items, ← led_is (λ p. p.item) g.T.Canonical.printed c.placed.result.now) (search rules)

@@ -1,0 +1,6 @@
+use Rattle.std.proofs.Common.{rules}
+use Rattle.cg_print.specs.JoinedLaws.{words_is}
+use Rattle.cg_print.proofs.tokens.KeyedItemsKeyCanonical.append_to.Goals as goal
+
+pub returns : goal.returns
+returns c = rw (← c.placed.ensures.items, ← words_is (λ p. p.item) c.placed.result.now) (search rules)
