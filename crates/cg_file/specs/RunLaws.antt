@@ -1,8 +1,6 @@
 -- What holds of runs of bytes.
-use Rattle.std.proofs.Common.{◌≢◌, ℕ, zero, suc, ◌+◌, ◌≤◌, ◌<◌, List, [], ◌∷◌, ◌++◌, take, drop, get_or, refl, append_assoc, arith}
-use Rattle.std.proofs.Math.Seq.{take-add}
+use Rattle.std.proofs.Common.{◌≢◌, ℕ, zero, suc, ◌≤◌, ◌<◌, List, [], ◌∷◌, take, get_or, refl, arith}
 use Rattle.memchr.specs.Find.{Nowhere, Passes, is_byte}
-use Rattle.cg_text.specs.Scan.{FollowsRun}
 use Rattle.cg_text.specs.Texts.{Lacks}
 
 plain_at : (bytes : List ℕ) (n : ℕ) → ((i : ℕ) → i < n → get_or bytes i 0 ≢ 10) → Lacks 10 (take n bytes)
@@ -22,10 +20,3 @@ plain_front [] (suc used) n few plain = tt
 plain_front (c ∷ cs) zero n few plain = tt
 plain_front (c ∷ cs) (suc used) zero few plain = absurd (omega (arith, few))
 plain_front (c ∷ cs) (suc used) (suc n) few plain = (plain.0, plain_front cs used n (omega (arith, few)) plain.1)
-
--- One run after another.
-pub run_joined : {S V : Type 0} (means : S → List ℕ → V → Type 0) (old s new : S) (bytes : List ℕ) (used count : ℕ) →
-    FollowsRun means old (take used bytes) s → FollowsRun means s (take count (drop used bytes)) new → FollowsRun means old (take (used + count) bytes) new
-run_joined means old s new bytes used count f g rest v =
-    let more = take count (drop used bytes) in
-    rw (take-add used count bytes, append_assoc (take used bytes) more rest) (λ k. (f (more ++ rest) v).0 ((g rest v).0 k), λ k. (g rest v).1 ((f (more ++ rest) v).1 k))

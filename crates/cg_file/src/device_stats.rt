@@ -9,7 +9,8 @@ ghost use Rattle.cg_file.specs.StatFileLaws.{AreStatPairs};
 use crate::pad::PadText;
 use cg_index::KeyedItems;
 use cg_join::{
-    AmountText, DeviceText, DistinctPairs, Lines, Mapped, Pairing, Sequence, Start, Turn, WordStart,
+    AmountText, DeviceText, DistinctPairs, Lines, Mapped, Pairing, Sequence, Start, Turn,
+    WordStart, run_parts,
 };
 use cg_text::{Amount, Device, Items, Key, OutOfMemory, Token};
 use cg_value::{StatLine, StatPair, Value};
@@ -123,7 +124,7 @@ impl Token for StatPairs {
     }
 
     fn run(&mut self, bytes: &[u8]) -> usize {
-        self.pairs.run(bytes)
+        run_parts(&mut self.pairs, bytes)
     }
 
     fn allows(&self, byte: u8) -> bool {

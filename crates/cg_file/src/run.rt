@@ -1,8 +1,9 @@
 //! Runs of bytes.
-ghost use Rattle.std.specs.Prelude.{◌≡◌, ◌≤◌, ◌<◌, ◌+◌, IsTrue, length, take};
+ghost use Rattle.std.specs.Prelude.{◌≡◌, ◌≤◌, ◌+◌, length, take};
 ghost use Rattle.cg_text.specs.Scan.{FollowsRun};
 ghost use Rattle.cg_text.specs.Texts.{Lacks};
 
+use cg_join::run_parts;
 use cg_text::Token;
 use memchr::memchr;
 
@@ -17,26 +18,6 @@ fn count_plain(bytes: &[u8]) -> usize
     }
 }
 
-/// Takes bytes from the front of `bytes` at once, and the one after them by `step`. Answers how many it took, and whether
-/// `step` took one.
-fn run_and_step<T: Token>(token: &mut T, bytes: &[u8]) -> (usize, bool)
-    ensures within { result.0 ≤ length bytes.now }
-    ensures some { IsTrue result.1 → 0 < result.0 }
-    ensures follows { FollowsRun T.means token.old (take result.0 bytes.now) token.new }
-    ensures size { T.size token.new ≤ T.size token.old + result.0 }
-    ensures same_size { result.0 ≡ 0 → T.size token.new ≡ T.size token.old }
-{
-    let count = token.run(bytes);
-    if count == bytes.len() {
-        return (count, false);
-    }
-    match token.step(bytes[count]) {
-        Ok(true) => (count + 1, true),
-        Ok(false) => (count, false),
-        Err(_) => (count, false),
-    }
-}
-
 /// Takes bytes from the front of `bytes` until a newline, or a byte that is refused or for which memory is. Answers how
 /// many it took.
 pub(crate) fn run_of<T: Token>(token: &mut T, bytes: &[u8]) -> usize
@@ -47,13 +28,5 @@ pub(crate) fn run_of<T: Token>(token: &mut T, bytes: &[u8]) -> usize
     ensures same_size { result ≡ 0 → T.size token.new ≡ T.size token.old }
 {
     let (line, _) = bytes.split_at(count_plain(bytes));
-    let mut used = 0;
-    loop {
-        let (_, rest) = line.split_at(used);
-        let (count, goes_on) = run_and_step(token, rest);
-        used += count;
-        if !goes_on {
-            return used;
-        }
-    }
+    run_parts(token, line)
 }

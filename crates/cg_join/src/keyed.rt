@@ -18,6 +18,7 @@ use crate::collection::Collection;
 use crate::follow::Follow;
 use crate::pairing::renew;
 use crate::pairs::Stage;
+use crate::run::run_parts;
 use crate::start::Start;
 use crate::store::{held_in_all, make_room, put};
 use crate::words::WordStart;
@@ -245,7 +246,7 @@ impl<V: Token, B: Follow<V>, C: Collection<V>> KeyedLines<V, B, C> {
         ensures size { ⟦<KeyedLines<V, B, C> as Token>⟧.size self.new ≤ ⟦<KeyedLines<V, B, C> as Token>⟧.size self.old + result }
         ensures same_size { result ≡ 0 → ⟦<KeyedLines<V, B, C> as Token>⟧.size self.new ≡ ⟦<KeyedLines<V, B, C> as Token>⟧.size self.old }
     {
-        self.value.run(bytes)
+        run_parts(&mut self.value, bytes)
     }
 }
 

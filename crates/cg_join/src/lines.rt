@@ -5,6 +5,7 @@ ghost use Rattle.cg_join.specs.Repeat.{items_size};
 ghost use Rattle.cg_join.specs.Line.{LacksByte};
 ghost use Rattle.cg_join.specs.Lines.{AreLines, AreLinesAfter};
 
+use crate::run::run_parts;
 use crate::start::Start;
 use crate::store::{held_in_all, make_room, put};
 use cg_text::{Items, OutOfMemory, Token};
@@ -92,7 +93,7 @@ impl<T: Token, S: Start<T>> Token for Lines<T, S> {
     }
 
     fn run(&mut self, bytes: &[u8]) -> usize {
-        let count = self.current.run(bytes);
+        let count = run_parts(&mut self.current, bytes);
         if count > 0 {
             self.begun = true;
         }

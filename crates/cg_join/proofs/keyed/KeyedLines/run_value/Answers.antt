@@ -13,7 +13,7 @@ invariant_of-self g c =
     record {
       key_mark = old.key_mark;
       key_end = old.key_end;
-      value_end = lacks_run old.end (g.V.Token.means old.value) (g.V.Token.means c.run.new.self) (take c.run.result c.args.bytes.now) c.run.ensures.follows old.value_end;
+      value_end = lacks_run old.end (g.V.Token.means old.value) (g.V.Token.means c.run_parts.new.token) (take c.run_parts.result c.args.bytes.now) c.run_parts.ensures.follows old.value_end;
       apart = old.apart;
       small_mark = old.small_mark;
       small_end = old.small_end;
@@ -37,6 +37,6 @@ returns-clause-follows g c =
     let alone = g.B.Follow.alone old.values in
     let K = word_text.ghosts.means old.key in
     let R = IsKeyed k v (SpellsWord old.keys.controller) (g.B.Start.texts old.values) alone old.mark in
-    let new = c.run.new.self in
+    let new = c.run_parts.new.token in
     rw c.requires (line_value_run k v given items R alone old.mark old.end K old.ended.items (g.V.Token.means old.value) (g.V.Token.means new)
-    (take c.run.result c.args.bytes.now) old.value_end (g.V.Token.completes new) c.run.ensures.follows)
+    (take c.run_parts.result c.args.bytes.now) old.value_end (g.V.Token.completes new) c.run_parts.ensures.follows)
