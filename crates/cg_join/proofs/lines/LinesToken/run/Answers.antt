@@ -13,7 +13,8 @@ returns-then-count-gt0-clause-follows g c =
     let old = c.args.self.now in
     let some : 0 < length (take c.run_parts-count.result c.args.bytes.now) = some_taken c.run_parts-count.result c.args.bytes.now (omega (arith, c.if-count-gt0.true)) c.run_parts-count.ensures.within in
     let new = c.run_parts-count.new.token in
-    lines_scanned old.end (g.T.Token.means old.current) (g.T.Token.means new) (g.S.Start.texts old.start) (take c.run_parts-count.result c.args.bytes.now) some old.lacks (g.T.Token.completes new) c.run_parts-count.ensures.follows old.begun old.items.items
+    let run = take c.run_parts-count.result c.args.bytes.now in
+    lines_scanned old.end (g.T.Token.means old.current) (g.T.Token.means new) (g.S.Start.texts old.start) run some old.lacks (g.T.Token.completes new) c.run_parts-count.ensures.follows old.begun old.items.items
 
 pub returns-else-count-gt0-clause-follows : goal.returns-else-count-gt0-clause-follows
 returns-else-count-gt0-clause-follows g c =
