@@ -20,10 +20,12 @@ build/cgfile: crates.txt $(shell find crates -path '*/out' -prune -o -type f -pr
 	mkdir -p build
 	install -m 755 crates/cgfile/out/cgfile build/cgfile
 
-# The kit that proves the program is the one that `--version` and the README name.
+# The kit that proves has the logic that `--version` and the README name. Another kit of that logic may judge by other tactics and
+# another standard library, so that is said: what is claimed rests then on a run of `make check` with it.
 version:
-	@for file in crates/cg_command/src/version.rt README.md; do grep -qF "$$(rt version)" $$file \
-	    || { echo "$$file names another kit than $$(rt version)" >&2; exit 1; }; done
+	@for file in crates/cg_command/src/version.rt README.md; do grep -qF "$$(rt version | cut -d ' ' -f 2-)" $$file \
+	    || { echo "$$file names another logic than $$(rt version)" >&2; exit 1; }; done
+	@grep -qF "$$(rt version)" README.md || echo "note: the README names another kit of the same logic than $$(rt version)" >&2
 
 check: version
 	rt ci

@@ -21,6 +21,13 @@ pub(crate) fn entries_of(
     Ok(all)
 }
 
+/// The entry of a snapshot of one.
+pub(crate) fn entry_of(alloc: Global, profile: Profile, text: &[u8]) -> Result<Entry, Fail> {
+    let mut entries = entries_of(alloc, profile, &[text])?;
+    let entry = entries.pop().ok_or("no entry")?;
+    Ok(entry)
+}
+
 /// Whether the entries of these snapshots are encoded by the texts that they were read from, or the entry at this place
 /// has the path of the one before it.
 fn is_encoded(alloc: Global, texts: &[&[u8]], at: Option<usize>) -> Result<bool, Fail> {

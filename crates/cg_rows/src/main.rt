@@ -21,18 +21,12 @@
 #[cfg(test)]
 mod calls;
 #[cfg(test)]
-mod decoded;
-#[cfg(test)]
 mod encoded;
 #[cfg(test)]
 mod entries;
 mod escape;
 #[cfg(test)]
-mod joined;
-#[cfg(test)]
 mod plans;
-#[cfg(test)]
-mod readers;
 mod row;
 #[cfg(test)]
 mod snapshots;
@@ -41,8 +35,6 @@ mod starved;
 #[cfg(test)]
 mod starved_streams;
 mod trial;
-#[cfg(test)]
-mod upgrades;
 #[cfg(test)]
 mod values;
 

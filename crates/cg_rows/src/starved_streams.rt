@@ -1,20 +1,18 @@
 //! Plans, and what becomes of entries, with the heap starved: after each refusal one block is given back, and the call
 //! is made again. Each answer is want of memory, or the answer with ample memory.
-use crate::decoded::toggles;
-use crate::encoded::entries_of;
+use crate::encoded::{entries_of, entry_of};
 use crate::plans::{CONTROLLERS, LIMIT_PAIRS, PAIRS};
 use crate::snapshots::{idle, memory_bound};
 use crate::starved::{Blocks, hog, is_printed};
-use crate::upgrades::entry_of;
 use cg_json::{line, view};
 use cg_line::{UpgradeFault, upgrade};
 use cg_snap::{
     EncodeFault, Limits, PlanDecoder, PlanPulled, PlanWhat, Stop, StreamFault, Why, decode_plan,
     encode_plan, encode_snapshot,
 };
-use cg_text::{Limit, OutOfMemory};
+use cg_text::{Items, Key, Limit, OutOfMemory};
 use cg_tree::{Finding, Rule, findings};
-use cg_value::{Entry, PlanItem, Profile, Setting};
+use cg_value::{Entry, PlanItem, Profile, Setting, Toggle};
 use std::alloc::{AllocError, Global};
 use std::test::Fail;
 
@@ -74,6 +72,16 @@ fn gives(
         }
     }
     false
+}
+
+/// The toggles of `cpu` on, `io` off, and `cpu` on again.
+fn toggles(alloc: Global) -> Result<Setting, Fail> {
+    let mut all = Items::new(alloc);
+    for (on, word) in [(true, "cpu"), (false, "io"), (true, "cpu")] {
+        let name = Key::new(alloc, word.as_bytes())?;
+        all.push(Toggle { on, name })?;
+    }
+    Ok(Setting::Controllers(all))
 }
 
 /// Decoders of plans whose growth was refused go on as with ample memory, with which each is run before.

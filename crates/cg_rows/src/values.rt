@@ -1,34 +1,9 @@
 //! Sets, keys, pairs and values that no command makes otherwise than from a text.
 use cg_line::decode_file;
-use cg_text::{Amount, ByteSet, Device, Hundredths, Items, Key, KeyFault, NumberSet, OutOfMemory};
+use cg_text::{Amount, Device, Hundredths, Key, KeyFault, NumberSet, OutOfMemory};
 use cg_value::{Flat, FlatBuilder, FlatRefused, Profile, Value};
 use std::alloc::Global;
 use std::test::Fail;
-
-#[test]
-fn byte_sets(rt: HostRuntime) {
-    let mut set = ByteSet::new();
-    assert!(rt; set.is_empty());
-    for byte in [0, 10, 255, 10] {
-        set.insert(byte);
-    }
-    assert_eq!(rt; set.len(), 3);
-    assert!(rt; set.contains(0) && set.contains(10) && set.contains(255));
-    assert!(rt; !set.contains(1) && !set.contains(254));
-}
-
-#[test]
-fn items(rt: HostRuntime) -> Result<(), OutOfMemory> {
-    let mut items: Items<u8> = Items::new(rt.alloc());
-    items.push(7)?;
-    items.push(9)?;
-    assert!(rt; items.as_slice() == [7, 9].as_slice());
-    let held = Vec::from_slice(rt.alloc(), &[7, 9])?;
-    let again = Items::of(held);
-    assert!(rt; items == again);
-    assert_eq!(rt; again.into_vec().len(), 2);
-    Ok(())
-}
 
 #[test]
 fn ranges_merge(rt: HostRuntime) -> Result<(), OutOfMemory> {
@@ -44,16 +19,6 @@ fn ranges_merge(rt: HostRuntime) -> Result<(), OutOfMemory> {
     assert_eq!(rt; set.len(), 10);
     let copy = set.copy(rt.alloc())?;
     assert!(rt; copy == set);
-    Ok(())
-}
-
-#[test]
-fn ranges_to_the_end(rt: HostRuntime) -> Result<(), OutOfMemory> {
-    let mut whole = NumberSet::new(rt.alloc());
-    whole.insert_range(7, 4294967295)?;
-    whole.insert_range(0, 6)?;
-    assert!(rt; whole.ranges() == [(0, 4294967295)].as_slice());
-    assert_eq!(rt; whole.len(), 4294967296);
     Ok(())
 }
 
@@ -145,35 +110,10 @@ fn compares_are_few(rt: HostRuntime) -> Result<(), Fail> {
     Ok(())
 }
 
-#[test]
-fn copies_of_pairs(rt: HostRuntime) -> Result<(), Fail> {
-    let flat = filled(rt.alloc(), 2)?;
-    let mut copy = flat.copy(rt.alloc())?;
-    assert!(rt; copy == flat);
-    let key = Key::new(rt.alloc(), b"file")?;
-    copy.push(key, 0)?;
-    assert!(rt; copy != flat);
-    assert_eq!(rt; copy.get(b"key1"), flat.get(b"key1"));
-    Ok(())
-}
-
 /// The value of a file of the first profile.
 fn value_of(alloc: Global, name: &[u8], text: &[u8]) -> Result<Value, Fail> {
     let value = decode_file(alloc, Profile::One, name, text)?;
     Ok(value)
-}
-
-#[test]
-fn numbers_are_looked_up(rt: HostRuntime) -> Result<(), Fail> {
-    let stat = value_of(rt.alloc(), b"memory.stat", b"file 22\nanon 1\n")?;
-    assert_eq!(rt; stat.number_of(b"anon"), Some(1));
-    assert_eq!(rt; stat.number_of(b"file"), Some(22));
-    assert_eq!(rt; stat.number_of(b"slab"), None);
-    assert_eq!(rt; stat.line_count(), 2);
-    let empty = value_of(rt.alloc(), b"memory.stat", b"")?;
-    assert_eq!(rt; empty.number_of(b"anon"), None);
-    assert_eq!(rt; empty.line_count(), 0);
-    Ok(())
 }
 
 const DISK: Device = Device { major: 8, minor: 0 };
