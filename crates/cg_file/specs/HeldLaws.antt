@@ -27,13 +27,14 @@ use Rattle.cg_file.specs.BranchLaws.{branch_settled}
 use Rattle.cg_file.specs.DeviceLineLaws.{limits_value, targets_value}
 use Rattle.cg_file.specs.FlatFileLaws.{flat_value}
 use Rattle.cg_file.specs.Kinds.{held_of_whole}
-use Rattle.cg_file.specs.ManyFileLaws.{numbers_value, raw_value}
+use Rattle.cg_file.specs.ManyFileLaws.{numbers_value}
 use Rattle.cg_file.specs.NestedFileLaws.{nested_value}
 use Rattle.cg_file.specs.OneLineTurned.{set_value}
 use Rattle.cg_file.specs.PartitionFileLaws.{partition_held}
 use Rattle.cg_file.specs.PartitionTurned.{InvalidValue, ReasonValue, RootValue, partition_value}
 use Rattle.cg_file.specs.StatFileLaws.{stat_size, stats_value, stats_held}
-use Rattle.cg_file.specs.LineHeldLaws.{bare_lines_held, bare_lines_held_after, flat_held, line_held, nested_held, raw_lines_held, words_held}
+use Rattle.cg_file.specs.RawFileLaws.{raw_file_held}
+use Rattle.cg_file.specs.LineHeldLaws.{bare_lines_held, bare_lines_held_after, flat_held, line_held, nested_held, words_held}
 use Rattle.cg_file.specs.WeightFileLaws.{weights_value}
 use Rattle.cg_file.specs.WordsTurned.{words_value}
 use Rattle.cg_file.specs.contracts.device_stats.StatLineTextToken.TheImpl as stat_line
@@ -207,9 +208,7 @@ nested_settled s v h =
     (nested_held h.0)
 
 raw_file_settled : (s : RawFile) (v : Value) → raw.ghosts.means s [] v → raw.ghosts.size s ≤ held_of_whole v
-raw_file_settled s v h =
-    let l = s.text.token in
-    turned_settled raw_value _ (items_size length) held_of_whole h.0 v h.2 (lines_settled _ _ l.end l.items.items l.begun length (length l.current.bytes.items) l.fresh h.0 h.1) (raw_lines_held h.0)
+raw_file_settled s v h = rw h.value (raw_file_held s.text.items h.whole)
 
 -- Of a file of any kind.
 pub file_settled : (s : FileText) (v : Value) → file_rests s [] v → file_size s ≤ held_of_whole v

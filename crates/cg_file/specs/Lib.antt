@@ -22,7 +22,8 @@ pub mod PadLaws
 pub mod PartitionFileLaws
 pub mod PartitionTurned
 pub mod PressureFileLaws
-pub mod RunLaws
+pub mod RawFile
+pub mod RawFileLaws
 pub mod StartableLaws
 pub mod StatFileLaws
 pub mod Turned

@@ -48,14 +48,6 @@ further m n p e h = omega (arith, e, h)
 pub bare_lines_held_after : {V : Type 0} (print : V → List ℕ) (first : List ℕ) (vs : List V) (m : ℕ) → m ≡ 0 → m + items_size (λ _. 0) vs ≤ length (first ∷ map print vs) + 0
 bare_lines_held_after print first vs m e = further m (items_size (λ _. 0) vs) (length (map print vs)) e (bare_lines_held print vs)
 
--- Of raw lines.
-pub raw_lines_held : (lines : List (List ℕ)) → items_size length lines ≤ length lines + sum_by length lines
-raw_lines_held [] = omega arith
-raw_lines_held (line ∷ lines) =
-    one_more (items_size length (line ∷ lines)) (sum_by length (line ∷ lines)) (length line)
-    (items_size length lines) (length lines) (length line) (sum_by length lines)
-    (sum_by-cons length line lines) refl (omega arith) (raw_lines_held lines)
-
 -- Of one line, of which so much is held as of its value.
 pub line_held : (n m : ℕ) → m ≡ 0 → n + m ≤ 1 + n
 line_held n m e = omega (arith, e)

@@ -18,9 +18,6 @@ use Rattle.cg_value.specs.declared.value.Value.TheVariants.{Numbers, Raw}
 abbrev pub numbers_value : List ℕ → Value
 numbers_value ns = Numbers ns
 
-abbrev pub raw_value : List (List ℕ) → Value
-raw_value ls = Raw ls
-
 pub zero_least : (n : ℕ) → 0 ≤ n
 zero_least n = omega arith
 
@@ -49,18 +46,8 @@ all_is kind P make reads text v = (
 
 -- ---- Raw lines
 
-pub some_raw : (text : List ℕ) × (bytes : List ℕ) × IsRaw bytes text
-some_raw = ([], [], (refl, tt))
-
 pub one_raw : HasOneText (λ text bytes. IsRaw bytes text)
 one_raw text v w h k = sym h.0 ∙ k.0
-
-pub raw_line_bytes : (text bytes : List ℕ) → IsRaw bytes text → AreBytes text
-raw_line_bytes text bytes h = rw h.0 (raw_bytes bytes h.1)
-
--- A text that is its own value.
-pub raw_alike : (text bytes : List ℕ) → ((bytes ≡ text) × IsRawLine text) ↔ IsRaw bytes text
-raw_alike text bytes = (λ h. (sym h.0, rw h.0 h.1), λ h. (sym h.0, rw h.0 h.1))
 
 newline_out : (front more : List ℕ) → IsRawLine (front ++ 10 ∷ more) → ⊥
 newline_out [] more h = h.2 refl

@@ -21,10 +21,10 @@ use crate::numbers::NumbersFile;
 use crate::partition::PartitionFile;
 use crate::pressure::PressureFile;
 use crate::raw::RawFile;
-use crate::run::run_of;
 use crate::set::SetFile;
 use crate::signed::SignedFile;
 use crate::words::WordsFile;
+use cg_join::run_line;
 use cg_text::{OutOfMemory, Token};
 use cg_value::{ReadForm, ReadKind, Value};
 use std::alloc::Global;
@@ -100,24 +100,24 @@ impl FileText {
         ensures same_size { result ≡ 0 → ⟦<FileText as Token>⟧.size self.new ≡ ⟦<FileText as Token>⟧.size self.old }
     {
         match self {
-            FileText::Number(text) => run_of(text, bytes),
-            FileText::Signed(text) => run_of(text, bytes),
-            FileText::Limit(text) => run_of(text, bytes),
-            FileText::Mode(text) => run_of(text, bytes),
-            FileText::CpuMax(text) => run_of(text, bytes),
-            FileText::Clamp(text) => run_of(text, bytes),
-            FileText::Numbers(text) => run_of(text, bytes),
-            FileText::Words(text) => run_of(text, bytes),
-            FileText::Flat(text) => run_of(text, bytes),
-            FileText::DeviceStats(text) => run_of(text, bytes),
-            FileText::DeviceLimits(text) => run_of(text, bytes),
-            FileText::DeviceWeights(text) => run_of(text, bytes),
-            FileText::DeviceTargets(text) => run_of(text, bytes),
-            FileText::Set(text) => run_of(text, bytes),
-            FileText::Partition(text) => run_of(text, bytes),
-            FileText::Pressure(text) => run_of(text, bytes),
-            FileText::Nested(text) => run_of(text, bytes),
-            FileText::Raw(text) => run_of(text, bytes),
+            FileText::Number(text) => run_line(text, bytes),
+            FileText::Signed(text) => run_line(text, bytes),
+            FileText::Limit(text) => run_line(text, bytes),
+            FileText::Mode(text) => run_line(text, bytes),
+            FileText::CpuMax(text) => run_line(text, bytes),
+            FileText::Clamp(text) => run_line(text, bytes),
+            FileText::Numbers(text) => run_line(text, bytes),
+            FileText::Words(text) => run_line(text, bytes),
+            FileText::Flat(text) => run_line(text, bytes),
+            FileText::DeviceStats(text) => run_line(text, bytes),
+            FileText::DeviceLimits(text) => run_line(text, bytes),
+            FileText::DeviceWeights(text) => run_line(text, bytes),
+            FileText::DeviceTargets(text) => run_line(text, bytes),
+            FileText::Set(text) => run_line(text, bytes),
+            FileText::Partition(text) => run_line(text, bytes),
+            FileText::Pressure(text) => run_line(text, bytes),
+            FileText::Nested(text) => run_line(text, bytes),
+            FileText::Raw(text) => run_line(text, bytes),
         }
     }
 }

@@ -21,7 +21,6 @@ pub mod pad;
 pub mod partition;
 pub mod pressure;
 pub mod raw;
-mod run;
 pub mod set;
 pub mod signed;
 pub mod words;

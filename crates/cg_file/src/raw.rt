@@ -4,72 +4,15 @@ ghost use Rattle.cg_text.specs.Token.{Spells};
 ghost use Rattle.cg_value.specs.Files.{KindText};
 ghost use Rattle.cg_value.specs.declared.kind.ReadForm.TheVariants.{Raw as RawForm};
 
-use cg_join::{Lines, Mapped, Start, Turn};
-use cg_text::{Items, OutOfMemory, RawText, Token};
-use cg_value::Value;
+use cg_text::{OutOfMemory, Token};
+use cg_value::{RawLines, Value, are_whole_lines};
+use memchr::memchr;
 use std::alloc::Global;
 
-/// Makes tokens of raw lines.
-#[derive(Clone, Copy)]
-pub struct RawStart {
-    alloc: Global,
-}
-
-impl RawStart {
-    /// Raw lines, which take their memory from `alloc`.
-    pub fn new(alloc: Global) -> RawStart {
-        RawStart { alloc }
-    }
-}
-
-impl Start<RawText> for RawStart {
-    ghost use Rattle.cg_value.specs.ReadLine.{IsRaw};
-    ghost use Rattle.cg_file.specs.ManyFileLaws.{some_raw, one_raw, raw_line_bytes};
-
-    ghost texts = { λ _ text bytes. IsRaw bytes text };
-
-    fn start(&self) -> RawText {
-        RawText::new(self.alloc)
-    }
-
-    ghost some_text = { λ _. some_raw };
-
-    ghost one_text = { λ _. one_raw };
-
-    ghost text_bytes = { λ _. raw_line_bytes };
-}
-
-/// A line, turned into the file's value.
-#[derive(Clone, Copy)]
-pub struct ToRaw;
-
-impl Turn<Lines<RawText, RawStart>> for ToRaw {
-    type To = Value;
-
-    ghost use Rattle.cg_join.specs.SettledLaws.{zero_least};
-    ghost use Rattle.cg_file.specs.ManyFileLaws.{raw_value};
-
-    ghost turned = { raw_value };
-
-    ghost value_size = { λ _. 0 };
-
-    fn turn(value: Items<Items<u8>>) -> Value {
-        Value::Raw(value)
-    }
-
-    fn held_in(_value: &Value) -> u64 {
-        0
-    }
-
-    ghost no_more = { λ v. zero_least _ };
-}
-
-type Text = Mapped<Lines<RawText, RawStart>, ToRaw>;
-
-/// The text of a file of any number of raw lines.
+/// The text of a file of any number of raw lines. All its bytes lie in one vector, which is the value's.
 #[derive(Drop)]
 pub struct RawFile {
-    text: Text,
+    text: Vec<u8>,
 }
 
 impl RawFile {
@@ -79,7 +22,7 @@ impl RawFile {
         ensures size { ⟦<RawFile as Token>⟧.size result ≡ 0 }
     {
         RawFile {
-            text: Mapped::new(Lines::new(alloc, RawStart::new(alloc), b'\n')),
+            text: Vec::new(alloc),
         }
     }
 }
@@ -87,48 +30,71 @@ impl RawFile {
 impl Token for RawFile {
     type Out = Value;
 
-    ghost means = { λ s. ⟦<Text as Token>⟧.means s.text };
+    ghost use Rattle.std.specs.Prelude.{true, length};
+    ghost use Rattle.cg_text.specs.WordLaws.{true_not_false};
+    ghost use Rattle.cg_value.specs.RawLines.{is_ended};
+    ghost use Rattle.cg_file.specs.RawFile.{IsRawFileRest};
+    ghost use Rattle.cg_file.specs.RawFileLaws.{raw_file_completes, raw_file_one, raw_file_ends, raw_file_bytes};
 
-    ghost size = { λ s. ⟦<Text as Token>⟧.size s.text };
+    ghost means = { λ s rest v. IsRawFileRest s.text.items rest v };
+
+    ghost size = { λ s. length s.text.items };
 
     ghost value_size = { λ _. 0 };
 
-    ghost ends = { λ s. ⟦<Text as Token>⟧.ends s.text };
+    ghost ends = { λ s. is_ended s.text.items };
 
-    ghost grows = { ⟦<Text as Token>⟧.grows };
+    ghost grows = { true };
 
-    ghost completes = { λ s. ⟦<Text as Token>⟧.completes s.text };
+    ghost completes = { λ s. raw_file_completes s.text.items };
 
-    ghost no_size = { λ e s. ⟦<Text as Token>⟧.no_size e s.text };
+    ghost no_size = { λ e _. absurd (true_not_false e) };
 
-    ghost ends_is = { λ s. ⟦<Text as Token>⟧.ends_is s.text };
+    ghost ends_is = { λ s. raw_file_ends s.text.items };
 
-    ghost one_value = { λ s. ⟦<Text as Token>⟧.one_value s.text };
+    ghost one_value = { λ s. raw_file_one s.text.items };
 
-    ghost holds_bytes = { λ s. ⟦<Text as Token>⟧.holds_bytes s.text };
+    ghost holds_bytes = { λ s. raw_file_bytes s.text.items };
 
     fn step(&mut self, byte: u8) -> Result<bool, OutOfMemory> {
-        self.text.step(byte)
+        if byte == 0 {
+            return Ok(false);
+        }
+        match self.text.push(byte) {
+            Ok(()) => Ok(true),
+            Err(_) => Err(OutOfMemory),
+        }
     }
 
     fn run(&mut self, bytes: &[u8]) -> usize {
-        self.text.run(bytes)
+        let count = match memchr(0, bytes) {
+            Some(place) => place,
+            None => bytes.len(),
+        };
+        let (run, _) = bytes.split_at(count);
+        match self.text.extend_from_slice(run) {
+            Ok(()) => count,
+            Err(_) => 0,
+        }
     }
 
     fn allows(&self, byte: u8) -> bool {
-        self.text.allows(byte)
+        byte != 0
     }
 
     fn can_end(&self) -> bool {
-        self.text.can_end()
+        are_whole_lines(self.text.as_slice())
     }
 
     fn held(&self) -> u64 {
-        self.text.held()
+        self.text.len() as u64
     }
 
     fn take(self) -> Value {
-        self.text.take()
+        match RawLines::of(self.text) {
+            Ok(lines) => Value::Raw(lines),
+            Err(_) => unreachable!(),
+        }
     }
 
     fn held_in(_value: &Value) -> u64 {

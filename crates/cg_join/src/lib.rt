@@ -61,7 +61,7 @@ pub use quota::{QuotaAndPeriod, WrittenQuota, quota_and_period, written_quota};
 pub use reading::{Found, read};
 pub use ready::{OrReady, Ready};
 pub use repeat::Repeat;
-pub use run::run_parts;
+pub use run::{run_line, run_parts};
 pub use sequence::Sequence;
 pub use start::Start;
 pub use starts::NumberStart;

@@ -2,10 +2,11 @@
 ghost use Rattle.std.specs.Prelude.{◌≡◌, IfOk};
 ghost use Rattle.serde_json.specs.Data.{string};
 ghost use Rattle.serde_json.specs.View.{view};
-ghost use Rattle.cg_json.specs.Json.{text_data};
+ghost use Rattle.cg_json.specs.Json.{array_of, text_data};
 
 use crate::json::{Json, array};
 use cg_text::{Items, Key, OutOfMemory};
+use cg_value::RawLines;
 use serde_json::Value;
 use std::alloc::Global;
 
@@ -24,6 +25,17 @@ pub(crate) fn text(alloc: Global, bytes: &[u8]) -> Result<Value, OutOfMemory>
         Ok(text) => string(alloc, text),
         Err(_) => array(alloc, bytes),
     }
+}
+
+/// The array of the texts of these lines.
+pub(crate) fn texts(alloc: Global, lines: &RawLines) -> Result<Value, OutOfMemory>
+    ensures { IfOk result (λ tree. view tree ≡ array_of text_data lines.now) }
+{
+    let mut list = Vec::new(alloc);
+    for line in lines.lines() {
+        list.push(text(alloc, line)?)?;
+    }
+    Ok(Value::Array(list))
 }
 
 /// The text of a key, which is ASCII.

@@ -6,6 +6,7 @@ use crate::cpuset::{cpu_max, partition};
 use crate::devices::weights;
 use crate::json::{Json, array, object, placed_array, placed_object};
 use crate::pressure::pressure;
+use crate::text::texts;
 use cg_text::OutOfMemory;
 use cg_value::Value;
 use std::alloc::Global;
@@ -63,7 +64,7 @@ impl Json for Value {
             } => partition(alloc, *role, *valid, reason),
             Value::Pressure { some, full } => pressure(alloc, *some, *full),
             Value::Nested(lines) => placed_object(alloc, lines.placed()),
-            Value::Raw(lines) => array(alloc, lines.as_slice()),
+            Value::Raw(lines) => texts(alloc, lines),
         }
     }
 }

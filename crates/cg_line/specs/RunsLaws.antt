@@ -33,7 +33,7 @@ module _ {V : Type 0} (Text P Q : List ℕ → V → Type 0) (taken run : List �
   read_viable goes is = record { rest = goes.0; whole = (goes.1, (is goes.0 goes.1).0 goes.2) }
 
   -- What a run of bytes leaves of the rests.
-  read_run : Runs P run Q → IsRead Text P taken → IsRead Text Q (taken ++ run)
+  pub read_run : Runs P run Q → IsRead Text P taken → IsRead Text Q (taken ++ run)
   read_run runs h =
       let is : (rest : List ℕ) (v : V) → Q rest v ↔ Text ((taken ++ run) ++ rest) v = λ rest v. (
         λ q. rw (append_assoc taken run rest) ((h.is (run ++ rest) v).0 ((runs.0 rest v).0 q)),

@@ -1,5 +1,5 @@
 -- What a byte does to a reader of one write.
-use Rattle.std.proofs.Common.{◌≡◌, ℕ, ◌≤◌, ◌+◌, ◌↔◌, List, [], ◌∷◌, ◌++◌, length-append, Result, Ok, Err, OnErr, arith}
+use Rattle.std.proofs.Common.{◌≡◌, ℕ, ◌≤◌, ◌+◌, ◌↔◌, List, [], ◌∷◌, ◌++◌, length, length-append, Result, Ok, Err, OnErr, arith}
 use Rattle.cg_text.specs.Token.{AreBytes, Begins, Ends}
 use Rattle.cg_text.specs.TokenLaws.{bytes_append}
 use Rattle.cg_text.specs.Texts.{Next}
@@ -7,8 +7,9 @@ use Rattle.cg_value.specs.PlainWriteLaws.{written_plain}
 use Rattle.cg_value.specs.Settings.{WriteText, KindWrite}
 use Rattle.cg_value.specs.declared.kind.WriteForm.{WriteForm}
 use Rattle.cg_value.specs.declared.setting.Setting.{Setting}
-use Rattle.cg_line.specs.Rests.{Pushes}
+use Rattle.cg_line.specs.Rests.{Pushes, Runs}
 use Rattle.cg_line.specs.RestsLaws.{pushed, whole_is, value_is, next_is}
+use Rattle.cg_line.specs.RunsLaws.{read_run}
 use Rattle.cg_line.specs.declared.push.PushFault.{PushFault}
 use Rattle.cg_line.specs.declared.push.PushFault.TheVariants.{Refused, OutOfMemory}
 use Rattle.cg_line.specs.Takes.{WritesOf, Takes, IsBytePushed, takes_is, is_takes}
@@ -30,6 +31,16 @@ byte_pushed r new kind taken b (Err OutOfMemory) pushes more same h =
     let was = is_takes r kind taken h in
     let now = pushed (WritesOf kind) (ghosts.means r.text) (ghosts.means new.text) taken b (Err OutOfMemory) pushes was.rests in
     (takes_is new kind taken (record { rests = now.0; held = rw same was.held }), now.1)
+
+-- What a run of bytes leaves of the rests, it leaves of the reader.
+pub took_run : (r new : SettingReader) (kind : WriteForm) (taken run : List ℕ) → Runs (ghosts.means r.text) run (ghosts.means new.text) → ghosts.size new.text ≤ ghosts.size r.text + length run →
+    Takes r kind taken → Takes new kind (taken ++ run)
+took_run r new kind taken run runs more h =
+    let was = is_takes r kind taken h in
+    takes_is new kind (taken ++ run) (record {
+      rests = read_run (WritesOf kind) (ghosts.means r.text) (ghosts.means new.text) taken run runs was.rests;
+      held = omega (arith, length-append taken run, more, was.held);
+    })
 
 -- What the reader's rests say of writes.
 module _ (r : SettingReader) (kind : WriteForm) (taken : List ℕ) (h : Takes r kind taken) where

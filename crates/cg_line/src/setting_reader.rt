@@ -1,7 +1,7 @@
 //! Readers of one write.
-ghost use Rattle.std.specs.Prelude.{◌≡◌, ◌≤◌, ◌<◌, ◌+◌, ◌↔◌, ℕ, List, [], length, MatchResult, IsTrue, IfNone, OnErr};
+ghost use Rattle.std.specs.Prelude.{◌≡◌, ◌≤◌, ◌<◌, ◌+◌, ◌↔◌, ℕ, List, [], ◌++◌, length, take, MatchResult, IsTrue, IfNone, OnErr};
 ghost use Rattle.cg_text.specs.Bytes.{HasByte};
-ghost use Rattle.cg_text.specs.Texts.{Next};
+ghost use Rattle.cg_text.specs.Texts.{Lacks, Next};
 ghost use Rattle.cg_text.specs.Token.{told};
 ghost use Rattle.cg_value.specs.Settings.{WriteText as IsWriteText, KindWrite};
 ghost use Rattle.cg_value.specs.declared.kind.WriteForm.{WriteForm};
@@ -48,6 +48,17 @@ impl SettingReader {
         push_to(&mut self.text, byte)
     }
 
+    /// Takes bytes of the line from the front of `bytes` at once, and answers how many.
+    fn scan(&mut self, bytes: &[u8]) -> usize
+        ensures within { result ≤ length bytes.now }
+        ensures plain { Lacks 10 (take result bytes.now) }
+        ensures takes { (kind : WriteForm) (taken : List ℕ) → Takes self.old kind taken → Takes self.new kind (taken ++ take result bytes.now) }
+        ensures held { held_of self.new ≤ held_of self.old + result }
+        ensures same_held { result ≡ 0 → held_of self.new ≡ held_of self.old }
+    {
+        self.text.run(bytes)
+    }
+
     /// Takes bytes from the front of `bytes` as `push` would take one after another: until a newline was taken, none is
     /// left, or one is refused or memory is.
     pub fn push_run(&mut self, bytes: &[u8]) -> PushedRun
@@ -57,7 +68,8 @@ impl SettingReader {
         ensures held { held_of self.new ≤ held_of self.old + result.used }
         ensures same_held { result.used ≡ 0 → held_of self.new ≡ held_of self.old }
     {
-        for used in 0..bytes.len() {
+        let begun = self.scan(bytes);
+        for used in begun..bytes.len() {
             let byte = bytes[used];
             match self.push(byte) {
                 Ok(()) => {}

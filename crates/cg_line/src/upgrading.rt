@@ -8,8 +8,8 @@ ghost use Rattle.cg_line.specs.Upgrading.{AreLinesRead, AreLinesTaken, AreRawNum
 
 use crate::push::PushFault;
 use crate::reader::ValueReader;
-use cg_text::{Items, OutOfMemory};
-use cg_value::{Entry, Profile, Value, read_kind};
+use cg_text::OutOfMemory;
+use cg_value::{Entry, Profile, RawLines, Value, read_kind};
 use std::alloc::Global;
 use thiserror::Error;
 
@@ -52,17 +52,19 @@ fn take_line(reader: &mut ValueReader, number: u64, line: &[u8]) -> Result<(), U
 }
 
 /// Takes the lines, each with its newline.
-fn take_lines(reader: &mut ValueReader, lines: &[Items<u8>]) -> Result<(), UpgradeFault>
+fn take_lines(reader: &mut ValueReader, lines: &RawLines) -> Result<(), UpgradeFault>
     ensures { Reads reader.old Nested [] → AllByRecursion (Lacks 10) lines.now → AreLinesTaken reader.new lines.now result }
 {
-    for (number, line) in lines.iter().enumerate() {
-        take_line(reader, number as u64, line.as_slice())?;
+    let mut number: u64 = 0;
+    for line in lines.lines() {
+        take_line(reader, number, line)?;
+        number += 1;
     }
     Ok(())
 }
 
 /// What the lines hold as the second profile reads them.
-fn read_lines(alloc: Global, lines: &[Items<u8>]) -> Result<Value, UpgradeFault>
+fn read_lines(alloc: Global, lines: &RawLines) -> Result<Value, UpgradeFault>
     requires { AllByRecursion (Lacks 10) lines.now }
     ensures { AreLinesRead lines.now result }
 {
@@ -79,20 +81,20 @@ fn read_lines(alloc: Global, lines: &[Items<u8>]) -> Result<Value, UpgradeFault>
 }
 
 /// The raw lines of `memory.numa_stat` as the first profile reads it; none of another entry.
-fn raw_lines(entry: &Entry) -> Option<&[Items<u8>]>
+fn raw_lines(entry: &Entry) -> Option<&RawLines>
     ensures { MatchOption result ((lines : List (List ℕ)) → AreRawNuma entry.now lines → ⊥) (λ lines. AreRawNuma entry.now lines.now) }
 {
     if entry.name() != NUMA_STAT {
         return None;
     }
     match entry.value() {
-        Value::Raw(lines) => Some(lines.as_slice()),
+        Value::Raw(lines) => Some(lines),
         _ => None,
     }
 }
 
 /// The entry of the same path, with what its raw lines hold as the second profile reads them.
-fn read_again(alloc: Global, entry: &Entry, lines: &[Items<u8>]) -> Result<Entry, UpgradeFault>
+fn read_again(alloc: Global, entry: &Entry, lines: &RawLines) -> Result<Entry, UpgradeFault>
     requires { AreRawNuma entry.now lines.now }
     ensures { IsUpgraded entry.now result }
 {

@@ -30,10 +30,13 @@ pub enum EntryWriteFault {
 fn print_marked(alloc: Global, entry: &Entry, mark: &[u8]) -> Result<Vec<u8>, OutOfMemory>
     ensures { IfOk result (λ text. text.items ≡ headed (entry.now.path ++ mark.now) (print_lines entry.now.value)) }
 {
-    let mut head = Vec::new(alloc);
+    let mut head = Vec::with_capacity(alloc, entry.path().len().saturating_add(mark.len()))?;
     append_bytes(&mut head, entry.path())?;
     append_bytes(&mut head, mark)?;
-    let mut text = Vec::new(alloc);
+    // Each line has the head and a newline at least.
+    let line = head.len().saturating_add(1);
+    let lines = entry.value().line_count() as usize;
+    let mut text = Vec::with_capacity(alloc, line.saturating_mul(lines))?;
     append_value(&mut text, head.as_slice(), entry.value())?;
     Ok(text)
 }

@@ -11,7 +11,7 @@ use crate::canonical::{
     append_newline,
 };
 use cg_text::{Items, Limit, OutOfMemory};
-use cg_value::{Averages, Role, Value, WeightLine};
+use cg_value::{Averages, RawLines, Role, Value, WeightLine};
 use std::alloc::Global;
 
 /// The canonical text of a value: the text of the file that holds it, which is whole lines, each with its newline. It
@@ -61,7 +61,7 @@ pub(crate) fn append_value(
         } => append_partition(text, head, *role, *valid, reason),
         Value::Pressure { some, full } => append_pressure(text, head, *some, *full),
         Value::Nested(lines) => append_keyed_lines(text, head, lines),
-        Value::Raw(lines) => append_lines(text, head, lines.as_slice()),
+        Value::Raw(lines) => append_raw_lines(text, head, lines),
     }
 }
 
@@ -151,4 +151,19 @@ fn append_pressure_line(
         }
         None => Ok(()),
     }
+}
+
+/// Adds lines of bytes, each after the head.
+fn append_raw_lines(text: &mut Vec<u8>, head: &[u8], lines: &RawLines) -> Result<(), OutOfMemory>
+    ensures { OnOk result (text.new.items ≡ text.old.items ++ headed head.now lines.now) }
+{
+    if head.is_empty() {
+        return append_bytes(text, lines.text());
+    }
+    for line in lines.lines() {
+        append_bytes(text, head)?;
+        append_bytes(text, line)?;
+        append_newline(text)?;
+    }
+    Ok(())
 }

@@ -5,7 +5,7 @@ use cg_print::{
 };
 use cg_snap::{Limits, Pulled, SnapshotDecoder, Stop, StreamFault, What, Why, decode_snapshot};
 use cg_text::{Items, Limit};
-use cg_value::{Entry, PlanItem, Profile, Role, Setting, Value};
+use cg_value::{Entry, PlanItem, Profile, RawLines, Role, Setting, Value};
 use std::alloc::{AllocError, Global};
 use std::test::Fail;
 
@@ -162,11 +162,10 @@ fn numbers(alloc: Global, all: &[u64]) -> Result<Value, AllocError> {
     Ok(Value::Numbers(Items::of(held)))
 }
 
-/// One line that is kept as it is.
-fn one_line(alloc: Global, line: &[u8]) -> Result<Value, Fail> {
-    let held = Vec::from_slice(alloc, line)?;
-    let mut lines = Items::new(alloc);
-    lines.push(Items::of(held))?;
+/// Lines that are kept as they are, each with its newline.
+fn raw(alloc: Global, text: &[u8]) -> Result<Value, Fail> {
+    let held = Vec::from_slice(alloc, text)?;
+    let lines = RawLines::of(held).ok().ok_or("no whole lines")?;
     Ok(Value::Raw(lines))
 }
 
@@ -192,7 +191,7 @@ fn paths_that_recur(alloc: Global) -> Result<Vec<Entry>, Fail> {
 
 /// The entries of `RAW_AND_REASON`.
 pub(crate) fn raw_and_reason(alloc: Global) -> Result<Vec<Entry>, Fail> {
-    let line = one_line(alloc, b"max")?;
+    let line = raw(alloc, b"max\n")?;
     let first = entry(alloc, b"x/hugetlb.2MB.max", line)?;
     let root = invalid_root(alloc, b"a) b")?;
     let second = entry(alloc, b"x/cpuset.cpus.partition", root)?;

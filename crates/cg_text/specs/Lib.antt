@@ -37,6 +37,7 @@ pub mod NumeralLaws
 pub mod OneTextLaws
 pub mod RangesLaws
 pub mod RangesState
+pub mod PlainLaws
 pub mod Raw
 pub mod RawLaws
 pub mod RawState

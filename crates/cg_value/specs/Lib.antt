@@ -13,6 +13,7 @@ pub mod Laws
 pub mod LimitPairsPrintLaws
 pub mod LineLaws
 pub mod Lines
+pub mod LinesOfLaws
 pub mod LookUp
 pub mod LookUpLaws
 pub mod NextRowLaws
@@ -24,6 +25,7 @@ pub mod PrintLaws
 pub mod PrintLineLaws
 pub mod PrintSettingLaws
 pub mod PrintTokenLaws
+pub mod RawLines
 pub mod RawLinesLaws
 pub mod ReadLine
 pub mod Records

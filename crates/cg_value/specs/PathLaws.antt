@@ -1,52 +1,47 @@
 -- What holds of names and of paths.
 use Rattle.std.proofs.Common.{◌≡◌, ◌≢◌, ℕ, zero, suc, ◌+◌, ◌-◌, ◌≤◌, ◌<◌, ◌⊎◌, inl, inr, List, [], ◌∷◌, ◌++◌, take, drop, length, get_or, refl, sym, ◌∙◌, subst, arith}
 use Rattle.std.proofs.lemmas.List.{take_more, take_all}
-use Rattle.std.proofs.Common.{length-take, length-drop, take-append-drop}
+use Rattle.std.proofs.lemmas.List.{get_or-drop}
+use Rattle.std.proofs.Common.{length-drop, take-append-drop, eq-eqb}
+use Rattle.memchr.specs.Find.{Nowhere, Passes, is_byte}
 use Rattle.cg_text.specs.Texts.{Lacks}
-use Rattle.cg_text.specs.TextsLaws.{lacks_push, lacks_none}
 use Rattle.std.specs.Prelude.{All}
 use Rattle.cg_value.specs.Entry.{IsPath, IsPathByte}
 use Rattle.cg_value.specs.Path.{IsNameOf}
 
--- A place after the last '/' of the first i bytes of a path, or its beginning.
-pub record IsStart (path : List ℕ) (i start : ℕ) : Type 0 where
-  pub before : start ≤ i
-  pub ends : (take start path ≡ []) ⊎ ((front : List ℕ) × (take start path ≡ front ++ 47 ∷ []))
-  pub plain : Lacks 47 (drop start (take i path))
+-- ---- Searches
 
-drop_push : (n : ℕ) (xs : List ℕ) (x : ℕ) → n ≤ length xs → drop n (xs ++ x ∷ []) ≡ drop n xs ++ x ∷ []
-drop_push zero xs x h = refl
-drop_push (suc n) [] x h = absurd (omega arith)
-drop_push (suc n) (y ∷ xs) x h = drop_push n xs x (omega arith)
+lacks_at : (b : ℕ) (xs : List ℕ) → ((i : ℕ) → i < length xs → get_or xs i 0 ≢ b) → Lacks b xs
+lacks_at b [] none = tt
+lacks_at b (x ∷ xs) none = (none 0 (omega arith), lacks_at b xs (λ i h. none (suc i) (omega (arith, h))))
 
--- At the beginning.
-pub start_first : (path : List ℕ) → IsStart path 0 0
-start_first path = record { before = omega arith; ends = inl refl; plain = tt }
+-- Where a search finds no such byte from a place on, none stands there.
+lacks_from : (b : ℕ) (xs : List ℕ) (n : ℕ) → Nowhere (Passes (is_byte b) xs) n (length xs) → Lacks b (drop n xs)
+lacks_from b xs n none = lacks_at b (drop n xs) (λ i h e.
+    let far = length-drop n xs in
+    none (n + i) (omega arith) (omega (arith, h, far)) (eq-eqb (get_or xs (n + i) 0) b (sym (get_or-drop n xs i 0) ∙ e)))
 
--- After a '/'.
-pub start_after : (path : List ℕ) (i : ℕ) → i < length path → get_or path i 0 ≡ 47 → IsStart path (i + 1) (i + 1)
-start_after path i h e = record {
-  before = omega arith;
-  ends = inr (take i path, rw (take_more path i 0 h, e) refl);
-  plain = lacks_none 47 (drop (i + 1) (take (i + 1) path)) (omega (arith, length-drop (i + 1) (take (i + 1) path), length-take (i + 1) path));
+pub lacks_all : (b : ℕ) (xs : List ℕ) → Nowhere (Passes (is_byte b) xs) 0 (length xs) → Lacks b xs
+lacks_all b xs none = lacks_from b xs 0 none
+
+pub byte_there : (b : ℕ) (xs : List ℕ) (k : ℕ) → k < length xs → get_or xs k 0 ≡ b → Lacks b xs → ⊥
+byte_there b [] k h e l = omega (arith, h)
+byte_there b (x ∷ xs) zero h e l = l.0 e
+byte_there b (x ∷ xs) (suc k) h e l = byte_there b xs k (omega (arith, h)) e l.1
+
+-- The name behind the last '/'; and the whole path, where there is none.
+pub name_behind : (path : List ℕ) (k : ℕ) → k < length path → get_or path k 0 ≡ 47 → Nowhere (Passes (is_byte 47) path) (k + 1) (length path) → IsNameOf path (drop (k + 1) path)
+name_behind path k h e none = record {
+  directory = take (k + 1) path;
+  whole = sym (take-append-drop (k + 1) path);
+  ends = inr (take k path, rw (take_more path k 0 h, e) refl);
+  plain = lacks_from 47 path (k + 1) none;
 }
 
--- After another byte.
-pub start_same : (path : List ℕ) (i start : ℕ) → i < length path → IsStart path i start → get_or path i 0 ≢ 47 → IsStart path (i + 1) start
-start_same path i start h s n = record {
-  before = omega (arith, s.before);
-  ends = s.ends;
-  plain = rw (take_more path i 0 h, drop_push start (take i path) (get_or path i 0) (omega (arith, s.before, length-take i path))) (lacks_push 47 (drop start (take i path)) (get_or path i 0) s.plain n);
-}
+pub name_alone : (path : List ℕ) → Nowhere (Passes (is_byte 47) path) 0 (length path) → IsNameOf path (drop 0 path)
+name_alone path none = record { directory = []; whole = refl; ends = inl refl; plain = lacks_from 47 path 0 none }
 
--- At the end.
-pub start_last : (path : List ℕ) (i start : ℕ) → length path ≤ i → IsStart path i start → IsNameOf path (drop start path)
-start_last path i start h s = record {
-  directory = take start path;
-  whole = sym (take-append-drop start path);
-  ends = s.ends;
-  plain = rw (take_all i path h) at s.plain;
-}
+-- ---- Paths
 
 one_more : (x : ℕ) (xs : List ℕ) → IsPathByte x → All IsPathByte xs → All IsPathByte (x ∷ xs)
 one_more x xs first rest zero d h = first

@@ -2,6 +2,7 @@
 ghost use Rattle.std.specs.Prelude.{◌≡◌, IfOk};
 
 use crate::flat::Flat;
+use crate::raw_lines::RawLines;
 use crate::value::{
     LimitLine, NestedLine, NestedPair, StatLine, StatPair, TargetLine, Value, WeightLine,
 };
@@ -79,6 +80,12 @@ impl Copied for NumberSet {
 impl Copied for Flat {
     fn copy(&self, alloc: Global) -> Result<Flat, OutOfMemory> {
         Flat::copy(self, alloc)
+    }
+}
+
+impl Copied for RawLines {
+    fn copy(&self, alloc: Global) -> Result<RawLines, OutOfMemory> {
+        RawLines::copy(self, alloc)
     }
 }
 

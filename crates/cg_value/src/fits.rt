@@ -108,7 +108,7 @@ impl Value {
             ) => is_partition(*role, *valid, reason),
             (ReadForm::Pressure, Value::Pressure { some, full }) => are_pressure(some, full),
             (ReadForm::Nested, Value::Nested(lines)) => are_keyed(lines),
-            (ReadForm::Raw, Value::Raw(lines)) => are_spelled(lines.as_slice()),
+            (ReadForm::Raw, Value::Raw(lines)) => lines.can_stand(),
             _ => false,
         }
     }

@@ -13,6 +13,7 @@ pub mod lines;
 pub mod look_up;
 pub mod path;
 pub mod profile;
+pub mod raw_lines;
 pub mod rows;
 pub mod setting;
 pub mod setting_laws;
@@ -27,6 +28,7 @@ pub use item::{ItemFault, ItemRefused, PlanItem};
 pub use kind::{ReadForm, ReadKind, WriteForm, WriteKind};
 pub use path::name_of;
 pub use profile::Profile;
+pub use raw_lines::{LinesIn, RawLines, are_whole_lines};
 pub use setting::{Setting, Toggle};
 pub use table::{NotReadable, NotWritable, read_kind, table_name, write_kind};
 pub use value::{

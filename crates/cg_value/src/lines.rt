@@ -20,7 +20,7 @@ impl Value {
                 usize::from(some.is_some()) + usize::from(full.is_some())
             }
             Value::Nested(lines) => lines.len(),
-            Value::Raw(lines) => lines.as_slice().len(),
+            Value::Raw(lines) => lines.len(),
             Value::Number(_)
             | Value::Signed(_)
             | Value::Limit(_)

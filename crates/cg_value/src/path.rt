@@ -4,16 +4,16 @@ ghost use Rattle.cg_text.specs.Texts.{Lacks};
 ghost use Rattle.cg_value.specs.Entry.{IsPath};
 ghost use Rattle.cg_value.specs.Path.{IsNameOf};
 
+use memchr::{memchr, memrchr};
+
 /// What follows the last `/` of a path, or all of it where there is none. It takes no memory.
 pub fn name_of(path: &[u8]) -> &[u8]
     ensures { IsNameOf path.now result.now }
 {
-    let mut start = 0;
-    for (i, byte) in path.iter().enumerate() {
-        if *byte == b'/' {
-            start = i + 1;
-        }
-    }
+    let start = match memrchr(b'/', path) {
+        Some(place) => place + 1,
+        None => 0,
+    };
     let (_, name) = path.split_at(start);
     name
 }
@@ -35,10 +35,8 @@ pub(crate) fn is_path(path: &[u8]) -> bool
 fn has_no(path: &[u8], byte: u8) -> bool
     ensures { IsTrue result ↔ Lacks byte path.now }
 {
-    for other in path {
-        if *other == byte {
-            return false;
-        }
+    match memchr(byte, path) {
+        Some(_) => false,
+        None => true,
     }
-    true
 }

@@ -13,7 +13,7 @@ ghost use Rattle.cg_text.specs.Signed.{IsSigned};
 ghost use Rattle.cg_text.specs.declared.hundredths.Form.TheVariants.{Read};
 ghost use Rattle.cg_value.specs.Kind.{any_u64};
 ghost use Rattle.cg_value.specs.Lines.{IsKey};
-ghost use Rattle.cg_value.specs.ReadLine.{AreAverages, IsFlatLine, IsLimitLine, IsNestedLine, IsNestedPair, IsRaw, IsStatLine, IsStatPair, IsTargetLine, IsWeightLine};
+ghost use Rattle.cg_value.specs.ReadLine.{AreAverages, IsFlatLine, IsLimitLine, IsNestedLine, IsNestedPair, IsStatLine, IsStatPair, IsTargetLine, IsWeightLine};
 ghost use Rattle.cg_value.specs.SpelledLaws.{HasText, HasLines};
 
 use crate::flat::FlatPair;
@@ -21,7 +21,7 @@ use crate::value::{
     Averages, LimitLine, NestedLine, NestedPair, StatLine, StatPair, TargetLine, WeightLine,
 };
 use cg_index::{HasKey, KeyedItems, Placed};
-use cg_text::{Amount, Clamp, Device, Hundredths, Items, Key, Limit};
+use cg_text::{Amount, Clamp, Device, Hundredths, Key, Limit};
 
 /// A part of a value, which some text may spell.
 pub(crate) trait Spelled {
@@ -219,14 +219,6 @@ impl Spelled for NestedLine {
     #[tactic(auto, using(crate::specs::SpelledLaws::nested_text))]
     fn is_spelled(&self) -> bool {
         self.key.is_spelled() && are_keyed(&self.pairs)
-    }
-}
-
-impl Spelled for Items<u8> {
-    ghost spells = { IsRaw };
-
-    fn is_spelled(&self) -> bool {
-        is_raw(self.as_slice())
     }
 }
 

@@ -1,6 +1,7 @@
 //! The values of files.
 
 use crate::flat::Flat;
+use crate::raw_lines::RawLines;
 use cg_index::{HasKey, KeyedItems};
 use cg_text::{Amount, Clamp, Device, Hundredths, Items, Key, Limit, NumberSet};
 
@@ -55,7 +56,7 @@ pub enum Value {
     /// Lines of a key with pairs of a sub-key and a number, the keys all different.
     Nested(KeyedItems<NestedLine>),
     /// Lines of bytes.
-    Raw(Items<Items<u8>>),
+    Raw(RawLines),
 }
 
 /// The mode of a group (cgroup-v2.rst, cgroup.type).

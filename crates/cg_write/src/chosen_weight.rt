@@ -82,6 +82,10 @@ impl Token for ChosenText {
         self.parts.step(byte)
     }
 
+    fn run(&mut self, bytes: &[u8]) -> usize {
+        self.parts.run(bytes)
+    }
+
     fn allows(&self, byte: u8) -> bool {
         self.parts.allows(byte)
     }

@@ -56,6 +56,10 @@ impl Token for DeviceLimitsText {
         self.parts.step(byte)
     }
 
+    fn run(&mut self, bytes: &[u8]) -> usize {
+        self.parts.run(bytes)
+    }
+
     fn allows(&self, byte: u8) -> bool {
         self.parts.allows(byte)
     }
@@ -154,6 +158,10 @@ impl Token for DeviceLimitsWrite {
 
     fn step(&mut self, byte: u8) -> Result<bool, OutOfMemory> {
         self.text.step(byte)
+    }
+
+    fn run(&mut self, bytes: &[u8]) -> usize {
+        self.text.run(bytes)
     }
 
     fn allows(&self, byte: u8) -> bool {

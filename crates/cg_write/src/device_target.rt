@@ -81,6 +81,10 @@ impl Token for DeviceTargetWrite {
         self.text.step(byte)
     }
 
+    fn run(&mut self, bytes: &[u8]) -> usize {
+        self.text.run(bytes)
+    }
+
     fn allows(&self, byte: u8) -> bool {
         self.text.allows(byte)
     }

@@ -80,6 +80,10 @@ impl Token for ModeWrite {
         self.text.step(byte)
     }
 
+    fn run(&mut self, bytes: &[u8]) -> usize {
+        self.text.run(bytes)
+    }
+
     fn allows(&self, byte: u8) -> bool {
         self.text.allows(byte)
     }

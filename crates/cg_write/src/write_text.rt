@@ -1,5 +1,7 @@
 //! The text of a write of any kind (cgroup-v2.rst, "Interface Files").
-ghost use Rattle.std.specs.Prelude.{◌≡◌, true};
+ghost use Rattle.std.specs.Prelude.{◌≡◌, ◌+◌, ◌≤◌, length, take, true};
+ghost use Rattle.cg_text.specs.Scan.{FollowsRun};
+ghost use Rattle.cg_text.specs.Texts.{Lacks};
 ghost use Rattle.cg_text.specs.Token.{Spells};
 ghost use Rattle.cg_value.specs.Kind.{IsWriteForm};
 ghost use Rattle.cg_value.specs.Settings.{WriteText as IsWriteText};
@@ -20,6 +22,7 @@ use crate::set::SetWrite;
 use crate::signed::SignedWrite;
 use crate::size_limit::SizeLimitWrite;
 use crate::trigger::TriggerWrite;
+use cg_join::run_line;
 use cg_text::{OutOfMemory, Token};
 use cg_value::{Setting, WriteForm, WriteKind};
 use std::alloc::Global;
@@ -95,6 +98,35 @@ impl WriteText {
         ensures form { IsWriteForm kind }
     {
         text_of(alloc, kind.form())
+    }
+
+    /// Takes bytes from the front of `bytes`, none of them a newline, and answers how many. It may leave some that `step`
+    /// would take: it stops before a byte that is refused, or for which memory is.
+    pub fn run(&mut self, bytes: &[u8]) -> usize
+        ensures within { result ≤ length bytes.now }
+        ensures plain { Lacks 10 (take result bytes.now) }
+        ensures follows { FollowsRun ⟦<WriteText as Token>⟧.means self.old (take result bytes.now) self.new }
+        ensures size { ⟦<WriteText as Token>⟧.size self.new ≤ ⟦<WriteText as Token>⟧.size self.old + result }
+        ensures same_size { result ≡ 0 → ⟦<WriteText as Token>⟧.size self.new ≡ ⟦<WriteText as Token>⟧.size self.old }
+    {
+        match self {
+            WriteText::Number(text) => run_line(text, bytes),
+            WriteText::Signed(text) => run_line(text, bytes),
+            WriteText::Limit(text) => run_line(text, bytes),
+            WriteText::SizeLimit(text) => run_line(text, bytes),
+            WriteText::Clamp(text) => run_line(text, bytes),
+            WriteText::Mode(text) => run_line(text, bytes),
+            WriteText::Controllers(text) => run_line(text, bytes),
+            WriteText::CpuMax(text) => run_line(text, bytes),
+            WriteText::Reclaim(text) => run_line(text, bytes),
+            WriteText::DeviceLimits(text) => run_line(text, bytes),
+            WriteText::DeviceWeight(text) => run_line(text, bytes),
+            WriteText::DeviceTarget(text) => run_line(text, bytes),
+            WriteText::Set(text) => run_line(text, bytes),
+            WriteText::Role(text) => run_line(text, bytes),
+            WriteText::Trigger(text) => run_line(text, bytes),
+            WriteText::Raw(text) => run_line(text, bytes),
+        }
     }
 }
 

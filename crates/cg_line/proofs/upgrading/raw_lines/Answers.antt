@@ -1,4 +1,4 @@
-use Rattle.std.proofs.Common.{◌≡◌, codes, refl, sym, ◌∙◌, ap, subst}
+use Rattle.std.proofs.Common.{◌≡◌, codes, refl, sym, ◌∙◌, subst}
 use Rattle.std.proofs.lemmas.Bool.{not-false}
 use Rattle.std.proofs.lemmas.Bool.Decides.{Decides-eqb, Decides-not}
 use Rattle.std.proofs.lemmas.Slice.Eq.{slice_eq-Decides}
@@ -14,4 +14,4 @@ returns-then-ne c lines raw =
 pub returns-in-Raw : goal.returns-in-Raw
 returns-in-Raw c =
     let name : c.name.result.now ≡ codes "memory.numa_stat" = (slice_eq-Decides Decides-eqb _ _ _ refl).0 (not-false _ (sym c.ne.ensures ∙ c.if-ne.false)) in
-    (subst (IsNameOf c.args.entry.now.path) name c.name.ensures, sym c.value.ensures.value ∙ c.in-Raw.is ∙ ap Raw (sym c.as_slice.ensures))
+    (subst (IsNameOf c.args.entry.now.path) name c.name.ensures, sym c.value.ensures.value ∙ c.in-Raw.is)

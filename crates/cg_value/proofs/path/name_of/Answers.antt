@@ -1,14 +1,12 @@
-use Rattle.std.proofs.Common.{arith, ◌<◌, length}
-use Rattle.cg_value.specs.PathLaws.{start_after, start_same}
+use Rattle.std.proofs.Common.{◌+◌, get_or, eqb-true}
+use Rattle.cg_value.specs.PathLaws.{name_alone, name_behind}
 use Rattle.cg_value.proofs.path.name_of.Goals as goal
-use Rattle.cg_value.proofs.path.name_of.Goals.{then-byte-eq47, else-byte-eq47}
+use Rattle.cg_value.proofs.path.name_of.Goals.{in-Some, in-None}
 
-pub loop-i-preserved : goal.loop-i-preserved
-loop-i-preserved c =
+pub returns : goal.returns
+returns c =
     let path = c.args.path.now in
-    let i = c.loop-i.i in
-    let within : i < length path = omega arith in
-    elim c.if-byte-eq47.branch [
-      | then-byte-eq47 w ↦ rw w.start-is (start_after path i within w.if-byte-eq47.true)
-      | else-byte-eq47 w ↦ rw w.start-is (start_same path i c.loop-i.start within c.loop-i.invariant w.if-byte-eq47.false)
+    elim c.match-memrchr.branch [
+      | in-Some w ↦ rw (c.split_at.ensures.back, w.start-is) (name_behind path w.in-Some.place w.in-Some.ensures.0.high (eqb-true (get_or path w.in-Some.place 0) 47 w.in-Some.ensures.1) w.in-Some.ensures.0.after)
+      | in-None w ↦ rw (c.split_at.ensures.back, w.start-is) (name_alone path w.in-None.ensures)
     ]

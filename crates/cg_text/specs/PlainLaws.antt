@@ -1,4 +1,4 @@
--- What holds of runs of bytes.
+-- What holds of bytes in front of a newline.
 use Rattle.std.proofs.Common.{◌≢◌, ℕ, zero, suc, ◌≤◌, ◌<◌, List, [], ◌∷◌, take, get_or, refl, arith}
 use Rattle.memchr.specs.Find.{Nowhere, Passes, is_byte}
 use Rattle.cg_text.specs.Texts.{Lacks}

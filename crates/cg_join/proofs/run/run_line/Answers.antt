@@ -1,7 +1,7 @@
 use Rattle.std.proofs.Common.{◌≤◌, arith}
 use Rattle.std.proofs.lemmas.List.{take-take}
-use Rattle.cg_file.specs.RunLaws.{plain_front}
-use Rattle.cg_file.proofs.run.run_of.Goals as goal
+use Rattle.cg_text.specs.PlainLaws.{plain_front}
+use Rattle.cg_join.proofs.run.run_line.Goals as goal
 
 pub returns-clause-plain : goal.returns-clause-plain
 returns-clause-plain g c =
