@@ -72,16 +72,21 @@ module _ (Took Whole Closes : List ℕ → List (List ℕ) → Type 0) (Unstoppe
       wants = w;
     }
 
-    pub fault_ends : (first now : Option (List ℕ)) (write_failed : Bool) (parts : List (List ℕ)) (part : List ℕ) (o : Outcome) → Took ((read ++ take at piece) ++ take n rest) (parts ++ part ∷ []) →
-        ((rest : List ℕ) (wanted : Outcome) → Wrote first now write_failed (joined (parts ++ part ∷ []) ++ rest) wanted o) → EndsSo Early (read ++ piece) left failed first now write_failed o
-    fault_ends first now write_failed parts part o h w = record {
+    -- The writer failed in some of these parts.
+    pub parts_fault_ends : (first now : Option (List ℕ)) (write_failed : Bool) (parts : List (List ℕ)) (o : Outcome) → parts ≢ [] → Took ((read ++ take at piece) ++ take n rest) parts →
+        ((rest : List ℕ) (wanted : Outcome) → Wrote first now write_failed (joined parts ++ rest) wanted o) → EndsSo Early (read ++ piece) left failed first now write_failed o
+    parts_fault_ends first now write_failed parts o some h w = record {
       wanted = out.OutOfMemory;
-      parts = parts ++ part ∷ [];
-      right = starved (parts ++ part ∷ []) [] (passed ((read ++ take at piece) ++ take n rest) (parts ++ part ∷ []) h)
-          (rw (append-nil (parts ++ part ∷ [])) (closed ((read ++ take at piece) ++ take n rest) (parts ++ part ∷ []) h))
-          (inr (rw (append-nil (parts ++ part ∷ [])) (some_part parts part)));
+      parts = parts;
+      right = starved parts [] (passed ((read ++ take at piece) ++ take n rest) parts h)
+          (rw (append-nil parts) (closed ((read ++ take at piece) ++ take n rest) parts h))
+          (inr (rw (append-nil parts) some));
       wrote = w (last_line out.OutOfMemory) out.OutOfMemory;
     }
+
+    pub fault_ends : (first now : Option (List ℕ)) (write_failed : Bool) (parts : List (List ℕ)) (part : List ℕ) (o : Outcome) → Took ((read ++ take at piece) ++ take n rest) (parts ++ part ∷ []) →
+        ((rest : List ℕ) (wanted : Outcome) → Wrote first now write_failed (joined (parts ++ part ∷ []) ++ rest) wanted o) → EndsSo Early (read ++ piece) left failed first now write_failed o
+    fault_ends first now write_failed parts part o h w = parts_fault_ends first now write_failed (parts ++ part ∷ []) o (some_part parts part) h w
 
     stop_right : (parts : List (List ℕ)) (s : Stop) → IsByteStop s → StopsBy (read ++ piece) s → Closes (take (place_of s) (read ++ piece)) parts → IsStreamStop Whole Closes Unstopped StopsBy r s parts
     stop_right parts (stops.Refused place why) b x c = record { stops = x; closed = c }

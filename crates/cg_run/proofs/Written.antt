@@ -1,9 +1,10 @@
 -- What was written, part by part.
-use Rattle.std.proofs.Common.{◌≡◌, ℕ, zero, suc, ◌+◌, ◌≤◌, Bool, true, List, [], ◌∷◌, ◌++◌, length, take, min, Option, Some, None, refl, sym, ap, subst, ◌∙◌, append_assoc, append-nil, arith, length-append}
+use Rattle.std.specs.Prelude.{MatchOption}
+use Rattle.std.proofs.Common.{◌≡◌, ◌≢◌, ℕ, zero, suc, ◌+◌, ◌≤◌, Bool, true, List, [], ◌∷◌, ◌++◌, length, take, min, Option, Some, None, refl, sym, ap, subst, ◌∙◌, append_assoc, append-nil, arith, length-append}
 use Rattle.std.specs.Io.KnownBytes.{Appends}
 use Rattle.cg_text.specs.Token.{told}
 use Rattle.cg_run.specs.Run.{Wrote, joined}
-use Rattle.cg_run.specs.Streaming.{HasWritten}
+use Rattle.cg_run.specs.Streaming.{Gathers, HasWritten}
 use Rattle.cg_run.specs.declared.outcome.Outcome.{Outcome}
 use Rattle.cg_run.specs.declared.outcome.Outcome.TheVariants as out
 
@@ -86,3 +87,63 @@ line_written first a b parts line written failed wanted out.NotWritable h w n = 
 line_written first a b parts line written failed wanted out.ReadFault h w n = (w.0, Appends-trans first a b (joined parts) line h.0 w.1)
 line_written first a b parts line written failed wanted (out.WriteFault k) h w n = absurd (n k refl)
 line_written first a b parts line written failed wanted out.OutOfMemory h w n = (w.0, Appends-trans first a b (joined parts) line h.0 w.1)
+
+-- ---- Texts that are gathered
+
+joined_append : (xs ys : List (List ℕ)) → joined (xs ++ ys) ≡ joined xs ++ joined ys
+joined_append [] ys = refl
+joined_append (x ∷ xs) ys = ap (λ t. x ++ t) (joined_append xs ys) ∙ sym (append_assoc x (joined xs) (joined ys))
+
+joined_one : (part : List ℕ) → joined (part ∷ []) ≡ part
+joined_one part = append-nil part
+
+-- The parts, with those that are gathered as one.
+pub gathered_joined : (first now : Option (List ℕ)) (parts : List (List ℕ)) (written : ℕ) (gathered : List ℕ) (h : Gathers first now parts written gathered) → joined (h.told ++ gathered ∷ []) ≡ joined parts
+gathered_joined first now parts written gathered h =
+    joined_push h.told gathered ∙ ap (λ t. joined h.told ++ t) h.text ∙ sym (joined_append h.told h.rest) ∙ ap (λ ps. joined ps) (sym h.parts_are)
+
+-- What was written of parts, or the writer's fault.
+pub told_as : (r : Option Outcome) (first now : Option (List ℕ)) (failed : Bool) (xs ys : List (List ℕ)) (written : ℕ) → joined xs ≡ joined ys →
+    MatchOption r (HasWritten first now xs written) (λ fault. (rest : List ℕ) (wanted : Outcome) → Wrote first now failed (joined xs ++ rest) wanted fault) →
+    MatchOption r (HasWritten first now ys written) (λ fault. (rest : List ℕ) (wanted : Outcome) → Wrote first now failed (joined ys ++ rest) wanted fault)
+told_as None first now failed xs ys written e h = subst (λ (t : List ℕ). Appends first now t × (written ≡ told (length t))) e h
+told_as (Some fault) first now failed xs ys written e h = λ rest wanted. subst (λ (t : List ℕ). Wrote first now failed (t ++ rest) wanted fault) e (h rest wanted)
+
+-- Nothing is gathered yet.
+pub gathers_none : (first now : Option (List ℕ)) (parts : List (List ℕ)) (written : ℕ) (gathered : List ℕ) → gathered ≡ [] → HasWritten first now parts written → Gathers first now parts written gathered
+gathers_none first now parts written gathered e h = record { told = parts; rest = []; parts_are = sym (append-nil parts); wrote = h; text = e }
+
+-- All is written where nothing is gathered.
+pub gathered_none : (first now : Option (List ℕ)) (parts : List (List ℕ)) (written : ℕ) (gathered : List ℕ) → gathered ≡ [] → Gathers first now parts written gathered → HasWritten first now parts written
+gathered_none first now parts written gathered e h =
+    let same : joined h.told ≡ joined parts = sym (append-nil (joined h.told)) ∙ ap (λ t. joined h.told ++ t) (sym e ∙ h.text) ∙ sym (joined_append h.told h.rest) ∙ ap (λ ps. joined ps) (sym h.parts_are) in
+    subst (λ (t : List ℕ). Appends first now t × (written ≡ told (length t))) same h.wrote
+
+-- One more text is gathered; or it alone, where all others were written.
+pub gathers_more : (first now : Option (List ℕ)) (parts : List (List ℕ)) (part : List ℕ) (written : ℕ) (old new : List ℕ) → new ≡ old ++ part → Gathers first now parts written old → Gathers first now (parts ++ part ∷ []) written new
+gathers_more first now parts part written old new e h = record {
+  told = h.told;
+  rest = h.rest ++ part ∷ [];
+  parts_are = ap (λ ps. ps ++ part ∷ []) h.parts_are ∙ append_assoc h.told h.rest (part ∷ []);
+  wrote = h.wrote;
+  text = e ∙ ap (λ t. t ++ part) h.text ∙ sym (joined_push h.rest part);
+}
+
+pub gathers_alone : (first now : Option (List ℕ)) (parts : List (List ℕ)) (part : List ℕ) (written : ℕ) → HasWritten first now parts written → Gathers first now (parts ++ part ∷ []) written part
+gathers_alone first now parts part written h = record { told = parts; rest = part ∷ []; parts_are = refl; wrote = h; text = sym (joined_one part) }
+
+-- The writer failed before one more part.
+pub fault_before : (first now : Option (List ℕ)) (failed : Bool) (parts : List (List ℕ)) (part : List ℕ) (fault : Outcome) → ((rest : List ℕ) (wanted : Outcome) → Wrote first now failed (joined parts ++ rest) wanted fault) →
+    (rest : List ℕ) (wanted : Outcome) → Wrote first now failed (joined (parts ++ part ∷ []) ++ rest) wanted fault
+fault_before first now failed parts part fault h rest wanted =
+    subst (λ (t : List ℕ). Wrote first now failed t wanted fault) (sym (ap (λ t. t ++ rest) (joined_push parts part) ∙ append_assoc (joined parts) part rest)) (h (part ++ rest) wanted)
+
+-- Where texts are gathered there are parts.
+pub gathered_some : (first now : Option (List ℕ)) (parts : List (List ℕ)) (written : ℕ) (gathered : List ℕ) → gathered ≢ [] → Gathers first now parts written gathered → parts ≢ []
+gathered_some first now parts written gathered some h none =
+    let both : h.told ++ h.rest ≡ [] = sym h.parts_are ∙ none in
+    some (h.text ∙ ap (λ ps. joined ps) (rest_none h.told h.rest both))
+  where
+    rest_none : (xs ys : List (List ℕ)) → xs ++ ys ≡ [] → ys ≡ []
+    rest_none [] ys e = e
+    rest_none (x ∷ xs) ys e = absurd (cc)

@@ -64,6 +64,14 @@ EndIs Whole p parts ends.OutOfMemory = (part : List ℕ) × Whole p (parts ++ pa
 abbrev pub HasWritten : Option (List ℕ) → Option (List ℕ) → List (List ℕ) → ℕ → Type 0
 HasWritten first now parts written = Appends first now (joined parts) × (written ≡ told (length (joined parts)))
 
+-- Of these parts the writer took the first ones since it had taken first, and the texts of the others are gathered.
+pub record Gathers (first now : Option (List ℕ)) (parts : List (List ℕ)) (written : ℕ) (gathered : List ℕ) : Type 0 where
+  pub told : List (List ℕ)
+  pub rest : List (List ℕ)
+  pub parts_are : parts ≡ told ++ rest
+  pub wrote : HasWritten first now told written
+  pub text : gathered ≡ joined rest
+
 -- A run that ends after these bytes were read, however much the source has left: the outcome that is right, its parts, and
 -- what was written.
 pub record EndsSo (Right : Reading → Outcome → List (List ℕ) → Type 0) (read : List ℕ) (left : Option (List ℕ)) (read_failed : Bool)
@@ -78,6 +86,12 @@ pub record Before (Took : List ℕ → List (List ℕ) → Type 0) (first now : 
   pub parts : List (List ℕ)
   pub took : Took read parts
   pub wrote : HasWritten first now parts written
+
+-- The same within a piece, where texts of parts are gathered.
+pub record BeforeGathered (Took : List ℕ → List (List ℕ) → Type 0) (first now : Option (List ℕ)) (written : ℕ) (read gathered : List ℕ) : Type 0 where
+  pub parts : List (List ℕ)
+  pub took : Took read parts
+  pub gathers : Gathers first now parts written gathered
 
 -- What the loop of reads has done so far.
 pub record StreamedSoFar (Took : List ℕ → List (List ℕ) → Type 0) (coming left : Option (List ℕ)) (first now : Option (List ℕ)) (written : ℕ) (failed : Bool) : Type 0 where

@@ -126,7 +126,7 @@ pub(crate) fn run_check<R: Source, W: Sink>(
     ensures asks { R.asks reader.new ≤ R.asks reader.old + limits.max_stream + 1 }
 {
     let mut kept = KeptReader::new(alloc, profile, limits);
-    match read_stream(&mut kept, reader, writer, limits.max_stream) {
+    match read_stream(alloc, &mut kept, reader, writer, limits.max_stream) {
         Streamed::Ended(outcome) => outcome,
         Streamed::AtEnd { .. } => told_findings(alloc, kept, writer),
     }

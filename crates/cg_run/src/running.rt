@@ -145,7 +145,7 @@ fn run_entries<R: Source, W: Sink>(
     ensures asks { R.asks reader.new ≤ R.asks reader.old + limits.max_stream + 1 }
 {
     let entries = EntryReader::new(alloc, profile, limits, telling);
-    run_stream(entries, reader, writer, limits.max_stream)
+    run_stream(alloc, entries, reader, writer, limits.max_stream)
 }
 
 /// Runs a command: reads from the source by pieces, and writes to the sink.
@@ -174,6 +174,7 @@ pub fn run<R: Source, W: Sink>(
         }
         Command::Kinds => told_kinds(profile, writer),
         Command::Plan => run_stream(
+            alloc,
             PlannedReader::new(alloc, profile, limits),
             reader,
             writer,

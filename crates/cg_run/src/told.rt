@@ -1,12 +1,13 @@
 //! What a run writes: texts, and its last line.
-ghost use Rattle.std.specs.Prelude.{◌≡◌, List, ℕ, [], ◌∷◌, ◌++◌, false, Option, MatchOption, IfSome};
+ghost use Rattle.std.specs.Prelude.{◌≡◌, List, ℕ, [], ◌∷◌, ◌++◌, false, Option, MatchBool, MatchOption, IfSome};
 ghost use Rattle.cg_run.specs.Outcome.{last_line, is_write_fault};
 ghost use Rattle.cg_run.specs.Run.{Wrote, IsRealFault, joined};
-ghost use Rattle.cg_run.specs.Streaming.{HasWritten};
+ghost use Rattle.cg_run.specs.Streaming.{Gathers, HasWritten};
 ghost use Rattle.cg_run.specs.declared.outcome.Outcome.{Outcome};
 
 use crate::line::last_line_of;
 use crate::outcome::Outcome;
+use crate::running::PIECE;
 use cg_print::{Sink, WriteStopped, write_text};
 
 /// Writes the text of an outcome, and answers the outcome, or how much of the text was taken.
@@ -60,5 +61,75 @@ pub(crate) fn told_part<W: Sink>(writer: &mut W, part: &[u8], written: &mut u64)
         Err(WriteStopped { written: more }) => Some(Outcome::WriteFault {
             written: written.saturating_add(more),
         }),
+    }
+}
+
+/// Writes the texts of parts that were gathered, and counts their bytes. The answer is the writer's fault, if it failed.
+pub(crate) fn told_gathered<W: Sink>(
+    writer: &mut W,
+    gathered: &[u8],
+    written: &mut u64,
+) -> Option<Outcome>
+    ensures wrote { (first : Option (List ℕ)) (parts : List (List ℕ)) → Gathers first (W.taken writer.old) parts written.old gathered.now →
+        MatchOption result (HasWritten first (W.taken writer.new) parts written.new)
+        (λ fault. (rest : List ℕ) (wanted : Outcome) → Wrote first (W.taken writer.new) (W.has_failed writer.new) (joined parts ++ rest) wanted fault) }
+    ensures real { IfSome result (λ fault. IsRealFault fault (W.has_failed writer.new)) }
+{
+    told_part(writer, gathered, written)
+}
+
+/// Writes the texts of parts that were gathered, and then the last line of an outcome.
+pub(crate) fn told_last<W: Sink>(
+    writer: &mut W,
+    gathered: &[u8],
+    written: &mut u64,
+    outcome: Outcome,
+) -> Outcome
+    requires { is_write_fault outcome ≡ false }
+    ensures wrote { (first : Option (List ℕ)) (parts : List (List ℕ)) → Gathers first (W.taken writer.old) parts written.old gathered.now →
+        Wrote first (W.taken writer.new) (W.has_failed writer.new) (joined parts ++ last_line outcome) outcome result }
+    ensures real { IsRealFault result (W.has_failed writer.new) }
+{
+    match told_gathered(writer, gathered, written) {
+        None => told_after(writer, *written, outcome),
+        Some(fault) => fault,
+    }
+}
+
+/// Adds a text to those that are gathered, unless they are many or no memory is left for it. Answers whether it did.
+fn is_added(gathered: &mut Vec<u8>, text: &[u8]) -> bool
+    ensures { MatchBool result (gathered.new.items ≡ gathered.old.items ++ text.now) (gathered.new.items ≡ gathered.old.items) }
+{
+    if gathered.len() >= PIECE {
+        return false;
+    }
+    match gathered.extend_from_slice(text) {
+        Ok(()) => true,
+        Err(_) => false,
+    }
+}
+
+/// Gathers the text of a part. Where those that are gathered are many, or no memory is left for it beside them, they are
+/// written first. The answer is the writer's fault, if it failed.
+pub(crate) fn gather<W: Sink>(
+    gathered: &mut Vec<u8>,
+    part: Vec<u8>,
+    writer: &mut W,
+    written: &mut u64,
+) -> Option<Outcome>
+    ensures wrote { (first : Option (List ℕ)) (parts : List (List ℕ)) → Gathers first (W.taken writer.old) parts written.old gathered.old.items →
+        MatchOption result (Gathers first (W.taken writer.new) (parts ++ part.items ∷ []) written.new gathered.new.items)
+        (λ fault. (rest : List ℕ) (wanted : Outcome) → Wrote first (W.taken writer.new) (W.has_failed writer.new) (joined (parts ++ part.items ∷ []) ++ rest) wanted fault) }
+    ensures real { IfSome result (λ fault. IsRealFault fault (W.has_failed writer.new)) }
+{
+    if is_added(gathered, part.as_slice()) {
+        return None;
+    }
+    match told_gathered(writer, gathered.as_slice(), written) {
+        None => {
+            *gathered = part;
+            None
+        }
+        Some(fault) => Some(fault),
     }
 }

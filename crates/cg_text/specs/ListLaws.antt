@@ -8,7 +8,7 @@ use Rattle.cg_text.specs.Numbers.{IsSetFrom}
 use Rattle.cg_text.specs.List.{IsRangeText, AreRangeTexts, IsStrictList}
 use Rattle.cg_text.specs.RangesState.{front, LowRest, AfterRange, RangesRest, begin_of, Begun}
 use Rattle.cg_text.specs.ListState.{IsListRest, IsSound}
-use Rattle.cg_text.specs.RangesLaws.{append_nil, rest_digit, not_zero, front_push, length_pushed, ranges_same, rest_comma, rest_dash, ranges_complete, ranges_nil, rest_one, some_decimal, decimal_from, decimal_any, front_length}
+use Rattle.cg_text.specs.RangesLaws.{append_nil, rest_digit, rest_digits, not_zero, front_push, length_pushed, ranges_same, rest_comma, rest_dash, ranges_complete, ranges_nil, rest_one, some_decimal, decimal_from, decimal_any, front_length}
 
 pub IsSetFrom_prop : (least : ℕ) (rs : List (ℕ × ℕ)) → IsProp (IsSetFrom least rs)
 IsSetFrom_prop least [] = Unit-prop
@@ -22,6 +22,13 @@ pub list_digit : (most byte : ℕ) (P P' : List ℕ → ℕ → Type 0) → 48 �
     front new ≡ front items → 0 < length new → (rest : List ℕ) (all : List (ℕ × ℕ)) →
     IsListRest new most low P' rest all ↔ IsListRest items most low P (byte ∷ rest) all
 list_digit most byte P P' digit f items new low e some rest all = rw e (rest_digit true most byte P P' digit f items new low some (λ rs. all ≡ front items ++ rs) rest)
+
+-- The same of a run of digits.
+pub list_digits : (most : ℕ) (P P' : List ℕ → ℕ → Type 0) (run : List ℕ) → 0 < length run → AreDigits run →
+    ((x : List ℕ) (n : ℕ) → P' x n ↔ P (run ++ x) n) → (items new : List (ℕ × ℕ)) (low : Option ℕ) →
+    front new ≡ front items → 0 < length new → (rest : List ℕ) (all : List (ℕ × ℕ)) →
+    IsListRest new most low P' rest all ↔ IsListRest items most low P (run ++ rest) all
+list_digits most P P' run many digits f items new low e some rest all = rw e (rest_digits true most P P' run many digits f items new low some (λ rs. all ≡ front items ++ rs) rest)
 
 -- A comma or a dash after a number that has ended.
 module _ (most n : ℕ) (P : List ℕ → ℕ → Type 0) (ended : P [] n) (one : (m : ℕ) → P [] m → m ≡ n) (digits : (x : List ℕ) (m : ℕ) → P x m → AreDigits x) where

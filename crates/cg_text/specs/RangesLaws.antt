@@ -385,6 +385,27 @@ digit_byte old new byte f =
     let k = IsDecimalRest_completes new.lo new.hi new.progress new.range new.live in
     (number_digits old.lo old.hi old.progress (byte ∷ k.0) k.1 ((f k.0 k.1).0 k.2)).0
 
+-- The same of a run of digits.
+pub rest_digits : (strict : Bool) (most : ℕ) (P P' : List ℕ → ℕ → Type 0) (run : List ℕ) → 0 < length run → AreDigits run →
+    ((x : List ℕ) (n : ℕ) → P' x n ↔ P (run ++ x) n) → (items new : List (ℕ × ℕ)) (low : Option ℕ) → 0 < length new → (A : List (ℕ × ℕ) → Type 0) (rest : List ℕ) →
+    ListRest strict new most low P' A rest ↔ ListRest strict items most low P A (run ++ rest)
+rest_digits strict most P P' [] many digits f items new low some A rest = absurd (omega (arith, many))
+rest_digits strict most P P' (b ∷ []) many digits f items new low some A rest = rest_digit strict most b P P' digits.0 f items new low some A rest
+rest_digits strict most P P' (b ∷ c ∷ cs) many digits f items new low some A rest =
+    let first = rest_digit strict most b P (λ x n. P (b ∷ x) n) digits.0 (λ x n. (λ h. h, λ h. h)) items new low some A ((c ∷ cs) ++ rest) in
+    let others = rest_digits strict most (λ x n. P (b ∷ x) n) P' (c ∷ cs) (omega arith) digits.2 f new new low some A rest in
+    (λ h. first.0 (others.0 h), λ h. others.1 (first.1 h))
+
+digits_before : (xs ys : List ℕ) → AreDigits (xs ++ ys) → AreDigits xs
+digits_before [] ys h = tt
+digits_before (x ∷ xs) ys h = (h.0, h.1, digits_before xs ys h.2)
+
+-- What a number takes are digits.
+pub run_digits : (old new : DecimalText) (run : List ℕ) → ((x : List ℕ) (n : ℕ) → number_rest new x n ↔ number_rest old (run ++ x) n) → AreDigits run
+run_digits old new run f =
+    let k = IsDecimalRest_completes new.lo new.hi new.progress new.range new.live in
+    digits_before run k.0 (number_digits old.lo old.hi old.progress (run ++ k.0) k.1 ((f k.0 k.1).0 k.2))
+
 pub number_one : (d : DecimalText) (n : ℕ) → number_rest d [] n → (m : ℕ) → number_rest d [] m → m ≡ n
 number_one d n h m k = IsDecimalRest_one d.lo d.hi d.progress [] m n k h
 

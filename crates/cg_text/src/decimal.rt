@@ -91,7 +91,7 @@ fn take_digits(hi: u64, n: u64, bytes: &[u8]) -> (u64, usize)
     (number, bytes.len())
 }
 
-/// The state after more digits, and how many: those after which every number is of the range.
+/// The state after more digits, and how many: all that lead to a number of the range, or none.
 fn after_digits(lo: u64, hi: u64, progress: Progress, bytes: &[u8]) -> (Progress, usize)
     requires live { IsTrue (is_open lo hi progress) }
     ensures within { result.1 ≤ length bytes.now }
@@ -100,10 +100,13 @@ fn after_digits(lo: u64, hi: u64, progress: Progress, bytes: &[u8]) -> (Progress
 {
     match progress {
         Progress::Number(n) => {
-            if n < lo || hi < n {
+            if hi < n {
                 return (progress, 0);
             }
             let (number, count) = take_digits(hi, n, bytes);
+            if number < lo {
+                return (progress, 0);
+            }
             (Progress::Number(number), count)
         }
         _ => (progress, 0),

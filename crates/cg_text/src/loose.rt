@@ -97,6 +97,21 @@ impl Token for LooseListText {
         }
     }
 
+    fn run(&mut self, bytes: &[u8]) -> usize {
+        let mut number = self.number;
+        let count = number.run(bytes);
+        if count == 0 {
+            return 0;
+        }
+        match open(&mut self.ranges) {
+            Ok(()) => {
+                self.number = number;
+                count
+            }
+            Err(_) => 0,
+        }
+    }
+
     fn allows(&self, byte: u8) -> bool {
         match list_byte(false, self.most, self.low, self.number, byte) {
             ListByte::Refused => false,

@@ -1,84 +1,44 @@
-use Rattle.std.proofs.Common.{◌≡◌, ◌++◌, ◌∷◌, [], ℕ, List, ap, sym, subst, ◌∙◌, take, drop, length, length-drop, arith}
-use Rattle.cg_run.proofs.Streams.{fault_ends, memory_ends, stop_ends, text_on}
+use Rattle.std.proofs.Common.{◌≡◌, ◌≢◌, ◌++◌, ◌∷◌, [], ℕ, List, sym, ◌∙◌, ap, subst, take, drop, length, append-nil, arith, refl}
+use Rattle.std.proofs.Math.Seq.{take-length}
+use Rattle.std.proofs.lemmas.Grind.{common_steps}
+use Rattle.cg_run.specs.Streaming.{Before, BeforeGathered, Gathers}
+use Rattle.cg_run.proofs.Streams.{parts_fault_ends}
+use Rattle.cg_run.proofs.Written.{gathered_none, gathered_some, gathers_none}
 use Rattle.cg_run.proofs.streaming.take_parts.Goals as goal
+
+nothing_left : (xs : List ℕ) → [] ≡ drop (length xs) xs
+nothing_left [] = refl
+nothing_left (x ∷ xs) = nothing_left xs
 
 pub returns-in-Some-clause-took : goal.returns-in-Some-clause-took
 returns-in-Some-clause-took g c form first read h left failed =
-    let at = c.loop-used.used in
-    let s = c.next-next.new.self in
-    let b = c.loop-used.invariant.before form first read h in
-    let found = rw c.in-Part.is at (c.next-next.ensures.found form (read ++ take at c.args.piece.now) b.parts b.took) in
-    let took = subst (λ (t : List ℕ). g.S.StreamReader.took s form
-    ((read ++ take at c.args.piece.now) ++ take c.next-next.result.used c.split_at.result.1.now)
-    (b.parts ++ t ∷ [])) (sym (c.as_slice.ensures.value ∙ ap (λ v. v.items) c.in-Part.text-is)) found in
-    fault_ends (g.S.StreamReader.took s form) (g.S.StreamReader.whole form) (g.S.StreamReader.closes form)
-    (g.S.StreamReader.unstopped form) (g.S.StreamReader.stops form) (g.met.S.StreamReader.closed s form)
-    (g.met.S.StreamReader.passed s form)
-    read c.args.piece.now c.split_at.result.1.now at c.next-next.result.used c.split_at.ensures.back c.loop-used.invariant.within c.next-next.ensures.used left failed
-    first (g.W.Sink.taken c.told_part.new.writer) (g.W.Sink.has_failed c.told_part.new.writer) b.parts c.as_slice.result.now c.in-Some.fault took (c.in-Some.ensures.wrote first b.parts b.wrote)
+    c.in-Some.ensures.took form first read (record { parts = h.parts; took = h.took; gathers = gathers_none first (g.W.Sink.taken c.args.writer.now) h.parts c.args.written.now c.new-gathered.result.items c.new-gathered.ensures.items h.wrote }) left failed
 
-pub loop-used-preserved : goal.loop-used-preserved
-loop-used-preserved g c =
-    let at = c.loop-used.used in
-    let n = c.next-next.result.used in
+pub returns-then-is_empty-clause-took : goal.returns-then-is_empty-clause-took
+returns-then-is_empty-clause-took g c form first read h =
+    let b = c.in-None.ensures.took form first read (record { parts = h.parts; took = h.took; gathers = gathers_none first (g.W.Sink.taken c.args.writer.now) h.parts c.args.written.now c.new-gathered.result.items c.new-gathered.ensures.items h.wrote }) in
+    let none : c.gather_parts.new.gathered.items ≡ [] = grind (arith, common_steps) in
+    record { parts = b.parts; took = b.took; wrote = gathered_none first (g.W.Sink.taken c.gather_parts.new.writer) b.parts c.gather_parts.new.written c.gather_parts.new.gathered.items none b.gathers }
+
+pub returns-in-None-told_gathered-clause-took : goal.returns-in-None-told_gathered-clause-took
+returns-in-None-told_gathered-clause-took g c form first read h =
+    let b = c.in-None.ensures.took form first read (record { parts = h.parts; took = h.took; gathers = gathers_none first (g.W.Sink.taken c.args.writer.now) h.parts c.args.written.now c.new-gathered.result.items c.new-gathered.ensures.items h.wrote }) in
+    let gathers = subst (λ (t : List ℕ). Gathers first (g.W.Sink.taken c.gather_parts.new.writer) b.parts c.gather_parts.new.written t) (sym c.as_slice.ensures.value) b.gathers in
+    record { parts = b.parts; took = b.took; wrote = c.in-None-told_gathered.ensures.wrote first b.parts gathers }
+
+pub returns-clause-took : goal.returns-clause-took
+returns-clause-took g c form first read h left failed =
+    let b = c.in-None.ensures.took form first read (record { parts = h.parts; took = h.took; gathers = gathers_none first (g.W.Sink.taken c.args.writer.now) h.parts c.args.written.now c.new-gathered.result.items c.new-gathered.ensures.items h.wrote }) in
+    let gathers = subst (λ (t : List ℕ). Gathers first (g.W.Sink.taken c.gather_parts.new.writer) b.parts c.gather_parts.new.written t) (sym c.as_slice.ensures.value) b.gathers in
     let piece = c.args.piece.now in
-    let rest = c.split_at.result.1.now in
-    let s = c.next-next.new.self in
-    let left : length rest ≡ length (drop at piece) = ap length c.split_at.ensures.back in
-    record {
-      within = omega (arith, c.next-next.ensures.used, left, length-drop at piece, c.loop-used.invariant.within);
-      before = λ form first read h.
-          let b = c.loop-used.invariant.before form first read h in
-          let found = rw c.in-Part.is at (c.next-next.ensures.found form (read ++ take at piece) b.parts b.took) in
-          let took = subst (λ (t : List ℕ). g.S.StreamReader.took s form ((read ++ take at piece) ++ take n rest) (b.parts ++ t ∷ [])) (sym (c.as_slice.ensures.value ∙ ap (λ v. v.items) c.in-Part.text-is)) found in
-          record {
-            parts = b.parts ++ c.as_slice.result.now ∷ [];
-            took = subst (λ (t : List ℕ). g.S.StreamReader.took s form t (b.parts ++ c.as_slice.result.now ∷ [])) (text_on read piece rest at n c.split_at.ensures.back) took;
-            wrote = c.in-None.ensures.wrote first b.parts b.wrote;
-          };
-    }
-
-pub loop-used-preserved-in-Kept : goal.loop-used-preserved-in-Kept
-loop-used-preserved-in-Kept g c =
-    let at = c.loop-used.used in
-    let n = c.next-next.result.used in
-    let piece = c.args.piece.now in
-    let rest = c.split_at.result.1.now in
-    let left : length rest ≡ length (drop at piece) = ap length c.split_at.ensures.back in
-    record {
-      within = omega (arith, c.next-next.ensures.used, left, length-drop at piece, c.loop-used.invariant.within);
-      before = λ form first read h.
-          let b = c.loop-used.invariant.before form first read h in
-          let took = rw c.in-Kept.is at (c.next-next.ensures.found form (read ++ take at piece) b.parts b.took) in
-          record {
-            parts = b.parts;
-            took = subst (λ (t : List ℕ). g.S.StreamReader.took c.next-next.new.self form t b.parts) (text_on read piece rest at n c.split_at.ensures.back) took;
-            wrote = b.wrote;
-          };
-    }
-
-pub returns-in-Stopped-clause-took : goal.returns-in-Stopped-clause-took
-returns-in-Stopped-clause-took g c form first read h left failed =
-    let at = c.loop-used.used in
-    let s = c.next-next.new.self in
-    let b = c.loop-used.invariant.before form first read h in
-    let found = rw c.in-Stopped.is at (c.next-next.ensures.found form (read ++ take at c.args.piece.now) b.parts b.took) in
-    stop_ends (g.S.StreamReader.took s form) (g.S.StreamReader.whole form) (g.S.StreamReader.closes form)
+    let s = c.gather_parts.new.stream in
+    let some : c.gather_parts.new.gathered.items ≢ [] = λ e. absurd (let many = ap length e in grind (arith, common_steps)) in
+    let all : read ++ piece ≡ (read ++ take (length piece) piece) ++ [] = ap (λ t. read ++ t) (sym (take-length piece)) ∙ sym (append-nil (read ++ take (length piece) piece)) in
+    parts_fault_ends (g.S.StreamReader.took s form) (g.S.StreamReader.whole form) (g.S.StreamReader.closes form)
     (g.S.StreamReader.unstopped form) (g.S.StreamReader.stops form) (g.met.S.StreamReader.closed s form)
     (g.met.S.StreamReader.passed s form)
-    read c.args.piece.now c.split_at.result.1.now at c.next-next.result.used c.split_at.ensures.back c.loop-used.invariant.within c.next-next.ensures.used left failed
-    first (g.W.Sink.taken c.told_after.new.writer) (g.W.Sink.has_failed c.told_after.new.writer) b.parts c.in-Stopped.stop c.told_after.result found.0 found.1 found.2 found.3 (c.told_after.ensures.wrote first b.parts b.wrote)
-
-pub returns-in-OutOfMemory-clause-took : goal.returns-in-OutOfMemory-clause-took
-returns-in-OutOfMemory-clause-took g c form first read h left failed =
-    let at = c.loop-used.used in
-    let s = c.next-next.new.self in
-    let b = c.loop-used.invariant.before form first read h in
-    let found = rw c.in-OutOfMemory.is at (c.next-next.ensures.found form (read ++ take at c.args.piece.now) b.parts b.took) in
-    memory_ends (g.S.StreamReader.took s form) (g.S.StreamReader.whole form) (g.S.StreamReader.closes form)
-    (g.S.StreamReader.unstopped form) (g.S.StreamReader.stops form) (g.met.S.StreamReader.closed s form)
-    (g.met.S.StreamReader.passed s form)
-    read c.args.piece.now c.split_at.result.1.now at c.next-next.result.used c.split_at.ensures.back c.loop-used.invariant.within c.next-next.ensures.used left failed
-    first (g.W.Sink.taken c.told_after-in-OutOfMemory.new.writer)
-    (g.W.Sink.has_failed c.told_after-in-OutOfMemory.new.writer) b.parts c.told_after-in-OutOfMemory.result
-    found (c.told_after-in-OutOfMemory.ensures.wrote first b.parts b.wrote)
+    read piece [] (length piece) 0 (nothing_left piece) (omega arith) (omega arith) left failed
+    first (g.W.Sink.taken c.told_gathered.new.writer) (g.W.Sink.has_failed c.told_gathered.new.writer) b.parts c.in-Some-told_gathered.fault
+    (gathered_some first (g.W.Sink.taken c.gather_parts.new.writer) b.parts c.gather_parts.new.written c.gather_parts.new.gathered.items some b.gathers)
+    (subst (λ (t : List ℕ). g.S.StreamReader.took s form t b.parts) all b.took)
+    (c.in-Some-told_gathered.ensures.wrote first b.parts gathers)
