@@ -2,8 +2,7 @@
 use Rattle.std.proofs.Common.{◌≡◌, ℕ, ◌≤◌, ◌↔◌, List, [], ◌∷◌, ◌++◌, refl, sym, ◌∙◌, ap, arith}
 use Rattle.std.specs.List.{AllZip}
 use Rattle.cg_text.specs.Raw.{IsRawLine}
-use Rattle.cg_text.specs.RawLaws.{raw_bytes}
-use Rattle.cg_text.specs.Token.{AreBytes, HasOneText}
+use Rattle.cg_text.specs.Token.{HasOneText}
 use Rattle.cg_join.specs.Line.{LacksByte}
 use Rattle.cg_join.specs.Lines.{AreLines}
 use Rattle.cg_join.specs.Spelling.{IsTurned}
@@ -12,7 +11,7 @@ use Rattle.cg_value.specs.Lines.{unlines, AreLinesOf}
 use Rattle.cg_value.specs.ReadLine.{IsRaw}
 use Rattle.cg_value.specs.declared.kind.ReadForm.{ReadForm}
 use Rattle.cg_value.specs.declared.value.Value.{Value}
-use Rattle.cg_value.specs.declared.value.Value.TheVariants.{Numbers, Raw}
+use Rattle.cg_value.specs.declared.value.Value.TheVariants.{Numbers}
 
 -- How the values of lines are turned into those of files.
 abbrev pub numbers_value : List ℕ → Value

@@ -1,11 +1,8 @@
 -- What holds of files of raw lines.
-use Rattle.std.proofs.Common.{◌≡◌, ◌≢◌, ℕ, zero, suc, ◌+◌, ◌<◌, ◌≤◌, ◌↔◌, List, [], ◌∷◌, ◌++◌, length, take, get_or, IsTrue, refl, sym, ◌∙◌, ap, subst, append_assoc, length-append, arith}
+use Rattle.std.proofs.Common.{◌≡◌, ℕ, ◌+◌, ◌<◌, ◌≤◌, ◌↔◌, List, [], ◌∷◌, ◌++◌, length, IsTrue, refl, sym, ◌∙◌, ap, subst, append_assoc, length-append, arith}
 use Rattle.std.proofs.lemmas.List.{append-nil}
 use Rattle.std.proofs.lemmas.List.Sums.{sum_by-cons}
-use Rattle.std.specs.List.{AllByRecursion, AllZip, sum_by}
-use Rattle.memchr.specs.Find.{Nowhere, Passes, is_byte}
-use Rattle.cg_text.specs.Raw.{IsRawLine}
-use Rattle.cg_text.specs.Texts.{Lacks}
+use Rattle.std.specs.List.{AllZip, sum_by}
 use Rattle.cg_text.specs.Token.{AreBytes}
 use Rattle.cg_value.specs.Files.{KindText}
 use Rattle.cg_value.specs.Lines.{unlines}

@@ -3,7 +3,6 @@ use Rattle.std.proofs.lemmas.Bool.{not-false}
 use Rattle.std.proofs.lemmas.Bool.Decides.{Decides-eqb, Decides-not}
 use Rattle.std.proofs.lemmas.Slice.Eq.{slice_eq-Decides}
 use Rattle.cg_value.specs.Path.{IsNameOf}
-use Rattle.cg_value.specs.declared.value.Value.TheVariants.{Raw}
 use Rattle.cg_line.specs.MadeLaws.{one_name}
 use Rattle.cg_line.proofs.upgrading.raw_lines.Goals as goal
 

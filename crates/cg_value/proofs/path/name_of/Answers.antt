@@ -1,4 +1,4 @@
-use Rattle.std.proofs.Common.{◌+◌, get_or, eqb-true}
+use Rattle.std.proofs.Common.{get_or, eqb-true}
 use Rattle.cg_value.specs.PathLaws.{name_alone, name_behind}
 use Rattle.cg_value.proofs.path.name_of.Goals as goal
 use Rattle.cg_value.proofs.path.name_of.Goals.{in-Some, in-None}

@@ -1,4 +1,4 @@
-use Rattle.std.proofs.Common.{◌≡◌, length, get_or, eqb-true, arith}
+use Rattle.std.proofs.Common.{◌≡◌, length, get_or, eqb-true}
 use Rattle.std.proofs.Math.Seq.{take-length}
 use Rattle.std.proofs.Common.{subst}
 use Rattle.cg_text.specs.Texts.{Lacks}

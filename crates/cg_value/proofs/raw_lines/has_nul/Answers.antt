@@ -1,4 +1,4 @@
-use Rattle.std.proofs.Common.{◌≡◌, get_or, refl, sym, eqb-true, arith}
+use Rattle.std.proofs.Common.{get_or, refl, eqb-true, arith}
 use Rattle.cg_text.specs.WordLaws.{true_not_false}
 use Rattle.cg_value.specs.LinesOfLaws.{no_nul_all, nul_there}
 use Rattle.cg_value.proofs.raw_lines.has_nul.Goals as goal

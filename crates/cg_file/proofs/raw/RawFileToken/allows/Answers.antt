@@ -1,4 +1,4 @@
-use Rattle.std.proofs.Common.{◌≡◌, ◌<◌, nat_eq, refl, sym, arith, eq-eqb}
+use Rattle.std.proofs.Common.{◌<◌, nat_eq, arith}
 use Rattle.std.proofs.lemmas.Bool.{eqb-false, ne_eqb, not-true, not_from_false}
 use Rattle.cg_file.specs.RawFileLaws.{raw_file_begins}
 use Rattle.cg_file.proofs.raw.RawFileToken.allows.Goals as goal

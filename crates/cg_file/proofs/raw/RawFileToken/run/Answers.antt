@@ -1,5 +1,4 @@
-use Rattle.std.proofs.Common.{◌≡◌, ◌<◌, ℕ, get_or, length, take, subst, arith}
-use Rattle.std.proofs.Math.Seq.{take-length}
+use Rattle.std.proofs.Common.{◌<◌, ℕ, get_or, length, take, arith}
 use Rattle.cg_value.specs.LinesOfLaws.{no_nul_searched}
 use Rattle.cg_value.specs.RawLines.{HasNoNul}
 use Rattle.cg_file.specs.RawFileLaws.{raw_file_run}

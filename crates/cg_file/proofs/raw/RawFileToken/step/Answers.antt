@@ -1,4 +1,4 @@
-use Rattle.std.proofs.Common.{◌<◌, arith}
+use Rattle.std.proofs.Common.{arith}
 use Rattle.cg_file.specs.RawFileLaws.{raw_file_begins}
 use Rattle.cg_file.proofs.raw.RawFileToken.step.Goals as goal
 

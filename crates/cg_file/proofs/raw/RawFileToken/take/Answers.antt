@@ -1,4 +1,3 @@
-use Rattle.cg_file.specs.RawFileLaws.{raw_file_value}
 use Rattle.cg_value.specs.LinesOfLaws.{ended_whole}
 use Rattle.cg_file.proofs.raw.RawFileToken.take.Goals as goal
 

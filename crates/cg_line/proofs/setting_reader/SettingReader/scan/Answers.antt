@@ -1,4 +1,4 @@
-use Rattle.std.proofs.Common.{◌≡◌, ◌≤◌, ◌+◌, inr, length, take, length-take, arith}
+use Rattle.std.proofs.Common.{◌≤◌, ◌+◌, inr, length, take, length-take, arith}
 use Rattle.cg_line.specs.Takes.{held_of}
 use Rattle.cg_line.specs.TakesLaws.{took_run}
 use Rattle.cg_write.specs.contracts.write_text.WriteTextToken.TheImpl.{ghosts}

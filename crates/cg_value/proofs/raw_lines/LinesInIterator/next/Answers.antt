@@ -1,4 +1,4 @@
-use Rattle.std.proofs.Common.{◌≡◌, length, sym, ◌∙◌, ap, arith}
+use Rattle.std.proofs.Common.{length, sym, ◌∙◌, ap, arith}
 use Rattle.cg_value.specs.LinesOfLaws.{cut_lines, cut_whole, plain_none}
 use Rattle.cg_value.proofs.raw_lines.LinesInIterator.next.Goals as goal
 
