@@ -1,4 +1,4 @@
-use Rattle.std.proofs.Common.{◌≡◌, ◌++◌, ◌∷◌, [], ℕ, List, ap, sym, subst, ◌∙◌, take, drop, length, length-drop, arith}
+use Rattle.std.proofs.Common.{◌≡◌, ◌++◌, ◌∷◌, [], ℕ, List, ap, sym, subst, take, drop, length, length-drop, arith}
 use Rattle.cg_run.specs.Run.{Wrote, joined}
 use Rattle.cg_run.specs.Streaming.{Gathers}
 use Rattle.cg_run.proofs.Streams.{fault_ends, memory_ends, stop_ends, text_on}
@@ -68,7 +68,8 @@ returns-in-Stopped-clause-took g c form first read h left failed =
     (g.S.StreamReader.unstopped form) (g.S.StreamReader.stops form) (g.met.S.StreamReader.closed s form)
     (g.met.S.StreamReader.passed s form)
     read c.args.piece.now c.split_at.result.1.now at c.next-next.result.used c.split_at.ensures.back c.loop-used.invariant.within c.next-next.ensures.used left failed
-    first (g.W.Sink.taken c.told_last.new.writer) (g.W.Sink.has_failed c.told_last.new.writer) b.parts c.in-Stopped.stop c.told_last.result found.0 found.1 found.2 found.3 (c.told_last.ensures.wrote first b.parts (subst (λ (t : List ℕ). Gathers first (g.W.Sink.taken c.loop-used.writer) b.parts c.loop-used.written t) (sym c.as_slice.ensures.value) b.gathers))
+    first (g.W.Sink.taken c.told_last.new.writer) (g.W.Sink.has_failed c.told_last.new.writer) b.parts c.in-Stopped.stop c.told_last.result found.0 found.1 found.2 found.3
+    (c.told_last.ensures.wrote first b.parts (subst (λ (t : List ℕ). Gathers first (g.W.Sink.taken c.loop-used.writer) b.parts c.loop-used.written t) (sym c.as_slice.ensures.value) b.gathers))
 
 pub returns-in-OutOfMemory-clause-took : goal.returns-in-OutOfMemory-clause-took
 returns-in-OutOfMemory-clause-took g c form first read h left failed =
