@@ -57,7 +57,36 @@ fn advance<R: Records>(records: &mut R, meter: &mut Meter, byte: u8) -> Moved<R:
     }
 }
 
-/// Takes at once the path of one more record with its NUL, or what comes of a path or of a line, and answers how many bytes.
+/// Takes at once the path of one more record with its NUL, and answers how many bytes.
+fn skip_head<R: Records>(records: &mut R, meter: &mut Meter, piece: &[u8]) -> usize
+    ensures skipped { (form : Profile) (p : List ℕ) (es : List R.Part) →
+        IsAlong (R.language form) (R.breaks form) (R.many form) (R.closes form) (λ s. R.at s form) records.old meter.old p es →
+        IsAlong (R.language form) (R.breaks form) (R.many form) (R.closes form) (λ s. R.at s form) records.new meter.new (p ++ take result piece.now) es }
+    ensures within { result ≤ length piece.now }
+    ensures profile { R.profile records.new ≡ R.profile records.old }
+    ensures limits { meter.new.limits ≡ meter.old.limits }
+{
+    let head = records.take_head(piece, meter.room(), meter.limits.max_lines);
+    meter.count_run(head);
+    head
+}
+
+/// Takes at once what comes of a path or of a line, and answers how many bytes.
+fn skip_run<R: Records>(records: &mut R, meter: &mut Meter, piece: &[u8]) -> usize
+    ensures skipped { (form : Profile) (p : List ℕ) (es : List R.Part) →
+        IsAlong (R.language form) (R.breaks form) (R.many form) (R.closes form) (λ s. R.at s form) records.old meter.old p es →
+        IsAlong (R.language form) (R.breaks form) (R.many form) (R.closes form) (λ s. R.at s form) records.new meter.new (p ++ take result piece.now) es }
+    ensures within { result ≤ length piece.now }
+    ensures profile { R.profile records.new ≡ R.profile records.old }
+    ensures limits { meter.new.limits ≡ meter.old.limits }
+{
+    let used = records.take_run(piece, meter.room());
+    meter.count_run(used);
+    used
+}
+
+/// Takes at once the path of one more record with its NUL, and what comes of its line, or what comes of a path or of a line, and
+/// answers how many bytes.
 fn skip<R: Records>(records: &mut R, meter: &mut Meter, piece: &[u8]) -> usize
     ensures skipped { (form : Profile) (p : List ℕ) (es : List R.Part) →
         IsAlong (R.language form) (R.breaks form) (R.many form) (R.closes form) (λ s. R.at s form) records.old meter.old p es →
@@ -66,15 +95,9 @@ fn skip<R: Records>(records: &mut R, meter: &mut Meter, piece: &[u8]) -> usize
     ensures profile { R.profile records.new ≡ R.profile records.old }
     ensures limits { meter.new.limits ≡ meter.old.limits }
 {
-    let room = meter.room();
-    let head = records.take_head(piece, room, meter.limits.max_lines);
-    if head > 0 {
-        meter.count_run(head);
-        return head;
-    }
-    let used = records.take_run(piece, room);
-    meter.count_run(used);
-    used
+    let head = skip_head(records, meter, piece);
+    let (_, rest) = piece.split_at(head);
+    head + skip_run(records, meter, rest)
 }
 
 /// Takes bytes until a part is there, a byte stops the stream or no memory is left; where none of these comes, the whole piece.

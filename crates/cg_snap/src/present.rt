@@ -1,5 +1,6 @@
 //! The entry whose records come, and what one byte does to it.
-ghost use Rattle.std.specs.Prelude.{◌≡◌, ℕ, List, Some, true, MatchOption};
+ghost use Rattle.std.specs.Prelude.{◌≡◌, ℕ, List, [], Some, true, MatchOption};
+ghost use Rattle.cg_line.specs.Reads.{Reads};
 ghost use Rattle.cg_value.specs.Entry.{EntryData};
 ghost use Rattle.cg_snap.specs.DecoderState.{At, AtPath, Did, IsBetween, IsLineFlag, IsLineCount, IsOfKind};
 ghost use Rattle.cg_snap.specs.Course.{FullIs};
@@ -91,6 +92,22 @@ fn line_byte(begun: &Vec<u8>, present: &mut Present, byte: u8) -> Stepped<Entry>
     }
 }
 
+/// The entry whose path ended, of a file of this kind: its first line is begun, and no path any more.
+fn begin(alloc: Global, begun: &mut Vec<u8>, kind: ReadKind) -> Present
+    ensures path { result.path.items ≡ begun.old.items }
+    ensures begun { begun.new.items ≡ [] }
+    ensures reads { Reads result.reader kind [] }
+    ensures lines { result.lines ≡ 0 }
+    ensures in_line { result.in_line ≡ true }
+{
+    Present {
+        path: mem::replace(begun, Vec::new(alloc)),
+        reader: ValueReader::new(alloc, kind),
+        lines: 0,
+        in_line: true,
+    }
+}
+
 /// The NUL after a path of a file of this kind.
 fn end_path(
     alloc: Global,
@@ -102,36 +119,22 @@ fn end_path(
     ensures { (p : List ℕ) (es : List EntryData) → At profile begun.old.items present.old p es → IsBetween present.old → IsOfKind profile begun.old.items kind →
         Did profile begun.new.items present.new p es 0 result }
 {
-    match present.take() {
+    match present {
         None => {
-            let path = mem::replace(begun, Vec::new(alloc));
-            *present = Some(Present {
-                path,
-                reader: ValueReader::new(alloc, kind),
-                lines: 0,
-                in_line: true,
-            });
+            *present = Some(begin(alloc, begun, kind));
             Stepped::Taken
         }
-        Some(mut x) => {
+        Some(x) => {
             if x.path.as_slice() == begun.as_slice() {
-                if x.reader.takes_line() {
-                    begun.clear();
-                    x.in_line = true;
-                    *present = Some(x);
-                    return Stepped::Taken;
+                if !x.reader.takes_line() {
+                    return Stepped::Refused(Why::NoMoreLines);
                 }
-                *present = Some(x);
-                return Stepped::Refused(Why::NoMoreLines);
+                begun.clear();
+                x.in_line = true;
+                return Stepped::Taken;
             }
-            let path = mem::replace(begun, Vec::new(alloc));
-            *present = Some(Present {
-                path,
-                reader: ValueReader::new(alloc, kind),
-                lines: 0,
-                in_line: true,
-            });
-            match ended(profile, x) {
+            let before = mem::replace(x, begin(alloc, begun, kind));
+            match ended(profile, before) {
                 Some(entry) => Stepped::Given(entry),
                 None => Stepped::Refused(Why::NoMoreLines),
             }
