@@ -12,7 +12,7 @@ all: build/cgfile
 
 # The libraries, lowest first: each that was never proved here is, by as many processes as there are processors. Then the
 # program over them, which proves again what has changed.
-LIBRARIES = $(filter-out cgfile cg_bench cg_rows cg_real, $(shell sed -n 's/^\([a-z_]*\):.*/\1/p' crates.txt))
+LIBRARIES = $(filter-out cgfile cg_rows, $(shell sed -n 's/^\([a-z_]*\):.*/\1/p' crates.txt))
 
 build/cgfile: crates.txt $(shell find crates -path '*/out' -prune -o -type f -print) | version
 	for library in $(LIBRARIES); do (cd crates/$$library && { [ -e out/rlib/stamp ] || rt lib --jobs $(shell nproc); }) || exit 1; done
@@ -23,7 +23,7 @@ build/cgfile: crates.txt $(shell find crates -path '*/out' -prune -o -type f -pr
 # The kit that proves has the logic that `--version` and the README name. Another kit of that logic may judge by other tactics and
 # another standard library, so that is said: what is claimed rests then on a run of `make check` with it.
 version:
-	@for file in crates/cg_command/src/version.rt README.md; do grep -qF "$$(rt version | cut -d ' ' -f 2-)" $$file \
+	@for file in crates/cg_run/src/version.rt README.md; do grep -qF "$$(rt version | cut -d ' ' -f 2-)" $$file \
 	    || { echo "$$file names another logic than $$(rt version)" >&2; exit 1; }; done
 	@grep -qF "$$(rt version)" README.md || echo "note: the README names another kit of the same logic than $$(rt version)" >&2
 

@@ -5,6 +5,7 @@ pub mod BeginsLaws
 pub mod ByteLaws
 pub mod Choice
 pub mod ChoiceLaws
+pub mod ChoiceRunLaws
 pub mod ClampLaws
 pub mod ClampState
 pub mod CompositeLaws

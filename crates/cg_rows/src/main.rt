@@ -1,7 +1,13 @@
-//! Worked rows: runs of the program over bytes in memory, each compared with what the formats say of it.
+//! Worked rows: runs of the program over bytes in memory, each compared with what the formats say of it. And files that real
+//! kernels printed: each is read and written back.
 //!
-//! It runs in the folder `data`. The names of its tables come on standard input, one a line. It prints how many rows of each
-//! table agree, and before that a line for each row that doesn't: the row, and the run that differs.
+//! It runs in the folder `data`. The names of its tables and of the real files come on standard input, one a line. It prints
+//! how many rows of each table agree, and before that a line for each row that doesn't: the row, and the run that differs.
+//! Last it prints how many of the real texts are given back byte for byte, and before that a line for each that isn't.
+//!
+//! `real/NAME.N` holds the whole content of one file of the name NAME, and N only tells several contents apart. It is read and
+//! written back in both profiles. `real/NAME.snap` is a snapshot, as `grep -rZ '' DIR` made it. It is read in pieces of three
+//! lengths; what is written back are its entries' records, and what is shown of them is compared too.
 //!
 //! A table has a row a line, of fields with `|` between. Spaces around a field don't belong to it, and a line that ends in
 //! `\` goes on in the next. Lines that begin with `#`, and lines without a byte, are no rows. There are two forms:
@@ -18,26 +24,13 @@
 //! In a field `$` is a newline, `^` is NUL, and `\xNN` is the byte of two hexadecimal digits. A word without a byte is `""`.
 #![tactic(auto)]
 
-#[cfg(test)]
-mod calls;
-#[cfg(test)]
-mod encoded;
-#[cfg(test)]
-mod entries;
 mod escape;
-#[cfg(test)]
-mod plans;
+mod given_back;
 mod row;
-#[cfg(test)]
-mod snapshots;
-#[cfg(test)]
-mod starved;
-#[cfg(test)]
-mod starved_streams;
+mod shown;
 mod trial;
-#[cfg(test)]
-mod values;
 
+use given_back::{Tally, give_back};
 use row::row_of;
 use std::process::ExitCode;
 use std::{fs, io};
@@ -81,11 +74,22 @@ fn judge(rt: &HostRuntime, table: &str, text: &str) -> io::Result<()> {
     println!(rt; "{table}: {agreeing} of {all} rows agree")
 }
 
+/// Where the files of real kernels lie.
+const REAL: &str = "real/";
+
 fn main(rt: HostRuntime) -> io::Result<ExitCode> {
+    let mut tally = Tally { same: 0, all: 0 };
     for line in rt.lines(rt.alloc()) {
-        let table = line?;
-        let text = fs::read_to_string(&rt, table.as_str())?;
-        judge(&rt, table.as_str(), text.as_str())?;
+        let path = line?;
+        match path.as_str().strip_prefix(REAL) {
+            Some(copy) => give_back(&rt, path.as_str(), copy, &mut tally)?,
+            None => {
+                let text = fs::read_to_string(&rt, path.as_str())?;
+                judge(&rt, path.as_str(), text.as_str())?;
+            }
+        }
     }
+    let Tally { same, all } = tally;
+    println!(rt; "{same} of {all} texts of real kernels are written back byte for byte")?;
     Ok(ExitCode::from(0))
 }

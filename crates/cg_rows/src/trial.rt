@@ -1,8 +1,7 @@
 //! Runs of a row's command, and whether they do what the row says.
 use crate::row::{Claim, Reach, Row, RowFault, Told};
-use cg_command::{Command, UsageFault, parse_words};
 use cg_print::CutSink;
-use cg_run::{CutSource, Outcome, run, status};
+use cg_run::{Command, CutSource, Outcome, UsageFault, parse_words, run, status};
 use cg_snap::Limits;
 use cg_text::ByteSet;
 use cg_value::Profile;

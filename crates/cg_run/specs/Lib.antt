@@ -1,5 +1,6 @@
 pub mod Check
 pub mod Checked
+pub mod CommandLine
 pub mod Ended
 pub mod Entries
 pub mod Input
@@ -8,9 +9,12 @@ pub mod Kinds
 pub mod Outcome
 pub mod Planned
 pub mod Reading
+pub mod Rows
 pub mod Run
 pub mod Source
 pub mod Stream
 pub mod Streaming
+pub mod TableNames
 pub mod Taken
 pub mod TextReader
+pub mod Words

@@ -27,8 +27,8 @@ use Rattle.cg_run.specs.Outcome.{last_line}
 use Rattle.cg_run.specs.Stream.{IsStreamRight, PartsOf, item_part, json_part, shown_part}
 use Rattle.cg_run.specs.declared.outcome.Outcome.{Outcome}
 use Rattle.cg_run.specs.declared.outcome.Outcome.TheVariants as out
-use Rattle.cg_command.specs.declared.words.Command.{Command}
-use Rattle.cg_command.specs.declared.words.Command.TheVariants as command
+use Rattle.cg_run.specs.declared.words.Command.{Command}
+use Rattle.cg_run.specs.declared.words.Command.TheVariants as command
 
 -- Memory was refused at one of these bytes, and none up to it stops the run.
 pub record IsTextStarved (L : List ℕ → Type 0) (max : ℕ) (text : List ℕ) : Type 0 where

@@ -1,9 +1,11 @@
-//! A run of a command: from a source of bytes to a sink, with an exit status.
+//! The command line, and a run of a command from a source of bytes to a sink, with an exit status.
 #![tactic(auto)]
 
 mod checked;
+mod command_line;
 pub mod cut;
 mod entries;
+mod help;
 mod kept;
 mod kinds;
 mod line;
@@ -11,15 +13,20 @@ pub mod outcome;
 pub mod plain;
 mod planned;
 mod reading;
+pub mod rows;
 pub mod running;
 pub mod source;
 mod stream_reader;
 mod streaming;
+mod table_names;
 mod text_reader;
 mod told;
+mod version;
+mod words;
 
 pub use cut::CutSource;
 pub use outcome::{Outcome, status};
 pub use plain::PlainReader;
 pub use running::run;
 pub use source::Source;
+pub use words::{Command, UsageFault, parse_words};

@@ -16,7 +16,7 @@ use crate::source::Source;
 use crate::streaming::run_stream;
 use crate::text_reader::TextReader;
 use crate::told::{told, told_line};
-use cg_command::Command;
+use crate::words::Command;
 use cg_line::{SettingReader, ValueReader};
 use cg_print::Sink;
 use cg_snap::{Limits, Stop};

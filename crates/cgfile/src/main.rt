@@ -1,9 +1,11 @@
 //! A reader and writer of cgroup interface files.
 #![tactic(auto)]
 
-use cg_command::{UsageFault, parse_words};
+#[cfg(test)]
+mod tests;
+
 use cg_print::{PlainWriter, Sink, write_text};
-use cg_run::{PlainReader, run, status};
+use cg_run::{PlainReader, UsageFault, parse_words, run, status};
 use std::io;
 use std::process::ExitCode;
 

@@ -1,8 +1,0 @@
-pub mod AmongNames
-pub mod Builds
-pub mod Commands
-pub mod Entered
-pub mod Flags
-pub mod Profiles
-pub mod Told
-pub mod WrittenOut

@@ -1,0 +1,25 @@
+-- What `clap`'s function gives at words that are written out.
+use Rattle.std.proofs.Common.{refl}
+use Rattle.clap.proofs.OnLiterals.{clap_on_literals}
+use Rattle.cg_run.specs.CommandLine.{cgfile_app}
+use Rattle.cg_run.specs.TableNames.{is_in_table}
+use Rattle.cg_run.specs.Rows.{FaultRows, KnownRows, LimitRows}
+
+pub known_rows : KnownRows
+unfolding cgfile_app clap_on_literals is_in_table
+known_rows names = (
+  (refl, (refl, refl)),
+  (refl, (refl, refl)),
+  (refl, (refl, refl)),
+  (refl, (refl, refl)),
+  (refl, (refl, refl)),
+  (refl, (refl, refl)),
+)
+
+pub limit_rows : LimitRows
+unfolding cgfile_app clap_on_literals
+limit_rows names = ((refl, refl), (refl, refl), (refl, refl), (refl, refl))
+
+pub fault_rows : FaultRows
+unfolding cgfile_app clap_on_literals
+fault_rows names = (refl, refl, refl, refl, refl, refl)

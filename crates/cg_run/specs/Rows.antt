@@ -1,0 +1,46 @@
+-- Command lines written out, with what they ask for: the definitions meet them.
+use Rattle.std.specs.Prelude.{ℕ, ◌≡◌, List, [], ◌∷◌, true, false, codes, Bool, IsSomeAnd}
+use Rattle.clap.specs.Words.{Text, fault_of, matches_of, subcommand_of, takes}
+use Rattle.clap.specs.declared.error.kind.ErrorKind.{ErrorKind}
+use Rattle.clap.specs.declared.error.kind.ErrorKind.TheVariants.{DisplayHelp, DisplayVersion, MissingRequiredArgument, UnknownArgument}
+use Rattle.cg_run.specs.CommandLine.{Lent, cgfile_app}
+use Rattle.cg_run.specs.Words.{is_welcome, limits_of, name_in}
+
+-- `clap` takes these words, with this NAME, and it may stand there or not
+abbrev pub IsNamed : Lent → List Text → (name : Text) → (welcome : Bool) → Type 0
+IsNamed names words name welcome = (takes (cgfile_app names) words ≡ true)
+    × IsSomeAnd (subcommand_of (cgfile_app names) words) (λ s. (name_in s.1 ≡ name) × (is_welcome s.1 ≡ welcome))
+
+abbrev pub KnownRows : Type 0
+KnownRows = (names : Lent)
+    → IsNamed names (codes "file" ∷ codes "--known" ∷ codes "cpu.weight" ∷ []) (codes "cpu.weight") true
+    × IsNamed names (codes "setting" ∷ codes "cpu.max" ∷ codes "--known" ∷ []) (codes "cpu.max") true
+    × IsNamed names (codes "file" ∷ codes "--known" ∷ codes "./cpu.weight" ∷ []) (codes "./cpu.weight") false
+    × IsNamed names (codes "setting" ∷ codes "--known" ∷ codes "cpu.mx" ∷ []) (codes "cpu.mx") false
+    × IsNamed names (codes "file" ∷ codes "./cpu.weight" ∷ []) (codes "./cpu.weight") true
+    × IsNamed names (codes "file" ∷ codes "--" ∷ codes "--known" ∷ []) (codes "--known") true
+
+-- `clap` takes these words, with this limit of the records of an entry
+abbrev pub IsLimited : Lent → List Text → (lines : ℕ) → Type 0
+IsLimited names words lines = (takes (cgfile_app names) words ≡ true)
+    × IsSomeAnd (subcommand_of (cgfile_app names) words) (λ s. (limits_of (matches_of (cgfile_app names) words) s.1).max_lines ≡ lines)
+
+abbrev pub LimitRows : Type 0
+LimitRows = (names : Lent)
+    → IsLimited names (codes "show" ∷ []) 1000000
+    × IsLimited names (codes "--max-lines" ∷ codes "7" ∷ codes "show" ∷ []) 7
+    × IsLimited names (codes "show" ∷ codes "--max-lines=9" ∷ []) 9
+    × IsLimited names (codes "--max-lines" ∷ codes "7" ∷ codes "show" ∷ codes "--max-lines" ∷ codes "9" ∷ []) 9
+
+-- these words have this error
+abbrev pub Fails : Lent → List Text → ErrorKind → Type 0
+Fails names words kind = fault_of (cgfile_app names) words ≡ kind ∷ []
+
+abbrev pub FaultRows : Type 0
+FaultRows = (names : Lent)
+    → Fails names (codes "--help" ∷ []) DisplayHelp
+    × Fails names (codes "file" ∷ codes "-h" ∷ []) DisplayHelp
+    × Fails names (codes "--version" ∷ []) DisplayVersion
+    × Fails names (codes "file" ∷ []) MissingRequiredArgument
+    × Fails names (codes "show" ∷ codes "--known" ∷ []) UnknownArgument
+    × Fails names (codes "show" ∷ codes "x" ∷ []) UnknownArgument

@@ -1,0 +1,17 @@
+//! The definitions of the command line meet command lines written out.
+ghost use Rattle.cg_run.specs.Rows.{FaultRows, KnownRows, LimitRows};
+
+/// With `--known` a name of the file table may stand there, and no other.
+pub fn known_rows()
+    ensures { KnownRows }
+{}
+
+/// Which limit counts, where it is given in several places.
+pub fn limit_rows()
+    ensures { LimitRows }
+{}
+
+/// Words that ask for the help or the version, and words that are wrong.
+pub fn fault_rows()
+    ensures { FaultRows }
+{}

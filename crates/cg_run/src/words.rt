@@ -1,0 +1,246 @@
+//! What the words of a command line ask for.
+ghost use Rattle.std.specs.Prelude.{◌≡◌, ◌⊎◌, IfOk, IfErr, IfSome, Some, codes, false, is_some, string_bytes, true, map, []};
+ghost use Rattle.clap.specs.Words.{one_of, rows_of, found_of, first_of, takes, fault_of, kind_of, matches_of, subcommand_of, subcommand_rows_of};
+ghost use Rattle.cg_run.specs.CommandLine.{cgfile_app};
+ghost use Rattle.cg_run.specs.Words.{Answers, IsCommand, IsMade, IsRefusal, IsTold, IsToldOf, is_met, is_plain_word, is_welcome, is_word, limits_of, name_in, number_or, number_of, profile_named, wants_known};
+
+use crate::command_line::command_line;
+use crate::table_names::is_in_table;
+use cg_snap::Limits;
+use cg_value::Profile;
+use clap::ArgMatches;
+use clap::error::ErrorKind;
+use std::alloc::{AllocError, Global};
+use thiserror::Error;
+
+/// What the program is to do.
+#[derive(Debug, Drop)]
+pub enum Command {
+    /// To read the text of the file of this name.
+    File { name: Vec<u8> },
+    /// To read one write to the file of this name.
+    Setting { name: Vec<u8> },
+    /// To show a snapshot.
+    Show,
+    /// To write a snapshot as lines of JSON.
+    Json,
+    /// To check the delegation in a snapshot.
+    Check,
+    /// To read a plan.
+    Plan,
+    /// To list the kinds of files.
+    Kinds,
+}
+
+/// Why the words of a command line give no command.
+#[derive(Debug, Drop, Error)]
+pub enum UsageFault {
+    /// They ask for help, or for the version: the text.
+    #[error("{0}")]
+    Help(String),
+    /// They are no command line of this program.
+    #[error("bad command line")]
+    Bad,
+    #[error("out of memory")]
+    OutOfMemory,
+}
+
+impl From<AllocError> for UsageFault {
+    ghost use Rattle.std.specs.Prelude.{◌≡◌};
+    ghost use Rattle.cg_run.specs.declared.words.UsageFault.TheVariants.{OutOfMemory};
+
+    ghost from_gives = { λ _ e. e ≡ OutOfMemory };
+
+    fn from(_e: AllocError) -> UsageFault {
+        UsageFault::OutOfMemory
+    }
+}
+
+/// The bytes of NAME, which `clap` requires.
+fn name_given<'a>(matches: &ArgMatches<'a>) -> &'a [u8]
+    ensures { result.now ≡ name_in (rows_of (found_of matches.now)) }
+{
+    match matches.get_str("NAME") {
+        Some(name) => name.as_bytes(),
+        None => &[],
+    }
+}
+
+/// Whether `--known` is used.
+fn wants_known(matches: &ArgMatches) -> bool
+    ensures { result ≡ wants_known (rows_of (found_of matches.now)) }
+{
+    match matches.get_one::<bool>("known") {
+        Some(known) => known,
+        None => false,
+    }
+}
+
+/// The bytes of NAME, if it may stand there: with `--known` only a name of the file table may.
+fn welcome_name(alloc: Global, matches: &ArgMatches) -> Result<Vec<u8>, UsageFault>
+    ensures name { IfOk result (λ v. (v.items ≡ name_in (rows_of (found_of matches.now)))
+        × (is_welcome (rows_of (found_of matches.now)) ≡ true)) }
+    ensures fault { IfErr result (λ e. (e ≡ UsageFault.OutOfMemory)
+        ⊎ ((e ≡ UsageFault.Bad) × (is_welcome (rows_of (found_of matches.now)) ≡ false))) }
+{
+    let name = name_given(matches);
+    if wants_known(matches) && !is_in_table(name) {
+        return Err(UsageFault::Bad);
+    }
+    Ok(Vec::from_slice(alloc, name)?)
+}
+
+/// The command of a subcommand and its matches.
+fn chosen(alloc: Global, name: &str, inner: &ArgMatches) -> Result<Command, UsageFault>
+    ensures made { IfOk result (IsCommand name.now (rows_of (found_of inner.now))) }
+    ensures known { is_word name.now ≡ true
+        → IfErr result (IsRefusal (Some (name.now, rows_of (found_of inner.now)))) }
+{
+    if name == "file" {
+        return Ok(Command::File {
+            name: welcome_name(alloc, inner)?,
+        });
+    }
+    if name == "setting" {
+        return Ok(Command::Setting {
+            name: welcome_name(alloc, inner)?,
+        });
+    }
+    plain_command(name).ok_or(UsageFault::Bad)
+}
+
+/// The command of a subcommand that names no file.
+fn plain_command(name: &str) -> Option<Command>
+    ensures made { IfSome result (IsCommand name.now []) }
+    ensures known { is_plain_word name.now ≡ is_some result }
+{
+    if name == "show" {
+        Some(Command::Show)
+    } else if name == "json" {
+        Some(Command::Json)
+    } else if name == "check" {
+        Some(Command::Check)
+    } else if name == "plan" {
+        Some(Command::Plan)
+    } else if name == "kinds" {
+        Some(Command::Kinds)
+    } else {
+        None
+    }
+}
+
+/// The number of an option, and `given` where it isn't used.
+fn number_at(matches: &ArgMatches, id: &str, given: u64) -> u64
+    ensures { result ≡ number_or given (one_of id.now (rows_of (found_of matches.now))) }
+{
+    match matches.get_one::<u64>(id) {
+        Some(number) => number,
+        None => given,
+    }
+}
+
+/// The number of an option that stands after the command's word, or before it; else `given`.
+fn number_among(before: &ArgMatches, after: &ArgMatches, id: &str, given: u64) -> u64
+    ensures { result ≡ number_of given id.now
+        (rows_of (found_of before.now)) (rows_of (found_of after.now)) }
+{
+    number_at(after, id, number_at(before, id, given))
+}
+
+/// The limits of the options before the command's word and after it.
+fn limits_among(before: &ArgMatches, after: &ArgMatches) -> Limits
+    ensures { result ≡ limits_of (rows_of (found_of before.now)) (rows_of (found_of after.now)) }
+{
+    let default = Limits::DEFAULT;
+    Limits {
+        max_record: number_among(before, after, "max-record", default.max_record),
+        max_lines: number_among(before, after, "max-lines", default.max_lines),
+        max_stream: number_among(before, after, "max-stream", default.max_stream),
+    }
+}
+
+/// The profile of the option `--profile`, and `given` where it isn't used.
+fn profile_at(matches: &ArgMatches, given: Profile) -> Profile
+    ensures { result ≡ profile_named given (first_of (codes "profile") (rows_of (found_of matches.now))) }
+{
+    match matches.get_str("profile") {
+        Some(name) => {
+            if name == "2" {
+                Profile::Two
+            } else {
+                Profile::One
+            }
+        }
+        None => given,
+    }
+}
+
+/// What `clap` refused, as a fault of usage.
+fn refused(alloc: Global, error: clap::Error) -> UsageFault
+    ensures memory { kind_of error ≡ ErrorKind.OutOfMemory → result ≡ UsageFault.OutOfMemory }
+    ensures told { IsToldOf (kind_of error) result }
+{
+    match error.kind() {
+        ErrorKind::OutOfMemory => UsageFault::OutOfMemory,
+        ErrorKind::DisplayHelp | ErrorKind::DisplayVersion => match error.to_string(alloc) {
+            Ok(text) => UsageFault::Help(text),
+            Err(_) => UsageFault::OutOfMemory,
+        },
+        _ => UsageFault::Bad,
+    }
+}
+
+/// What the matches of a command line ask for.
+fn made(alloc: Global, matches: &ArgMatches) -> Result<(Profile, Command, Limits), UsageFault>
+    ensures made { IfOk result
+        (IsMade (rows_of (found_of matches.now)) (subcommand_rows_of matches.now)) }
+    ensures known { is_met (subcommand_rows_of matches.now) ≡ true
+        → IfErr result (IsRefusal (subcommand_rows_of matches.now)) }
+{
+    let Some((name, inner)) = matches.subcommand() else {
+        return Err(UsageFault::Bad);
+    };
+    let limits = limits_among(matches, inner);
+    let profile = profile_at(inner, profile_at(matches, Profile::One));
+    Ok((profile, chosen(alloc, name, inner)?, limits))
+}
+
+/// What the words ask for, with these names of the profiles.
+fn parse_named<'a>(
+    alloc: Global,
+    profiles: &'a [&'a str],
+    words: &'a [String],
+) -> Result<(Profile, Command, Limits), UsageFault>
+    ensures made { IfOk result
+        (IsMade (matches_of (cgfile_app profiles.entry) (map (λ w. string_bytes w) words.entry.now))
+        (subcommand_of (cgfile_app profiles.entry) (map (λ w. string_bytes w) words.entry.now))) }
+    ensures right { IfOk result (λ _.
+        fault_of (cgfile_app profiles.entry) (map (λ w. string_bytes w) words.entry.now) ≡ []) }
+    ensures told { IfErr result
+        (IsTold (fault_of (cgfile_app profiles.entry) (map (λ w. string_bytes w) words.entry.now))
+        (subcommand_of (cgfile_app profiles.entry) (map (λ w. string_bytes w) words.entry.now))) }
+    ensures taken { takes (cgfile_app profiles.entry) (map (λ w. string_bytes w) words.entry.now) ≡ true
+        → IfErr result (IsRefusal
+        (subcommand_of (cgfile_app profiles.entry) (map (λ w. string_bytes w) words.entry.now))) }
+{
+    let command = command_line(alloc, profiles)?;
+    match command.try_get_matches_from(words) {
+        Ok(matches) => made(alloc, &matches),
+        Err(error) => Err(refused(alloc, error)),
+    }
+}
+
+/// Reads the words that follow the program's name.
+///
+/// `Help` has the text that is to be printed, where they ask for help or for the version; `Bad` is
+/// answered where they are no command line of this program, or `--known` goes with a name that the
+/// file table doesn't have.
+pub fn parse_words(
+    alloc: Global,
+    words: &[String],
+) -> Result<(Profile, Command, Limits), UsageFault>
+    ensures { Answers (map (λ w. string_bytes w) words.now) result }
+{
+    let profiles: [&str; 2] = ["1", "2"];
+    parse_named(alloc, profiles.as_slice(), words)
+}

@@ -1,0 +1,9 @@
+//! What no table of rows can say: calls with the heap starved, calls that no command makes, and the texts of faults.
+mod calls;
+mod encoded;
+mod entries;
+mod plans;
+mod snapshots;
+mod starved;
+mod starved_streams;
+mod values;
