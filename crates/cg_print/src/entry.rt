@@ -26,6 +26,9 @@ pub enum EntryWriteFault {
     OutOfMemory,
 }
 
+/// How many bytes a line mostly has at most, its newline among them.
+const LINE: usize = 32;
+
 /// The canonical lines of an entry, each after its path and the mark.
 fn print_marked(alloc: Global, entry: &Entry, mark: &[u8]) -> Result<Vec<u8>, OutOfMemory>
     ensures { IfOk result (λ text. text.items ≡ headed (entry.now.path ++ mark.now) (print_lines entry.now.value)) }
@@ -33,8 +36,7 @@ fn print_marked(alloc: Global, entry: &Entry, mark: &[u8]) -> Result<Vec<u8>, Ou
     let mut head = Vec::with_capacity(alloc, entry.path().len().saturating_add(mark.len()))?;
     append_bytes(&mut head, entry.path())?;
     append_bytes(&mut head, mark)?;
-    // Each line has the head and a newline at least.
-    let line = head.len().saturating_add(1);
+    let line = head.len().saturating_add(LINE);
     let lines = entry.value().line_count() as usize;
     let mut text = Vec::with_capacity(alloc, line.saturating_mul(lines))?;
     append_value(&mut text, head.as_slice(), entry.value())?;

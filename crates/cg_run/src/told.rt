@@ -103,6 +103,10 @@ fn is_added(gathered: &mut Vec<u8>, text: &[u8]) -> bool
     if gathered.len() >= PIECE {
         return false;
     }
+    if gathered.is_empty() {
+        // Room for all at once, where memory is left for it: else they grow as they come.
+        let _ = gathered.try_reserve(PIECE);
+    }
     match gathered.extend_from_slice(text) {
         Ok(()) => true,
         Err(_) => false,

@@ -1,9 +1,6 @@
-//! The decoder of snapshots, and what prints and writes entries and items, with ample memory.
-use cg_print::{
-    CutSink, EntryWriteFault, append_entry, append_item, print_entry, print_item, print_shown,
-    write_entry,
-};
-use cg_snap::{Limits, Pulled, SnapshotDecoder, Stop, StreamFault, What, Why, decode_snapshot};
+//! Whole snapshots, and entries that are written, with ample memory.
+use cg_print::{CutSink, EntryWriteFault, write_entry};
+use cg_snap::{Limits, SnapshotDecoder, Stop, StreamFault, Why, decode_snapshot};
 use cg_text::{Items, Limit};
 use cg_value::{Entry, PlanItem, Profile, RawLines, Role, Setting, Value};
 use std::alloc::{AllocError, Global};
@@ -19,30 +16,9 @@ pub(crate) const LINE_TOO_MANY: &[u8] = b"cpu.max\0max 100000\ncpu.max\0";
 pub(crate) const RAW_AND_REASON: &[u8] =
     b"x/hugetlb.2MB.max\0max\nx/cpuset.cpus.partition\0root invalid (a) b)\n";
 
-/// What a call told, without its entry.
-#[derive(Clone, Copy, Debug, PartialEq, Eq)]
-enum Told {
-    NeedMore,
-    Entry,
-    Stopped(Stop),
-    OutOfMemory,
-}
-
 /// A decoder of the first profile that consumed nothing.
 pub(crate) fn decoder(alloc: Global) -> SnapshotDecoder {
     SnapshotDecoder::new(alloc, Profile::One, Limits::DEFAULT)
-}
-
-/// How many bytes of a piece are consumed, and what that told.
-fn pull(snapshot: &mut SnapshotDecoder, piece: &[u8]) -> (usize, Told) {
-    let Pulled { used, what } = snapshot.next(piece);
-    let told = match what {
-        What::NeedMore => Told::NeedMore,
-        What::Entry(_entry) => Told::Entry,
-        What::Stopped(stop) => Told::Stopped(stop),
-        What::OutOfMemory => Told::OutOfMemory,
-    };
-    (used, told)
 }
 
 /// Whether there is a last entry.
@@ -54,52 +30,11 @@ pub(crate) fn ending(snapshot: SnapshotDecoder) -> Result<bool, Stop> {
     }
 }
 
-#[test]
-fn refused_pieces(rt: HostRuntime) {
-    let stop = Stop::Refused {
-        at: 17,
-        why: Why::Line,
-    };
-    let mut snapshot = decoder(rt.alloc());
-    let rows: [(&[u8], usize, Told); 3] = [
-        (b"a/cpu.we", 8, Told::NeedMore),
-        (b"ight\010001\n", 9, Told::Stopped(stop)),
-        (b"ight\010001\n", 0, Told::Stopped(stop)),
-    ];
-    for (piece, used, wanted) in rows {
-        assert_eq!(rt; pull(&mut snapshot, piece), (used, wanted), "{piece:?}");
-    }
-    assert_eq!(rt; snapshot.offset(), 17);
-    assert_eq!(rt; ending(snapshot), Err(stop));
-    let mut whole = decoder(rt.alloc());
-    let answer = pull(&mut whole, b"a/cpu.weight\010001\n");
-    assert_eq!(rt; answer, (17, Told::Stopped(stop)));
-}
-
-#[test]
-fn empty_pieces(rt: HostRuntime) {
-    let mut snapshot = decoder(rt.alloc());
-    assert_eq!(rt; pull(&mut snapshot, b""), (0, Told::NeedMore));
-    assert_eq!(rt; ending(snapshot), Ok(false));
-    assert_eq!(rt; ending(decoder(rt.alloc())), Ok(false));
-}
-
 /// The entry of the first profile that has this path and this value.
 fn entry(alloc: Global, path: &[u8], value: Value) -> Result<Entry, Fail> {
     let path = path.to_vec(alloc)?;
     let entry = Entry::new(Profile::One, path, value)?;
     Ok(entry)
-}
-
-/// The entry of a call that consumed so many bytes.
-fn pulled_entry(pulled: Pulled, used: usize) -> Option<Entry> {
-    if pulled.used != used {
-        return None;
-    }
-    match pulled.what {
-        What::Entry(entry) => Some(entry),
-        _ => None,
-    }
 }
 
 /// The entry that the end of the stream gives.
@@ -120,34 +55,6 @@ pub(crate) const UNBOUNDED: Value = Value::CpuMax {
     quota: Limit::Max,
     period: 100000,
 };
-
-/// Whether an entry is shown by this text, and printed as this one.
-fn is_spelled(alloc: Global, entry: &Entry, shown: &[u8], printed: &[u8]) -> Result<bool, Fail> {
-    let for_people = print_shown(alloc, entry)?;
-    let records = print_entry(alloc, entry)?;
-    Ok(for_people.as_slice() == shown && records.as_slice() == printed)
-}
-
-#[test]
-fn entries_that_are_closed(rt: HostRuntime) -> Result<(), Fail> {
-    let mut snapshot = decoder(rt.alloc());
-    let first = pulled_entry(snapshot.next(TWO_FILES), 33);
-    assert!(rt; is_entry(&first, b"cpu.max", &UNBOUNDED));
-    assert!(rt; snapshot.held() <= 14);
-    assert_eq!(rt; pull(&mut snapshot, b"0\n"), (2, Told::NeedMore));
-    let last = last_entry(snapshot);
-    assert!(rt; is_entry(&last, b"cpu.max.burst", &Value::Number(0)));
-    if let Some(entry) = &first {
-        let is_so = is_spelled(
-            rt.alloc(),
-            entry,
-            b"cpu.max: max 100000\n",
-            b"cpu.max\0max 100000\n",
-        )?;
-        assert!(rt; is_so);
-    }
-    Ok(())
-}
 
 /// Whether these are entries of the same paths and values.
 pub(crate) fn are_same(entries: &[Entry], wanted: &[Entry]) -> bool {
@@ -266,41 +173,6 @@ fn stopped_snapshots(rt: HostRuntime) {
     }
 }
 
-#[test]
-fn what_is_held(rt: HostRuntime) {
-    let mut snapshot = decoder(rt.alloc());
-    let answer = pull(&mut snapshot, b"memory.stat\0anon 1\n");
-    assert_eq!(rt; answer, (19, Told::NeedMore));
-    assert!(rt; snapshot.held() <= 18);
-}
-
-/// Whether all bytes may follow the text but these.
-fn allows_all_but(alloc: Global, text: &[u8], bytes: &[u8]) -> bool {
-    let mut snapshot = decoder(alloc);
-    let _ = snapshot.next(text);
-    let set = snapshot.allowed();
-    (0..=u8::MAX).all(|byte| set.contains(byte) != bytes.contains(&byte))
-}
-
-#[test]
-fn bytes_that_may_follow(rt: HostRuntime) {
-    let rows: [(&[u8], &[u8]); 4] = [
-        (b"", b"\0\n"),
-        (b"cpu.max", b"\n"),
-        (b"cpu.max\0max 100000\ncpu.max", b"\0\n"),
-        (b"a\n", b"\n"),
-    ];
-    for (text, bytes) in rows {
-        assert!(rt; allows_all_but(rt.alloc(), text, bytes), "{text:?}");
-    }
-    let stop = Stop::Refused {
-        at: 1,
-        why: Why::PathByte,
-    };
-    let mut stopped = decoder(rt.alloc());
-    assert_eq!(rt; pull(&mut stopped, b"a\n"), (1, Told::Stopped(stop)));
-}
-
 /// The entry of `cpu.idle` with 1.
 pub(crate) fn idle(alloc: Global) -> Result<Entry, Fail> {
     entry(alloc, b"cpu.idle", Value::Number(1))
@@ -312,32 +184,6 @@ pub(crate) fn memory_bound(alloc: Global) -> Result<PlanItem, Fail> {
     let size = Setting::Limit(Limit::At(17293822569102704640));
     let item = PlanItem::new(Profile::One, path, size)?;
     Ok(item)
-}
-
-#[test]
-fn printed_entries(rt: HostRuntime) -> Result<(), Fail> {
-    let entry = idle(rt.alloc())?;
-    let is_so = is_spelled(rt.alloc(), &entry, b"cpu.idle: 1\n", b"cpu.idle\01\n")?;
-    assert!(rt; is_so);
-    let mut text = Vec::new(rt.alloc());
-    append_entry(&mut text, &entry)?;
-    assert!(rt; text.as_slice() == b"cpu.idle\01\n".as_slice());
-    let mut text = b"x".to_vec(rt.alloc())?;
-    append_entry(&mut text, &entry)?;
-    assert!(rt; text.as_slice() == b"xcpu.idle\01\n".as_slice());
-    Ok(())
-}
-
-#[test]
-fn printed_items(rt: HostRuntime) -> Result<(), Fail> {
-    let item = memory_bound(rt.alloc())?;
-    let wanted = b"memory.max\017293822569102704640\n";
-    let text = print_item(rt.alloc(), &item)?;
-    assert!(rt; text.as_slice() == wanted.as_slice());
-    let mut text = Vec::new(rt.alloc());
-    append_item(&mut text, &item)?;
-    assert!(rt; text.as_slice() == wanted.as_slice());
-    Ok(())
 }
 
 #[test]
