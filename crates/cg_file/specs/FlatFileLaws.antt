@@ -1,5 +1,5 @@
 -- What holds of the tokens over flat keyed files.
-use Rattle.std.proofs.Common.{◌≡◌, ℕ, ◌≤◌, ◌+◌, ◌↔◌, Bool, true, false, ◌||◌, nat_eq, Option, Some, None, is_some, is_err, Result, Err, cond, option_map, List, [], ◌∷◌, map, length, refl, sym, ◌∙◌, ap, arith}
+use Rattle.std.proofs.Common.{◌≡◌, ℕ, ◌≤◌, ◌<◌, ◌+◌, ◌↔◌, Bool, true, false, ◌||◌, nat_eq, Option, Some, None, is_some, is_err, is_ok, Result, Ok, Err, cond, option_map, List, [], ◌∷◌, map, length, refl, sym, ◌∙◌, ap, arith, add-one}
 use Rattle.std.proofs.lemmas.Bool.{cond-false, false_from_ne_true}
 use Rattle.std.proofs.lemmas.Cmp.{nat_list_eq_equiv}
 use Rattle.std.proofs.lemmas.Slice.Eq.{bytes_eq-Decides}
@@ -14,6 +14,7 @@ use Rattle.cg_join.specs.TakenLaws.{taken_some as among_some}
 use Rattle.cg_join.specs.WordStartLaws.{SpellsWord}
 use Rattle.cg_value.specs.Files.{KindText}
 use Rattle.cg_value.specs.Flat.{has_key, is_repeated, number_of, place_of}
+use Rattle.cg_value.specs.FlatLaws.{key_at, no_number_apart}
 use Rattle.cg_value.specs.Kind.{any_u64}
 use Rattle.cg_value.specs.ReadLine.{AreFlatLines, IsFlatLine}
 use Rattle.cg_value.specs.declared.flat.FlatPair.{FlatPair}
@@ -71,3 +72,18 @@ flat_line_is = key_parts (λ p. p.key) (λ p. p.number) 32 (IsDecimal 0 any_u64)
 pub flat_file_is : (text : List ℕ) (v : Value) → IsTurned (AreKeyedLines (λ p. p.key) (λ t p. IsFlatLine p t) 10) flat_value text v ↔ KindText FlatForm v text
 flat_file_is = keyed_is FlatForm IsFlatLine (λ p. p.key) flat_value AreFlatLines
     (λ xs lines. (λ h. (h.each, h.distinct), λ h. record { each = h.0; distinct = h.1 })) (λ v lines. (λ h. h, λ h. h))
+
+lacks_all : (key : List ℕ) (ps : List FlatPair) → ((i : ℕ) → i < length ps → key_at ps i ≡ key → ⊥) → LacksValue key (map (λ p. p.key) ps)
+lacks_all key [] f = tt
+lacks_all key (p ∷ ps) f = ((λ e. f 0 (omega arith) (sym e)), lacks_all key ps (λ i h e. f (i + 1) (omega (arith, h)) (rw add-one e)))
+
+none_of : (key : List ℕ) (ps : List FlatPair) → is_some (number_of key ps) ≡ false → number_of key ps ≡ None
+none_of key ps = go (number_of key ps) where
+  go : (n : Option ℕ) → is_some n ≡ false → n ≡ None
+  go None e = refl
+  go (Some x) e = absurd (cc)
+
+-- A key that was added was new.
+pub added_new : (r : Result (Unit {0}) FlatRefused) (key : List ℕ) (ps : List FlatPair) → is_ok r ≡ true → is_repeated r ≡ is_some (number_of key ps) → LacksValue key (map (λ p. p.key) ps)
+added_new (Ok u) key ps e h = lacks_all key ps (λ i. no_number_apart key ps i (none_of key ps (sym h)))
+added_new (Err x) key ps e h = absurd (cc)

@@ -1,5 +1,5 @@
 -- A pad, and then a space and a text, or nothing.
-use Rattle.std.specs.Prelude.{◌≡◌, ℕ, ◌⊎◌, Bool, true, false, List, [], ◌∷◌, ◌++◌}
+use Rattle.std.specs.Prelude.{◌≡◌, ℕ, ◌⊎◌, Bool, true, false, List, [], ◌∷◌, ◌++◌, ◌≤◌, length, take}
 use Rattle.cg_value.specs.ReadLine.{pad_text}
 use Rattle.cg_file.specs.declared.pad.Padding.{Padding}
 use Rattle.cg_file.specs.declared.pad.Padding.TheVariants.{Before, Perhaps, Known}
@@ -15,6 +15,10 @@ IsLed R ready text v = ((text ≡ []) × (v ≡ ready)) ⊎ ((back : List ℕ) �
 -- The pad before it.
 abbrev pub IsPadded : {V : Type 0} → (List ℕ → V → Type 0) → V → List ℕ → Bool × V → Type 0
 IsPadded R ready text v = (led : List ℕ) × (text ≡ pad_text (v.0) ++ led) × IsLed R ready led (v.1)
+
+-- The bytes begin with the pad, if there is one, and the space that leads a text: so many bytes.
+abbrev pub IsPadFront : List ℕ → Bool × ℕ → Type 0
+IsPadFront bytes found = (found.1 ≤ length bytes) × (take found.1 bytes ≡ pad_text (found.0) ++ 32 ∷ [])
 
 -- What is left, where R is left of the texts.
 abbrev pub PadRest : {V : Type 0} → Padding → (List ℕ → V → Type 0) → V → List ℕ → Bool × V → Type 0

@@ -6,7 +6,8 @@ ghost use Rattle.cg_value.specs.declared.kind.ReadForm.TheVariants.{DeviceLimits
 ghost use Rattle.cg_value.specs.ReadLine.{IsLimitLine};
 
 use cg_join::{
-    DeviceText, LabelText, LimitText, Lines, Mapped, Sequence, Start, Turn, labelled, limit_in,
+    DeviceText, LabelText, LimitText, Lines, Mapped, Sequence, Start, Turn, WholeLines, labelled,
+    limit_in,
 };
 use cg_text::{Device, Items, Keyword, Limit, OutOfMemory, Token};
 use cg_value::{LimitLine, Value};
@@ -109,6 +110,10 @@ impl Token for LimitLineText {
 
     fn run(&mut self, bytes: &[u8]) -> usize {
         self.parts.run(bytes)
+    }
+
+    fn whole(&self, bytes: &[u8]) -> Option<(LimitLine, usize)> {
+        self.parts.whole(bytes)
     }
 
     fn allows(&self, byte: u8) -> bool {
@@ -246,5 +251,11 @@ impl Token for DeviceLimitsFile {
 
     fn held_in(_value: &Value) -> u64 {
         0
+    }
+}
+
+impl WholeLines for DeviceLimitsFile {
+    fn take_line(&mut self, line: &[u8], end: u8) -> bool {
+        self.text.take_line(line, end)
     }
 }

@@ -10,7 +10,7 @@ use crate::pad::PadText;
 use cg_index::KeyedItems;
 use cg_join::{
     AmountText, DeviceText, DistinctPairs, Lines, Mapped, Pairing, Sequence, Start, Turn,
-    WordStart, run_parts,
+    WholeLines, WordStart, run_parts,
 };
 use cg_text::{Amount, Device, Items, Key, OutOfMemory, Token};
 use cg_value::{StatLine, StatPair, Value};
@@ -127,6 +127,10 @@ impl Token for StatPairs {
         run_parts(&mut self.pairs, bytes)
     }
 
+    fn whole(&self, bytes: &[u8]) -> Option<(KeyedItems<StatPair>, usize)> {
+        self.pairs.whole(bytes)
+    }
+
     fn allows(&self, byte: u8) -> bool {
         self.pairs.allows(byte)
     }
@@ -226,6 +230,10 @@ impl Token for StatLineText {
 
     fn run(&mut self, bytes: &[u8]) -> usize {
         self.parts.run(bytes)
+    }
+
+    fn whole(&self, bytes: &[u8]) -> Option<(StatLine, usize)> {
+        self.parts.whole(bytes)
     }
 
     fn allows(&self, byte: u8) -> bool {
@@ -372,5 +380,11 @@ impl Token for DeviceStatsFile {
 
     fn held_in(_value: &Value) -> u64 {
         0
+    }
+}
+
+impl WholeLines for DeviceStatsFile {
+    fn take_line(&mut self, line: &[u8], end: u8) -> bool {
+        self.text.take_line(line, end)
     }
 }

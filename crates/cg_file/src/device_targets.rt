@@ -5,7 +5,9 @@ ghost use Rattle.cg_value.specs.Files.{KindText};
 ghost use Rattle.cg_value.specs.declared.kind.ReadForm.TheVariants.{DeviceTargets as DeviceTargetsForm};
 ghost use Rattle.cg_value.specs.ReadLine.{IsTargetLine};
 
-use cg_join::{DeviceText, LabelText, Lines, Mapped, Sequence, Start, Turn, decimal_in, labelled};
+use cg_join::{
+    DeviceText, LabelText, Lines, Mapped, Sequence, Start, Turn, WholeLines, decimal_in, labelled,
+};
 use cg_text::{DecimalText, Device, Items, Keyword, OutOfMemory, Token};
 use cg_value::{TargetLine, Value};
 use std::alloc::Global;
@@ -88,6 +90,10 @@ impl Token for TargetLineText {
 
     fn run(&mut self, bytes: &[u8]) -> usize {
         self.parts.run(bytes)
+    }
+
+    fn whole(&self, bytes: &[u8]) -> Option<(TargetLine, usize)> {
+        self.parts.whole(bytes)
     }
 
     fn allows(&self, byte: u8) -> bool {
@@ -225,5 +231,11 @@ impl Token for DeviceTargetsFile {
 
     fn held_in(_value: &Value) -> u64 {
         0
+    }
+}
+
+impl WholeLines for DeviceTargetsFile {
+    fn take_line(&mut self, line: &[u8], end: u8) -> bool {
+        self.text.take_line(line, end)
     }
 }

@@ -93,6 +93,10 @@ impl Token for WeightLineText {
         self.parts.run(bytes)
     }
 
+    fn whole(&self, bytes: &[u8]) -> Option<(WeightLine, usize)> {
+        self.parts.whole(bytes)
+    }
+
     fn allows(&self, byte: u8) -> bool {
         self.parts.allows(byte)
     }

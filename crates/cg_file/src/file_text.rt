@@ -1,8 +1,8 @@
 //! The text of a file of any kind.
-ghost use Rattle.std.specs.Prelude.{◌≡◌, ◌≤◌, ◌+◌, true, length, take};
+ghost use Rattle.std.specs.Prelude.{◌≡◌, ◌≤◌, ◌+◌, true, [], ◌∷◌, ◌++◌, IsTrue, IsFalse, length, take};
 ghost use Rattle.cg_text.specs.Scan.{FollowsRun};
 ghost use Rattle.cg_text.specs.Texts.{Lacks};
-ghost use Rattle.cg_text.specs.Token.{Spells};
+ghost use Rattle.cg_text.specs.Token.{Same, Spells};
 ghost use Rattle.cg_value.specs.Kind.{IsReadForm};
 ghost use Rattle.cg_file.specs.Kinds.{TextsOf};
 
@@ -24,7 +24,7 @@ use crate::raw::RawFile;
 use crate::set::SetFile;
 use crate::signed::SignedFile;
 use crate::words::WordsFile;
-use cg_join::run_line;
+use cg_join::{WholeLines, run_line};
 use cg_text::{OutOfMemory, Token};
 use cg_value::{ReadForm, ReadKind, Value};
 use std::alloc::Global;
@@ -118,6 +118,28 @@ impl FileText {
             FileText::Pressure(text) => run_line(text, bytes),
             FileText::Nested(text) => run_line(text, bytes),
             FileText::Raw(text) => run_line(text, bytes),
+        }
+    }
+}
+
+impl FileText {
+    /// Takes a whole line, and the newline after it, at once, where no line is begun; or leaves the text as it is, which it may
+    /// do with any line. Answers whether it took them.
+    pub fn take_line(&mut self, line: &[u8]) -> bool
+        ensures taken { IsTrue result → FollowsRun ⟦<FileText as Token>⟧.means self.old (line.now ++ 10 ∷ []) self.new }
+        ensures left { IsFalse result → Same ⟦<FileText as Token>⟧.means self.old self.new }
+        ensures size { ⟦<FileText as Token>⟧.size self.new ≤ ⟦<FileText as Token>⟧.size self.old + (length line.now + 1) }
+        ensures same_size { IsFalse result → ⟦<FileText as Token>⟧.size self.new ≡ ⟦<FileText as Token>⟧.size self.old }
+    {
+        match self {
+            FileText::Numbers(text) => text.take_line(line, b'\n'),
+            FileText::Flat(text) => text.take_line(line, b'\n'),
+            FileText::DeviceStats(text) => text.take_line(line, b'\n'),
+            FileText::DeviceLimits(text) => text.take_line(line, b'\n'),
+            FileText::DeviceTargets(text) => text.take_line(line, b'\n'),
+            FileText::Nested(text) => text.take_line(line, b'\n'),
+            FileText::Raw(text) => text.take_line(line, b'\n'),
+            _ => false,
         }
     }
 }

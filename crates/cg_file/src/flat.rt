@@ -4,7 +4,7 @@ ghost use Rattle.cg_text.specs.Token.{Spells};
 ghost use Rattle.cg_value.specs.Files.{KindText};
 ghost use Rattle.cg_value.specs.declared.kind.ReadForm.TheVariants.{Flat as FlatForm};
 
-use cg_join::{Collection, KeyedLines, Mapped, NumberStart, Turn, WordStart};
+use cg_join::{Collection, KeyedLines, Mapped, NumberStart, Turn, WholeLines, WordStart};
 use cg_text::{DecimalText, Key, OutOfMemory, Token, WordText};
 use cg_value::{Flat, FlatBuilder, FlatPair, Value};
 use std::alloc::Global;
@@ -68,6 +68,10 @@ impl Collection<DecimalText> for FlatPairs {
             Ok(()) => {}
             Err(_) => unreachable!(),
         }
+    }
+
+    fn add(&mut self, key: Key, value: u64) -> bool {
+        self.building.push(key, value).is_ok()
     }
 
     fn held(&self) -> u64 {
@@ -191,5 +195,11 @@ impl Token for FlatFile {
 
     fn held_in(_value: &Value) -> u64 {
         0
+    }
+}
+
+impl WholeLines for FlatFile {
+    fn take_line(&mut self, line: &[u8], end: u8) -> bool {
+        self.text.take_line(line, end)
     }
 }

@@ -7,7 +7,7 @@ ghost use Rattle.cg_value.specs.declared.kind.ReadForm.TheVariants.{Nested as Ne
 use cg_index::KeyedItems;
 use cg_join::{
     DistinctPairs, KeyedLines, MakePair, Mapped, NumberStart, PairList, Pairing, PairsStart, Turn,
-    WordStart,
+    WholeLines, WordStart,
 };
 use cg_text::{DecimalText, Key, OutOfMemory, Token};
 use cg_value::{NestedLine, NestedPair, Value};
@@ -206,5 +206,11 @@ impl Token for NestedFile {
 
     fn held_in(_value: &Value) -> u64 {
         0
+    }
+}
+
+impl WholeLines for NestedFile {
+    fn take_line(&mut self, line: &[u8], end: u8) -> bool {
+        self.text.take_line(line, end)
     }
 }

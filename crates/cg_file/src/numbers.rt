@@ -4,7 +4,7 @@ ghost use Rattle.cg_text.specs.Token.{Spells};
 ghost use Rattle.cg_value.specs.Files.{KindText};
 ghost use Rattle.cg_value.specs.declared.kind.ReadForm.TheVariants.{Numbers as NumbersForm};
 
-use cg_join::{Lines, Mapped, NumberStart, Turn};
+use cg_join::{Lines, Mapped, NumberStart, Turn, WholeLines};
 use cg_text::{DecimalText, Items, OutOfMemory, Token};
 use cg_value::Value;
 use std::alloc::Global;
@@ -104,5 +104,11 @@ impl Token for NumbersFile {
 
     fn held_in(_value: &Value) -> u64 {
         0
+    }
+}
+
+impl WholeLines for NumbersFile {
+    fn take_line(&mut self, line: &[u8], end: u8) -> bool {
+        self.text.take_line(line, end)
     }
 }

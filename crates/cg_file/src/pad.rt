@@ -1,7 +1,7 @@
 //! What may follow the device of a line of `io.stat` (cgroup-v2.rst, io.stat).
-ghost use Rattle.std.specs.Prelude.{◌≡◌, IsFalse};
+ghost use Rattle.std.specs.Prelude.{◌≡◌, IsFalse, IfSome};
 ghost use Rattle.cg_text.specs.Token.{Spells};
-ghost use Rattle.cg_file.specs.Pad.{IsPadded, IsUnspaced, PadRest, is_known, pad_ends};
+ghost use Rattle.cg_file.specs.Pad.{IsPadFront, IsPadded, IsUnspaced, PadRest, is_known, pad_ends};
 
 use cg_text::{OutOfMemory, Token};
 
@@ -41,6 +41,20 @@ impl<T: Token> PadText<T> {
             ready,
             padding: Padding::Before,
         }
+    }
+}
+
+/// Whether the bytes begin with the pad before the space that leads a text, and how many bytes the two have.
+fn pad_in_front(bytes: &[u8]) -> Option<(bool, usize)>
+    ensures { IfSome result (IsPadFront bytes.now) }
+{
+    if bytes.is_empty() || bytes[0] != b' ' {
+        return None;
+    }
+    if bytes.len() > 1 && bytes[1] == b' ' {
+        Some((true, 2))
+    } else {
+        Some((false, 1))
     }
 }
 
@@ -91,6 +105,23 @@ impl<T: Token> Token for PadText<T> {
             Padding::Before => 0,
             Padding::Perhaps => 0,
             Padding::Known(_) => self.token.run(bytes),
+        }
+    }
+
+    fn whole(&self, bytes: &[u8]) -> Option<((bool, T::Out), usize)> {
+        match self.padding {
+            Padding::Before => {}
+            Padding::Perhaps => return None,
+            Padding::Known(_) => return None,
+        }
+        let (pad, count) = match pad_in_front(bytes) {
+            Some(found) => found,
+            None => return None,
+        };
+        let (_, rest) = bytes.split_at(count);
+        match self.token.whole(rest) {
+            Some((value, more)) => Some(((pad, value), count + more)),
+            None => None,
         }
     }
 

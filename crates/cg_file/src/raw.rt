@@ -4,6 +4,7 @@ ghost use Rattle.cg_text.specs.Token.{Spells};
 ghost use Rattle.cg_value.specs.Files.{KindText};
 ghost use Rattle.cg_value.specs.declared.kind.ReadForm.TheVariants.{Raw as RawForm};
 
+use cg_join::WholeLines;
 use cg_text::{OutOfMemory, Token};
 use cg_value::{RawLines, Value, are_whole_lines};
 use memchr::memchr;
@@ -99,5 +100,29 @@ impl Token for RawFile {
 
     fn held_in(_value: &Value) -> u64 {
         0
+    }
+}
+
+impl WholeLines for RawFile {
+    fn take_line(&mut self, line: &[u8], end: u8) -> bool {
+        if end == 0 {
+            return false;
+        }
+        match memchr(0, line) {
+            Some(_) => return false,
+            None => {}
+        }
+        let len = self.text.len();
+        match self.text.extend_from_slice(line) {
+            Ok(()) => {}
+            Err(_) => return false,
+        }
+        match self.text.push(end) {
+            Ok(()) => true,
+            Err(_) => {
+                self.text.truncate(len);
+                false
+            }
+        }
     }
 }

@@ -77,6 +77,9 @@ impl<P> KeyIndex<P> {
         ensures room { OnOk result (IsTrue self.new.has_room) }
         ensures ready { IsTrue self.old.has_room → IsOk result }
     {
+        if self.nodes.len() < self.nodes.capacity() {
+            return Ok(());
+        }
         self.nodes.try_reserve(1)
     }
 

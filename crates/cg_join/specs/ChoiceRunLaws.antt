@@ -1,5 +1,5 @@
 -- What holds of a choice of which both tokens live, where the left one took a run of bytes.
-use Rattle.std.proofs.Common.{◌≡◌, ℕ, suc, ◌<◌, ◌↔◌, Bool, true, false, List, ◌∷◌, ◌++◌, drop, drop-cons, get_or, length, take, sym, ◌∙◌, ap, append_assoc, refl, IsTrue}
+use Rattle.std.proofs.Common.{◌≡◌, ℕ, suc, ◌<◌, ◌↔◌, Bool, true, List, ◌∷◌, ◌++◌, drop, drop-cons, get_or, length, take, sym, ◌∙◌, ap, append_assoc, refl, IsTrue}
 use Rattle.std.proofs.lemmas.List.{take-append-drop}
 use Rattle.cg_text.specs.Scan.{FollowsRun}
 use Rattle.cg_text.specs.Token.{NoneBegins}

@@ -1,5 +1,5 @@
 -- Lines of a key and what follows it.
-use Rattle.std.specs.Prelude.{◌≡◌, ℕ, ◌⊎◌, Option, Some, List, ◌++◌, map}
+use Rattle.std.specs.Prelude.{◌≡◌, ℕ, ◌⊎◌, Option, Some, List, ◌∷◌, ◌++◌, map}
 use Rattle.cg_join.specs.Distinct.{AreDistinct}
 use Rattle.cg_join.specs.Lines.{AreLines}
 use Rattle.cg_join.specs.Pairs.{IsPairText}
@@ -19,3 +19,11 @@ pub record IsKeyThen {V W X : Type 0} (key : X → V) (value : X → W) (K : Lis
   pub whole : text ≡ front ++ back
   pub begins : K front (key p)
   pub ends : D back (value p)
+
+-- The text is that of the first, a mark, and that of the second.
+pub record IsPairOf {V W : Type 0} (K : List ℕ → V → Type 0) (D : List ℕ → W → Type 0) (mark : ℕ) (text : List ℕ) (pair : V × W) : Type 0 where
+  pub front : List ℕ
+  pub back : List ℕ
+  pub whole : text ≡ front ++ mark ∷ back
+  pub begins : K front pair.0
+  pub ends : D back pair.1

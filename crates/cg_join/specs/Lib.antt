@@ -61,4 +61,5 @@ pub mod Spelling
 pub mod StartLaws
 pub mod TakenLaws
 pub mod TextBytes
+pub mod WholeLineLaws
 pub mod WordStartLaws

@@ -1,5 +1,5 @@
 -- Pairs of a word and a value, with a mark between the two texts, and a separator before each pair.
-use Rattle.std.specs.Prelude.{◌≡◌, ℕ, ◌+◌, List, [], ◌∷◌, ◌++◌, map}
+use Rattle.std.specs.Prelude.{◌≡◌, ℕ, ◌+◌, ◌≤◌, List, [], ◌∷◌, ◌++◌, length, take, map}
 use Rattle.cg_join.specs.Repeat.{IsList, IsListAfter}
 use Rattle.cg_join.specs.Distinct.{AreDistinct}
 use Rattle.cg_join.specs.declared.pairs.Stage.{Stage}
@@ -13,6 +13,10 @@ module _ {V W X : Type 0} (word : X → V) (value : X → W) (K : List ℕ → V
     pub whole : text ≡ front ++ mark ∷ back
     pub begins : K front (word p)
     pub ends : D back (value p)
+
+  -- The pair's text is in front of the bytes, and is so long.
+  abbrev pub IsPairFront : ℕ → List ℕ → X × ℕ → Type 0
+  IsPairFront mark bytes found = (found.1 ≤ length bytes) × IsPairText mark (take found.1 bytes) found.0
 
   -- What is left of a pair, where its word isn't ended, or where it is.
   abbrev pub PairRest : Stage → ℕ → List ℕ → X → Type 0

@@ -97,6 +97,11 @@ impl Token for AmountText {
         self.parts.run(bytes)
     }
 
+    #[inline(always)]
+    fn whole(&self, bytes: &[u8]) -> Option<(Amount, usize)> {
+        self.parts.whole(bytes)
+    }
+
     fn allows(&self, byte: u8) -> bool {
         self.parts.allows(byte)
     }

@@ -1,5 +1,5 @@
 //! What keeps the pairs of keyed lines.
-ghost use Rattle.std.specs.Prelude.{◌≡◌, ℕ, ◌+◌, ◌≤◌, List, [], ◌++◌, ◌∷◌, map, OnOk};
+ghost use Rattle.std.specs.Prelude.{◌≡◌, ℕ, ◌+◌, ◌≤◌, List, [], ◌++◌, ◌∷◌, map, IsTrue, IsFalse, OnOk};
 ghost use Rattle.cg_text.specs.Token.{told};
 ghost use Rattle.cg_text.specs.WordState.{is_taken};
 ghost use Rattle.cg_join.specs.Distinct.{LacksValue, any_value};
@@ -69,6 +69,14 @@ pub trait Collection<V: Token>: Drop {
         requires new { LacksValue key (map key_of (pairs_of self.old)) }
         ensures pairs { pairs_of self.new ≡ pairs_of self.old ++ paired key value ∷ [] }
         ensures size { size self.new ≤ size self.old + (places + (⟦<WordText as Token>⟧.value_size key + V.value_size value)) };
+
+    /// Adds a pair, unless a pair has its key or no memory is left for it. Answers whether it did.
+    fn add(&mut self, key: Key, value: V::Out) -> bool
+        ensures added { IsTrue result → pairs_of self.new ≡ pairs_of self.old ++ paired key value ∷ [] }
+        ensures new { IsTrue result → LacksValue key (map key_of (pairs_of self.old)) }
+        ensures left { IsFalse result → pairs_of self.new ≡ pairs_of self.old }
+        ensures size { size self.new ≤ size self.old + (places + (⟦<WordText as Token>⟧.value_size key + V.value_size value)) }
+        ensures same_size { IsFalse result → size self.new ≡ size self.old };
 
     /// The sum of the lengths of its vectors.
     fn held(&self) -> u64

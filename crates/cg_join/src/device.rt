@@ -77,6 +77,20 @@ impl Token for DeviceText {
         self.parts.run(bytes)
     }
 
+    #[inline(always)]
+    fn whole(&self, bytes: &[u8]) -> Option<(Device, usize)> {
+        match self.parts.whole(bytes) {
+            Some((numbers, count)) => {
+                let device = Device {
+                    major: numbers.0 as u32,
+                    minor: numbers.1.1 as u32,
+                };
+                Some((device, count))
+            }
+            None => None,
+        }
+    }
+
     fn allows(&self, byte: u8) -> bool {
         self.parts.allows(byte)
     }

@@ -1,12 +1,12 @@
 //! Any number of lines of a key and what follows it, the keys all different: the flat keyed and the nested keyed
 //! files of cgroup v2 (cgroup-v2.rst, "Interface Files", "Format").
-ghost use Rattle.std.specs.Prelude.{◌≡◌, ◌+◌, ◌≤◌, ◌<◌, ◌↔◌, true, false, not, ◌&&◌, Some, [], ◌++◌, IsTrue, IsFalse, map, length, take, OnErr};
+ghost use Rattle.std.specs.Prelude.{◌≡◌, ◌+◌, ◌≤◌, ◌<◌, ◌↔◌, true, false, not, ◌&&◌, Some, [], ◌++◌, IsTrue, IsFalse, map, length, take, IfSome, OnErr};
 ghost use Rattle.cg_text.specs.Scan.{FollowsRun};
 ghost use Rattle.cg_text.specs.Token.{Begins, Follows, IfRefused, IfTaken, NoneBegins, Same, Spells, UnlessTaken};
 ghost use Rattle.cg_text.specs.WordState.{is_taken};
 ghost use Rattle.cg_join.specs.Distinct.{AreDistinct, any_value};
 ghost use Rattle.cg_join.specs.DistinctLaws.{AreDistinct_prop};
-ghost use Rattle.cg_join.specs.Keyed.{AreKeyedLines, IsKeyed};
+ghost use Rattle.cg_join.specs.Keyed.{AreKeyedLines, IsKeyed, IsPairOf};
 ghost use Rattle.cg_join.specs.KeyedState.{AreKeyedAfter, KeyedRest, is_begun, is_marked, kept_keys};
 ghost use Rattle.cg_join.specs.Line.{LacksByte};
 ghost use Rattle.cg_join.specs.Repeat.{items_size};
@@ -20,9 +20,10 @@ use crate::pairing::renew;
 use crate::pairs::Stage;
 use crate::run::run_parts;
 use crate::start::Start;
-use crate::store::{held_in_all, make_room, put};
+use crate::store::{held_in_all, put};
+use crate::whole_lines::WholeLines;
 use crate::words::WordStart;
-use cg_text::{Key, OutOfMemory, Token, WordText};
+use cg_text::{Key, OutOfMemory, Token, WordText, make_room};
 use std::alloc::Global;
 
 /// Any number of lines, also none, each a key, what follows it and an end: `KEY VAL` or `KEY SUB=VAL SUB=VAL`, and
@@ -248,6 +249,37 @@ impl<V: Token, B: Follow<V>, C: Collection<V>> KeyedLines<V, B, C> {
     {
         run_parts(&mut self.value, bytes)
     }
+
+    /// Whether the mark has ended a key.
+    fn has_key(&self) -> bool
+        ensures { result ≡ is_marked self.now.stage }
+    {
+        match self.stage {
+            Stage::Before => false,
+            Stage::InWord => false,
+            Stage::InValue => true,
+        }
+    }
+
+    /// The key and the value, where they and the mark between them are what is left of the line. It may find none where there is
+    /// one.
+    fn read_line(&self, line: &[u8]) -> Option<(Key, V::Out)>
+        ensures pair { IfSome result (IsPairOf (⟦<WordText as Token>⟧.means self.now.key) (V.means self.now.value) self.now.mark line.now) }
+        ensures size { IfSome result (λ r. ⟦<WordText as Token>⟧.value_size r.0 + (1 + V.value_size r.1) ≤ ⟦<WordText as Token>⟧.size self.now.key + (V.size self.now.value + length line.now)) }
+    {
+        let (key, count) = match self.key.whole(line) {
+            Some(found) => found,
+            None => return None,
+        };
+        if count == line.len() || line[count] != self.mark {
+            return None;
+        }
+        let (_, rest) = line.split_at(count + 1);
+        match self.value.whole(rest) {
+            Some((value, more)) if more == rest.len() => Some((key, value)),
+            _ => None,
+        }
+    }
 }
 
 impl<V: Token, B: Follow<V>, C: Collection<V>> Token for KeyedLines<V, B, C> {
@@ -348,4 +380,23 @@ impl<V: Token, B: Follow<V>, C: Collection<V>> Token for KeyedLines<V, B, C> {
         (⟦<WordText as Token>⟧.means s.key) (V.means s.value) (SpellsWord s.keys.controller) (B.texts s.values)
         (B.alone s.values) s.mark s.end (is_begun s.stage) s.ended.items s.small_mark s.small_end
         (⟦<WordText as Token>⟧.holds_bytes s.key) (V.holds_bytes s.value) (word_text_bytes s.keys.controller) (B.text_bytes s.values) (is_marked s.stage) };
+}
+
+impl<V: Token, B: Follow<V>, C: Collection<V>> WholeLines for KeyedLines<V, B, C> {
+    fn take_line(&mut self, line: &[u8], end: u8) -> bool {
+        if self.has_key() || end != self.end {
+            return false;
+        }
+        let (key, value) = match self.read_line(line) {
+            Some(pair) => pair,
+            None => return false,
+        };
+        if !self.pairs.add(key, value) {
+            return false;
+        }
+        self.key = self.keys.start();
+        self.value = self.values.start();
+        self.stage = Stage::Before;
+        true
+    }
 }

@@ -52,6 +52,19 @@ impl<T: Token> Token for LabelText<T> {
         }
     }
 
+    #[inline(always)]
+    fn whole(&self, bytes: &[u8]) -> Option<(((), T::Out), usize)> {
+        let count = match self.label.whole(bytes) {
+            Some((_, count)) => count,
+            None => return None,
+        };
+        let (_, rest) = bytes.split_at(count);
+        match self.token.whole(rest) {
+            Some((value, more)) => Some((((), value), count + more)),
+            None => None,
+        }
+    }
+
     fn allows(&self, byte: u8) -> bool {
         if self.label.can_end() {
             self.token.allows(byte)

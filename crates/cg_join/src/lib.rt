@@ -31,6 +31,7 @@ pub mod sequence;
 pub mod start;
 pub mod starts;
 mod store;
+pub mod whole_lines;
 pub mod words;
 
 pub use amount::AmountText;
@@ -65,4 +66,5 @@ pub use run::{run_line, run_parts};
 pub use sequence::Sequence;
 pub use start::Start;
 pub use starts::NumberStart;
+pub use whole_lines::WholeLines;
 pub use words::WordStart;

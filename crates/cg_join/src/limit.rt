@@ -92,6 +92,11 @@ impl Token for LimitText {
         self.parts.run(bytes)
     }
 
+    #[inline(always)]
+    fn whole(&self, bytes: &[u8]) -> Option<(Limit, usize)> {
+        self.parts.whole(bytes)
+    }
+
     fn allows(&self, byte: u8) -> bool {
         self.parts.allows(byte)
     }

@@ -7,8 +7,9 @@ ghost use Rattle.cg_join.specs.Lines.{AreLines, AreLinesAfter};
 
 use crate::run::run_parts;
 use crate::start::Start;
-use crate::store::{held_in_all, make_room, put};
-use cg_text::{Items, OutOfMemory, Token};
+use crate::store::{held_in_all, put};
+use crate::whole_lines::WholeLines;
+use cg_text::{Items, OutOfMemory, Token, make_room};
 use std::alloc::Global;
 use std::mem;
 
@@ -132,4 +133,25 @@ impl<T: Token, S: Start<T>> Token for Lines<T, S> {
     ghost one_value = { λ s. lines_after_one s.end (T.means s.current) (S.texts s.start) s.items.items s.begun s.lacks s.starts (T.one_value s.current) (S.one_text s.start) };
 
     ghost holds_bytes = { λ s rest all h. lines_bytes (T.means s.current) (S.texts s.start) s.end s.small (T.holds_bytes s.current) (S.text_bytes s.start) s.begun rest h.0 h.2 };
+}
+
+impl<T: Token, S: Start<T>> WholeLines for Lines<T, S> {
+    fn take_line(&mut self, line: &[u8], end: u8) -> bool {
+        if end != self.end {
+            return false;
+        }
+        let (value, count) = match self.current.whole(line) {
+            Some(found) => found,
+            None => return false,
+        };
+        if count < line.len() || make_room(&mut self.items).is_err() {
+            return false;
+        }
+        let new_size = T::held_in(&value);
+        put(&mut self.items, value);
+        self.items_held = self.items_held.saturating_add(1).saturating_add(new_size);
+        self.current = self.start.start();
+        self.begun = false;
+        true
+    }
 }

@@ -121,6 +121,14 @@ impl<V: Token, F: MakePair<V>> Collection<V> for PairList<V, F> {
         self.items_held = self.items_held.saturating_add(1).saturating_add(new_size);
     }
 
+    fn add(&mut self, key: Key, value: V::Out) -> bool {
+        if self.pairs.has(key.bytes()) || self.pairs.reserve().is_err() {
+            return false;
+        }
+        self.push(key, value);
+        true
+    }
+
     fn held(&self) -> u64 {
         self.items_held
     }

@@ -1,12 +1,12 @@
 //! Any number of pairs of a word and a value, the words all different.
-ghost use Rattle.std.specs.Prelude.{◌≡◌, ◌+◌, ◌≤◌, ◌<◌, true, false, [], map, length, OnErr};
+ghost use Rattle.std.specs.Prelude.{◌≡◌, ◌+◌, ◌≤◌, ◌<◌, true, false, [], map, length, IsTrue, IfSome, OnErr};
 ghost use Rattle.cg_text.specs.Token.{Begins, Follows, IfRefused, IfTaken, NoneBegins, Same, Spells, UnlessTaken, told};
 ghost use Rattle.cg_join.specs.Repeat.{Stops, items_size};
 ghost use Rattle.cg_join.specs.Line.{LacksByte};
 ghost use Rattle.cg_join.specs.Distinct.{AreDistinct};
 ghost use Rattle.cg_join.specs.DistinctLaws.{AreDistinct_prop};
 ghost use Rattle.cg_join.specs.JoinedPairs.{AreJoinedPairs};
-ghost use Rattle.cg_join.specs.Pairs.{IsPairText, PairRest, ArePairs, ArePairsAfter, pair_size};
+ghost use Rattle.cg_join.specs.Pairs.{IsPairFront, IsPairText, PairRest, ArePairs, ArePairsAfter, pair_size};
 ghost use Rattle.cg_join.specs.PairsState.{WordAtHand, last_size, whole_pairs};
 ghost use Rattle.cg_join.specs.WordStartLaws.{SpellsWord};
 ghost use Rattle.cg_join.specs.declared.pairs.Stage.TheVariants.{Before, InWord, InValue};
@@ -178,6 +178,47 @@ impl<V: Token, B: Start<V>, F: Pairing<V>> DistinctPairs<V, B, F> {
     }
 }
 
+impl<V: Token, B: Start<V>, F: Pairing<V>> DistinctPairs<V, B, F> {
+    /// Whether the word of the first pair is at hand.
+    fn is_first_word(&self) -> bool
+        ensures { IsTrue result → (self.now.stage ≡ InWord) × (self.now.items.items ≡ []) }
+    {
+        match self.stage {
+            Stage::Before => false,
+            Stage::InWord => self.items.placed().is_empty(),
+            Stage::InValue => false,
+        }
+    }
+}
+
+/// The pair in front of the bytes, a rest of the word, the mark and a rest of the value, and how many bytes it has. It may find
+/// none where there is one.
+fn pair_in_front<V: Token, F: Pairing<V>>(
+    word: &WordText,
+    value: &V,
+    mark: u8,
+    bytes: &[u8],
+) -> Option<(F::Pair, usize)>
+    ensures front { IfSome result (IsPairFront F.word_of F.value_of (⟦<WordText as Token>⟧.means word.now) (V.means value.now) mark bytes.now) }
+    ensures size { IfSome result (λ r. pair_size F.word_of F.value_of ⟦<WordText as Token>⟧.value_size V.value_size r.0 + 1 ≤ ⟦<WordText as Token>⟧.size word.now + (V.size value.now + r.1)) }
+{
+    let (key, count) = match word.whole(bytes) {
+        Some(found) => found,
+        None => return None,
+    };
+    if count == bytes.len() || bytes[count] != mark {
+        return None;
+    }
+    let (_, rest) = bytes.split_at(count + 1);
+    let (part, more) = match value.whole(rest) {
+        Some(found) => found,
+        None => return None,
+    };
+    let mut pair = F::begin(key);
+    F::complete(&mut pair, part);
+    Some((pair, count + 1 + more))
+}
+
 impl<V: Token, B: Start<V>, F: Pairing<V>> Token for DistinctPairs<V, B, F> {
     type Out = KeyedItems<F::Pair>;
 
@@ -221,6 +262,39 @@ impl<V: Token, B: Start<V>, F: Pairing<V>> Token for DistinctPairs<V, B, F> {
             Stage::InWord => self.word.run(bytes),
             Stage::InValue => self.value.run(bytes),
         }
+    }
+
+    fn whole(&self, bytes: &[u8]) -> Option<(KeyedItems<F::Pair>, usize)> {
+        if !self.is_first_word() {
+            return None;
+        }
+        let (pair, mut used) = match pair_in_front::<V, F>(
+            &self.word,
+            &self.value,
+            self.mark,
+            bytes,
+        ) {
+            Some(found) => found,
+            None => return None,
+        };
+        let mut items = KeyedItems::new(self.words.alloc());
+        if items.push(pair).is_err() {
+            return None;
+        }
+        let word = self.words.start();
+        let value = self.values.start();
+        while used < bytes.len() && bytes[used] == self.separator {
+            let (_, rest) = bytes.split_at(used + 1);
+            let (pair, count) = match pair_in_front::<V, F>(&word, &value, self.mark, rest) {
+                Some(found) => found,
+                None => return None,
+            };
+            if items.push(pair).is_err() {
+                return None;
+            }
+            used += 1 + count;
+        }
+        Some((items, used))
     }
 
     fn allows(&self, byte: u8) -> bool {

@@ -4,8 +4,8 @@ ghost use Rattle.cg_text.specs.Token.{Spells, told};
 ghost use Rattle.cg_join.specs.Repeat.{AreJoined, IsListAfter, LacksEmpty, Stops, items_size, out_size};
 
 use crate::start::Start;
-use crate::store::{held_in_joined, make_room, put};
-use cg_text::{Items, OutOfMemory, Token};
+use crate::store::{held_in_joined, put};
+use cg_text::{Items, OutOfMemory, Token, make_room};
 use std::alloc::Global;
 use std::mem;
 

@@ -5,28 +5,12 @@ ghost use Rattle.cg_join.specs.Repeat.{items_size, out_size};
 
 use cg_text::{OutOfMemory, Token};
 
-/// Makes room for one more value.
-pub(crate) fn make_room<X: Drop>(items: &mut Vec<X>) -> Result<(), OutOfMemory>
-    ensures items { items.new.items ≡ items.old.items }
-    ensures len { vec_len items.new ≡ vec_len items.old }
-    ensures room { OnOk result (vec_len items.new < vec_capacity items.new) }
-    ensures capacity { vec_capacity items.old ≤ vec_capacity items.new }
-{
-    match items.reserve(1) {
-        Ok(()) => Ok(()),
-        Err(_) => Err(OutOfMemory),
-    }
-}
-
 /// Adds a value where there is room.
 pub(crate) fn put<X: Drop>(items: &mut Vec<X>, value: X)
     requires { vec_len items.old < vec_capacity items.old }
     ensures { items.new.items ≡ items.old.items ++ value ∷ [] }
 {
-    match items.push(value) {
-        Ok(()) => {}
-        Err(_) => unreachable!(),
-    }
+    items.push_reserved(value);
 }
 
 /// The sum of the lengths of the vectors in values, and a place for each.

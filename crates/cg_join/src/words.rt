@@ -23,6 +23,11 @@ impl WordStart {
     {
         WordStart { alloc, controller }
     }
+
+    /// From where words take their memory.
+    pub(crate) fn alloc(&self) -> Global {
+        self.alloc
+    }
 }
 
 impl Start<WordText> for WordStart {

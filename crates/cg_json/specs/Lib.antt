@@ -1,8 +1,11 @@
+pub mod Compact
+pub mod CompactLaws
 pub mod Entry
 pub mod EntryLaws
 pub mod Json
 pub mod JsonLaws
 pub mod Laws
+pub mod PutLaws
 pub mod RowLaws
 pub mod Rows
 pub mod Value

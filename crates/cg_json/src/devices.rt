@@ -1,8 +1,10 @@
 //! What is told of devices, line by line.
-ghost use Rattle.std.specs.Prelude.{◌≡◌, IfOk};
+ghost use Rattle.std.specs.Prelude.{◌≡◌, ◌++◌, IfOk, OnOk};
 ghost use Rattle.serde_json.specs.View.{view};
+ghost use Rattle.serde_json.specs.Written.{compact_text};
 ghost use Rattle.cg_json.specs.Json.{stat_data, limits_data, weight_data, target_data, weights_data};
 
+use crate::compact::{append_array, append_bytes, append_labelled, append_placed_object};
 use crate::json::{Json, array, placed_object};
 use cg_text::OutOfMemory;
 use cg_value::{LimitLine, StatLine, TargetLine, WeightLine};
@@ -24,6 +26,13 @@ impl Json for StatLine {
         )?;
         Ok(Value::Object(map))
     }
+
+    fn append_to(&self, out: &mut Vec<u8>) -> Result<(), OutOfMemory> {
+        append_labelled(out, b"{\"device\":", &self.device)?;
+        append_bytes(out, b",\"stats\":")?;
+        append_placed_object(out, self.pairs.placed())?;
+        append_bytes(out, b"}")
+    }
 }
 
 /// The device and its four limits.
@@ -39,6 +48,15 @@ impl Json for LimitLine {
         serde_json::put(&mut map, alloc, "wiops", self.wiops.json(alloc)?)?;
         Ok(Value::Object(map))
     }
+
+    fn append_to(&self, out: &mut Vec<u8>) -> Result<(), OutOfMemory> {
+        append_labelled(out, b"{\"device\":", &self.device)?;
+        append_labelled(out, b",\"rbps\":", &self.rbps)?;
+        append_labelled(out, b",\"riops\":", &self.riops)?;
+        append_labelled(out, b",\"wbps\":", &self.wbps)?;
+        append_labelled(out, b",\"wiops\":", &self.wiops)?;
+        append_bytes(out, b"}")
+    }
 }
 
 /// The device and its weight.
@@ -51,6 +69,12 @@ impl Json for WeightLine {
         serde_json::put(&mut map, alloc, "weight", self.weight.json(alloc)?)?;
         Ok(Value::Object(map))
     }
+
+    fn append_to(&self, out: &mut Vec<u8>) -> Result<(), OutOfMemory> {
+        append_labelled(out, b"{\"device\":", &self.device)?;
+        append_labelled(out, b",\"weight\":", &self.weight)?;
+        append_bytes(out, b"}")
+    }
 }
 
 /// The device and its target.
@@ -62,6 +86,12 @@ impl Json for TargetLine {
         serde_json::put(&mut map, alloc, "device", self.device.json(alloc)?)?;
         serde_json::put(&mut map, alloc, "target", self.target.json(alloc)?)?;
         Ok(Value::Object(map))
+    }
+
+    fn append_to(&self, out: &mut Vec<u8>) -> Result<(), OutOfMemory> {
+        append_labelled(out, b"{\"device\":", &self.device)?;
+        append_labelled(out, b",\"target\":", &self.target)?;
+        append_bytes(out, b"}")
     }
 }
 
@@ -77,4 +107,18 @@ pub(crate) fn weights(
     serde_json::put(&mut map, alloc, "default", default.json(alloc)?)?;
     serde_json::put(&mut map, alloc, "devices", array(alloc, lines)?)?;
     Ok(Value::Object(map))
+}
+
+/// Adds the default weight and those of the devices.
+pub(crate) fn append_weights(
+    out: &mut Vec<u8>,
+    default: u64,
+    lines: &[WeightLine],
+) -> Result<(), OutOfMemory>
+    ensures { OnOk result (out.new.items ≡ out.old.items ++ compact_text (weights_data default lines.now)) }
+{
+    append_labelled(out, b"{\"default\":", &default)?;
+    append_bytes(out, b",\"devices\":")?;
+    append_array(out, lines)?;
+    append_bytes(out, b"}")
 }

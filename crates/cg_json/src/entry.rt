@@ -1,16 +1,19 @@
 //! Entries as JSON trees, and as lines of JSON.
-ghost use Rattle.std.specs.Prelude.{◌≡◌, ◌++◌, ◌∷◌, [], false, IfOk};
+ghost use Rattle.std.specs.Prelude.{◌≡◌, ◌++◌, IfOk, OnOk};
 ghost use Rattle.serde_json.specs.View.{view as tree_view};
-ghost use Rattle.serde_json.specs.Written.{compact_text, has_float};
 ghost use Rattle.cg_json.specs.Entry.{line_of, view_of};
 
+use crate::compact::{append_bytes, append_labelled};
 use crate::json::Json;
-use crate::text::{string, text};
+use crate::text::{append_string, append_text, string, text};
 use crate::value::kind_word;
 use cg_text::OutOfMemory;
 use cg_value::Entry;
 use serde_json::{Map, Value};
 use std::alloc::Global;
+
+/// As many bytes as most lines have.
+const FIRST_ROOM: usize = 256;
 
 /// The JSON tree of an entry: an object of the word of its kind, its path and its value. Bytes that aren't UTF-8 are
 /// arrays of numbers. `OutOfMemory` where no memory is left.
@@ -25,21 +28,24 @@ pub fn view(alloc: Global, entry: &Entry) -> Result<Value, OutOfMemory>
     Ok(Value::Object(map))
 }
 
-/// The compact text of a tree, and a newline.
-fn text_line(alloc: Global, tree: &Value) -> Result<Vec<u8>, OutOfMemory>
-    requires { has_float (tree_view tree.now) ≡ false }
-    ensures { IfOk result (λ line. line.items ≡ compact_text (tree_view tree.now) ++ 10 ∷ []) }
+/// Adds the JSON tree of an entry without spaces, and a newline. `OutOfMemory` where no memory is left.
+pub fn append_line(out: &mut Vec<u8>, entry: &Entry) -> Result<(), OutOfMemory>
+    ensures { OnOk result (out.new.items ≡ out.old.items ++ line_of entry.now) }
 {
-    let text = tree.to_string(alloc)?;
-    let mut line = Vec::from_slice(alloc, text.as_bytes())?;
-    line.push(b'\n')?;
-    Ok(line)
+    let value = entry.value();
+    append_bytes(out, b"{\"kind\":")?;
+    append_string(out, kind_word(value))?;
+    append_bytes(out, b",\"path\":")?;
+    append_text(out, entry.path())?;
+    append_labelled(out, b",\"value\":", value)?;
+    append_bytes(out, b"}\n")
 }
 
 /// The JSON tree of an entry without spaces, and a newline. `OutOfMemory` where no memory is left.
 pub fn line(alloc: Global, entry: &Entry) -> Result<Vec<u8>, OutOfMemory>
     ensures { IfOk result (λ line. line.items ≡ line_of entry.now) }
 {
-    let tree = view(alloc, entry)?;
-    text_line(alloc, &tree)
+    let mut line = Vec::with_capacity(alloc, FIRST_ROOM)?;
+    append_line(&mut line, entry)?;
+    Ok(line)
 }

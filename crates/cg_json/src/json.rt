@@ -1,7 +1,8 @@
 //! JSON trees of values, one inside another.
-ghost use Rattle.std.specs.Prelude.{◌≡◌, ℕ, List, IfOk, map};
+ghost use Rattle.std.specs.Prelude.{◌≡◌, ◌++◌, ℕ, List, IfOk, OnOk, map};
 ghost use Rattle.serde_json.specs.Data.{Data};
 ghost use Rattle.serde_json.specs.View.{view};
+ghost use Rattle.serde_json.specs.Written.{compact_text};
 ghost use Rattle.cg_json.specs.Json.{array_of, keyed};
 
 use crate::text::key_text;
@@ -18,6 +19,10 @@ pub(crate) trait Json {
     /// Makes the tree.
     fn json(&self, alloc: Global) -> Result<Value, OutOfMemory>
         ensures { IfOk result (λ tree. view tree ≡ tree_of self.now) };
+
+    /// Adds the compact text of the tree, without making it.
+    fn append_to(&self, out: &mut Vec<u8>) -> Result<(), OutOfMemory>
+        ensures { OnOk result (out.new.items ≡ out.old.items ++ compact_text (tree_of self.now)) };
 }
 
 /// What is a member of an object: a key, and a JSON tree.
@@ -37,6 +42,10 @@ impl<T: Json> Json for Placed<T> {
     fn json(&self, alloc: Global) -> Result<Value, OutOfMemory> {
         self.item().json(alloc)
     }
+
+    fn append_to(&self, out: &mut Vec<u8>) -> Result<(), OutOfMemory> {
+        self.item().append_to(out)
+    }
 }
 
 impl<T: Member> Member for Placed<T> {
@@ -44,6 +53,27 @@ impl<T: Member> Member for Placed<T> {
 
     fn key(&self) -> &Key {
         self.item().key()
+    }
+}
+
+/// The tree of what is referred to.
+impl<T: Json> Json for &T {
+    ghost tree_of = { λ value. T.tree_of value.now };
+
+    fn json(&self, alloc: Global) -> Result<Value, OutOfMemory> {
+        T::json(*self, alloc)
+    }
+
+    fn append_to(&self, out: &mut Vec<u8>) -> Result<(), OutOfMemory> {
+        T::append_to(*self, out)
+    }
+}
+
+impl<T: Member> Member for &T {
+    ghost key_of = { λ member. T.key_of member.now };
+
+    fn key(&self) -> &Key {
+        T::key(*self)
     }
 }
 

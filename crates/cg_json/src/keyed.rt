@@ -1,6 +1,7 @@
 //! Pairs of a key and a number, and lines of such pairs.
 ghost use Rattle.cg_json.specs.Json.{number_data, amount_data, nested_data};
 
+use crate::compact::append_placed_object;
 use crate::json::{Json, Member, placed_object};
 use cg_text::{Key, OutOfMemory};
 use cg_value::{FlatPair, NestedLine, NestedPair, StatPair};
@@ -13,6 +14,10 @@ impl Json for FlatPair {
 
     fn json(&self, alloc: Global) -> Result<Value, OutOfMemory> {
         self.number.json(alloc)
+    }
+
+    fn append_to(&self, out: &mut Vec<u8>) -> Result<(), OutOfMemory> {
+        self.number.append_to(out)
     }
 }
 
@@ -31,6 +36,10 @@ impl Json for NestedPair {
     fn json(&self, alloc: Global) -> Result<Value, OutOfMemory> {
         self.number.json(alloc)
     }
+
+    fn append_to(&self, out: &mut Vec<u8>) -> Result<(), OutOfMemory> {
+        self.number.append_to(out)
+    }
 }
 
 impl Member for NestedPair {
@@ -48,6 +57,10 @@ impl Json for StatPair {
     fn json(&self, alloc: Global) -> Result<Value, OutOfMemory> {
         self.amount.json(alloc)
     }
+
+    fn append_to(&self, out: &mut Vec<u8>) -> Result<(), OutOfMemory> {
+        self.amount.append_to(out)
+    }
 }
 
 impl Member for StatPair {
@@ -64,6 +77,10 @@ impl Json for NestedLine {
 
     fn json(&self, alloc: Global) -> Result<Value, OutOfMemory> {
         placed_object(alloc, self.pairs.placed())
+    }
+
+    fn append_to(&self, out: &mut Vec<u8>) -> Result<(), OutOfMemory> {
+        append_placed_object(out, self.pairs.placed())
     }
 }
 

@@ -1,6 +1,7 @@
 //! Entries as JSON (RFC 8259).
 #![tactic(auto)]
 
+pub(crate) mod compact;
 pub(crate) mod cpuset;
 pub(crate) mod devices;
 pub mod entry;
@@ -13,4 +14,4 @@ pub(crate) mod text;
 pub(crate) mod tokens;
 pub(crate) mod value;
 
-pub use entry::{line, view};
+pub use entry::{append_line, line, view};

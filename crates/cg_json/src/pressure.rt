@@ -1,8 +1,10 @@
 //! Pressure stall information.
-ghost use Rattle.std.specs.Prelude.{◌≡◌, IfOk};
+ghost use Rattle.std.specs.Prelude.{◌≡◌, ◌++◌, IfOk, OnOk};
 ghost use Rattle.serde_json.specs.View.{view};
+ghost use Rattle.serde_json.specs.Written.{compact_text};
 ghost use Rattle.cg_json.specs.Json.{averages_data, pressure_data};
 
+use crate::compact::{append_bytes, append_labelled};
 use crate::json::Json;
 use cg_text::OutOfMemory;
 use cg_value::Averages;
@@ -21,6 +23,14 @@ impl Json for Averages {
         serde_json::put(&mut map, alloc, "total", self.total.json(alloc)?)?;
         Ok(Value::Object(map))
     }
+
+    fn append_to(&self, out: &mut Vec<u8>) -> Result<(), OutOfMemory> {
+        append_labelled(out, b"{\"avg10\":", &self.avg10)?;
+        append_labelled(out, b",\"avg300\":", &self.avg300)?;
+        append_labelled(out, b",\"avg60\":", &self.avg60)?;
+        append_labelled(out, b",\"total\":", &self.total)?;
+        append_bytes(out, b"}")
+    }
 }
 
 /// What some tasks and what all tasks lose, each where it is given.
@@ -35,4 +45,17 @@ pub(crate) fn pressure(
     serde_json::put(&mut map, alloc, "full", full.json(alloc)?)?;
     serde_json::put(&mut map, alloc, "some", some.json(alloc)?)?;
     Ok(Value::Object(map))
+}
+
+/// Adds what some tasks and what all tasks lose, each where it is given.
+pub(crate) fn append_pressure(
+    out: &mut Vec<u8>,
+    some: Option<Averages>,
+    full: Option<Averages>,
+) -> Result<(), OutOfMemory>
+    ensures { OnOk result (out.new.items ≡ out.old.items ++ compact_text (pressure_data some full)) }
+{
+    append_labelled(out, b"{\"full\":", &full)?;
+    append_labelled(out, b",\"some\":", &some)?;
+    append_bytes(out, b"}")
 }

@@ -3,10 +3,12 @@ ghost use Rattle.serde_json.specs.Data.{string};
 ghost use Rattle.cg_value.specs.ReadLine.{mode_text, role_text};
 ghost use Rattle.cg_json.specs.Json.{number_data, signed_data, limit_data, hundredths_data, clamp_data, amount_data, device_data, given_data};
 
+use crate::compact::{append_bytes, append_labelled};
 use crate::json::Json;
-use crate::text::string;
+use crate::text::{append_string, string};
 use cg_text::{Amount, Clamp, Device, Hundredths, Limit, OutOfMemory};
 use cg_value::{GroupMode, Role};
+use itoa::Buffer;
 use serde_json::{Map, Value};
 use std::alloc::Global;
 
@@ -16,6 +18,11 @@ impl Json for u8 {
     fn json(&self, _alloc: Global) -> Result<Value, OutOfMemory> {
         Ok(Value::from(*self))
     }
+
+    fn append_to(&self, out: &mut Vec<u8>) -> Result<(), OutOfMemory> {
+        let mut digits = Buffer::new();
+        append_bytes(out, digits.format(*self).as_bytes())
+    }
 }
 
 impl Json for u32 {
@@ -23,6 +30,11 @@ impl Json for u32 {
 
     fn json(&self, _alloc: Global) -> Result<Value, OutOfMemory> {
         Ok(Value::from(*self))
+    }
+
+    fn append_to(&self, out: &mut Vec<u8>) -> Result<(), OutOfMemory> {
+        let mut digits = Buffer::new();
+        append_bytes(out, digits.format(*self).as_bytes())
     }
 }
 
@@ -32,6 +44,11 @@ impl Json for u64 {
     fn json(&self, _alloc: Global) -> Result<Value, OutOfMemory> {
         Ok(Value::from(*self))
     }
+
+    fn append_to(&self, out: &mut Vec<u8>) -> Result<(), OutOfMemory> {
+        let mut digits = Buffer::new();
+        append_bytes(out, digits.format(*self).as_bytes())
+    }
 }
 
 impl Json for i64 {
@@ -39,6 +56,11 @@ impl Json for i64 {
 
     fn json(&self, _alloc: Global) -> Result<Value, OutOfMemory> {
         Ok(Value::from(*self))
+    }
+
+    fn append_to(&self, out: &mut Vec<u8>) -> Result<(), OutOfMemory> {
+        let mut digits = Buffer::new();
+        append_bytes(out, digits.format(*self).as_bytes())
     }
 }
 
@@ -52,6 +74,13 @@ impl Json for Limit {
             Limit::At(number) => number.json(alloc),
         }
     }
+
+    fn append_to(&self, out: &mut Vec<u8>) -> Result<(), OutOfMemory> {
+        match self {
+            Limit::Max => append_string(out, "max"),
+            Limit::At(number) => number.append_to(out),
+        }
+    }
 }
 
 /// The number of hundredths.
@@ -60,6 +89,10 @@ impl Json for Hundredths {
 
     fn json(&self, alloc: Global) -> Result<Value, OutOfMemory> {
         self.count.json(alloc)
+    }
+
+    fn append_to(&self, out: &mut Vec<u8>) -> Result<(), OutOfMemory> {
+        self.count.append_to(out)
     }
 }
 
@@ -71,6 +104,13 @@ impl Json for Clamp {
         match self {
             Clamp::Max => string(alloc, "max"),
             Clamp::At(percentage) => percentage.json(alloc),
+        }
+    }
+
+    fn append_to(&self, out: &mut Vec<u8>) -> Result<(), OutOfMemory> {
+        match self {
+            Clamp::Max => append_string(out, "max"),
+            Clamp::At(percentage) => percentage.append_to(out),
         }
     }
 }
@@ -90,6 +130,17 @@ impl Json for Amount {
             Amount::Max => string(alloc, "max"),
         }
     }
+
+    fn append_to(&self, out: &mut Vec<u8>) -> Result<(), OutOfMemory> {
+        match self {
+            Amount::Whole(number) => number.append_to(out),
+            Amount::Decimal(hundredths) => {
+                append_labelled(out, b"{\"hundredths\":", hundredths)?;
+                append_bytes(out, b"}")
+            }
+            Amount::Max => append_string(out, "max"),
+        }
+    }
 }
 
 /// A device, as `"8:0"`.
@@ -98,6 +149,13 @@ impl Json for Device {
 
     fn json(&self, alloc: Global) -> Result<Value, OutOfMemory> {
         Ok(Value::String(format!(in alloc; "{}:{}", self.major, self.minor)?))
+    }
+
+    fn append_to(&self, out: &mut Vec<u8>) -> Result<(), OutOfMemory> {
+        let Device { major, minor } = *self;
+        append_labelled(out, b"\"", &major)?;
+        append_labelled(out, b":", &minor)?;
+        append_bytes(out, b"\"")
     }
 }
 
@@ -112,6 +170,15 @@ impl Json for GroupMode {
             GroupMode::Threaded => string(alloc, "threaded"),
         }
     }
+
+    fn append_to(&self, out: &mut Vec<u8>) -> Result<(), OutOfMemory> {
+        match self {
+            GroupMode::Domain => append_string(out, "domain"),
+            GroupMode::DomainThreaded => append_string(out, "domain threaded"),
+            GroupMode::DomainInvalid => append_string(out, "domain invalid"),
+            GroupMode::Threaded => append_string(out, "threaded"),
+        }
+    }
 }
 
 impl Json for Role {
@@ -124,6 +191,14 @@ impl Json for Role {
             Role::Isolated => string(alloc, "isolated"),
         }
     }
+
+    fn append_to(&self, out: &mut Vec<u8>) -> Result<(), OutOfMemory> {
+        match self {
+            Role::Member => append_string(out, "member"),
+            Role::Root => append_string(out, "root"),
+            Role::Isolated => append_string(out, "isolated"),
+        }
+    }
 }
 
 /// What is given, or `null`.
@@ -134,6 +209,13 @@ impl<T: Json> Json for Option<T> {
         match self {
             Some(value) => value.json(alloc),
             None => Ok(Value::Null),
+        }
+    }
+
+    fn append_to(&self, out: &mut Vec<u8>) -> Result<(), OutOfMemory> {
+        match self {
+            Some(value) => value.append_to(out),
+            None => append_bytes(out, b"null"),
         }
     }
 }

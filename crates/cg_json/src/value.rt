@@ -2,11 +2,12 @@
 ghost use Rattle.std.specs.Prelude.{◌≡◌};
 ghost use Rattle.cg_json.specs.Value.{kind_word, value_data};
 
-use crate::cpuset::{cpu_max, partition};
-use crate::devices::weights;
+use crate::compact::{append_array, append_object, append_placed_array, append_placed_object};
+use crate::cpuset::{append_cpu_max, append_partition, cpu_max, partition};
+use crate::devices::{append_weights, weights};
 use crate::json::{Json, array, object, placed_array, placed_object};
-use crate::pressure::pressure;
-use crate::text::texts;
+use crate::pressure::{append_pressure, pressure};
+use crate::text::{append_texts, texts};
 use cg_text::OutOfMemory;
 use cg_value::Value;
 use std::alloc::Global;
@@ -65,6 +66,37 @@ impl Json for Value {
             Value::Pressure { some, full } => pressure(alloc, *some, *full),
             Value::Nested(lines) => placed_object(alloc, lines.placed()),
             Value::Raw(lines) => texts(alloc, lines),
+        }
+    }
+
+    fn append_to(&self, out: &mut Vec<u8>) -> Result<(), OutOfMemory> {
+        match self {
+            Value::Number(number) => number.append_to(out),
+            Value::Signed(number) => number.append_to(out),
+            Value::Limit(limit) => limit.append_to(out),
+            Value::Mode(mode) => mode.append_to(out),
+            Value::CpuMax { quota, period } => append_cpu_max(out, *quota, *period),
+            Value::Clamp(clamp) => clamp.append_to(out),
+            Value::Numbers(numbers) => append_array(out, numbers.as_slice()),
+            Value::Words(words) => append_placed_array(out, words.placed()),
+            Value::Flat(flat) => append_object(out, flat.pairs()),
+            Value::DeviceStats(lines) => append_array(out, lines.as_slice()),
+            Value::DeviceLimits(lines) => append_array(out, lines.as_slice()),
+            Value::DeviceWeights { default, lines } => append_weights(
+                out,
+                *default,
+                lines.as_slice(),
+            ),
+            Value::DeviceTargets(lines) => append_array(out, lines.as_slice()),
+            Value::Set(set) => append_array(out, set.ranges()),
+            Value::Partition {
+                role,
+                valid,
+                reason,
+            } => append_partition(out, *role, *valid, reason),
+            Value::Pressure { some, full } => append_pressure(out, *some, *full),
+            Value::Nested(lines) => append_placed_object(out, lines.placed()),
+            Value::Raw(lines) => append_texts(out, lines),
         }
     }
 }

@@ -66,6 +66,10 @@ holds_more kind taken b old new form grows whole h lines line v e plain spelled 
       omega (arith, before, longer, grows)
 ]
 
+lacks_last : (front : List ℕ) (b : ℕ) → Lacks 10 (front ++ b ∷ []) → b ≡ 10 → ⊥
+lacks_last [] b h e = h.0 e
+lacks_last (x ∷ front) b h e = lacks_last front b h.1 e
+
 -- Nothing is held at the start.
 pub holds_none : (kind : ReadForm) (size : ℕ) → size ≡ 0 → HoldsLittle size kind []
 holds_none kind size e lines line v text plain spelled = omega (arith, e)
@@ -90,6 +94,18 @@ no_line_ends : (lines : List (List ℕ)) (taken : List ℕ) (b : ℕ) → (b ≡
 no_line_ends lines taken b other e = elim (lines_last lines) [
   | inl none ↦ not_empty taken b (e ∙ none)
   | inr some ↦ other (last_same taken some.0 b 10 (e ∙ some.1))
+]
+
+-- A newline was taken: a whole file holds at most what its value does.
+pub holds_line : (kind : ReadForm) (taken : List ℕ) (size : ℕ) → IsReadForm kind → ((v : Value) → KindText kind v (taken ++ 10 ∷ []) → size ≤ held_of_whole v) → HoldsLittle size kind (taken ++ 10 ∷ [])
+holds_line kind taken size form whole lines line v e plain spelled = elim (last_of line) [
+  | inl none ↦
+      let text : taken ++ 10 ∷ [] ≡ unlines lines = e ∙ ap (λ t. unlines lines ++ t) none ∙ append-nil (unlines lines) in
+      let bound = whole v (record { lines = lines; spelled = spelled; text_is = text }) in
+      omega (arith, whole_line kind v lines taken 10 size form spelled text bound)
+  | inr some ↦
+      let text : taken ++ 10 ∷ [] ≡ (unlines lines ++ some.front) ++ some.last ∷ [] = e ∙ ap (λ t. unlines lines ++ t) some.is ∙ sym (append_assoc (unlines lines) some.front (some.last ∷ [])) in
+      absurd (lacks_last some.front some.last (rw some.is at plain) (sym (last_same taken (unlines lines ++ some.front) 10 some.last text)))
 ]
 
 holds_plain : (kind : ReadForm) (taken : List ℕ) (b old new : ℕ) → (b ≡ 10 → ⊥) → new ≤ old + 1 → HoldsLittle old kind taken → HoldsLittle new kind (taken ++ b ∷ [])

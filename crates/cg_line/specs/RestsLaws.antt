@@ -7,7 +7,7 @@ use Rattle.cg_line.specs.declared.push.PushFault.{PushFault}
 use Rattle.cg_line.specs.declared.push.PushFault.TheVariants.{Refused, OutOfMemory}
 
 module _ {V : Type 0} (Text P Q : List ℕ → V → Type 0) (taken : List ℕ) where
-  read_same : SameRests P Q → IsRead Text P taken → IsRead Text Q taken
+  pub read_same : SameRests P Q → IsRead Text P taken → IsRead Text Q taken
   read_same same h = record { is = λ rest v. (λ q. (h.is rest v).0 ((same rest v).0 q), λ f. (same rest v).1 ((h.is rest v).1 f)); viable = h.viable }
 
   read_more : (b : ℕ) → SameRests (λ rest v. P (b ∷ rest) v) Q → Goes Q → IsRead Text P taken → IsRead Text Q (taken ++ b ∷ [])

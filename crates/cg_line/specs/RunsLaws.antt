@@ -4,14 +4,16 @@ use Rattle.std.proofs.lemmas.List.{take_more}
 use Rattle.cg_text.specs.Texts.{Lacks, Viable, TextOf}
 use Rattle.cg_text.specs.TextsLaws.{lacks_push}
 use Rattle.cg_value.specs.declared.kind.ReadForm.{ReadForm}
-use Rattle.cg_file.specs.Kinds.{TextsOf}
+use Rattle.cg_value.specs.Files.{KindText}
+use Rattle.cg_value.specs.declared.value.Value.{Value}
+use Rattle.cg_file.specs.Kinds.{TextsOf, held_of_whole}
 use Rattle.cg_line.specs.Rests.{Goes, IsRead, Runs}
 use Rattle.cg_file.specs.contracts.file_text.FileTextToken.TheImpl.{ghosts}
 use Rattle.cg_file.specs.declared.file_text.FileText.{FileText}
-use Rattle.cg_line.specs.HeldLaws.{holds_run}
+use Rattle.cg_line.specs.HeldLaws.{holds_line, holds_run}
 use Rattle.cg_line.specs.Place.{IsPlace}
 use Rattle.cg_line.specs.Reads.{Reads, is_reads, reads_is}
-use Rattle.cg_line.specs.declared.place.Place.TheVariants.{InLine}
+use Rattle.cg_line.specs.declared.place.Place.TheVariants.{InLine, LineEnd}
 use Rattle.cg_line.specs.declared.reader.ValueReader.{ValueReader}
 
 -- The last of some bytes that have no newline is none.
@@ -51,6 +53,21 @@ module _ (r : ValueReader) (m : FileText) (kind : ReadForm) (taken run : List �
         form = was.form;
         place = in_line taken run some plain;
         held = holds_run kind run taken (ghosts.size r.text) (ghosts.size m) plain size was.held;
+        few = omega (arith, size, was.few, length-append taken run);
+      })
+
+  -- A line and its newline were, which are the bytes.
+  pub ran_line : (line : List ℕ) → run ≡ line ++ 10 ∷ [] → Runs (ghosts.means r.text) run (ghosts.means m) → ghosts.size m ≤ ghosts.size r.text + length run →
+      (IsRead (TextsOf kind) (ghosts.means m) (taken ++ run) → (v : Value) → KindText kind v (taken ++ run) → ghosts.size m ≤ held_of_whole v) → Reads r kind taken → Reads (record { text = m; place = LineEnd }) kind (taken ++ run)
+  ran_line line e runs size settled h =
+      let was = is_reads r kind taken h in
+      let now = read_run (TextsOf kind) (ghosts.means r.text) (ghosts.means m) taken run runs was.rests in
+      let same : taken ++ run ≡ (taken ++ line) ++ 10 ∷ [] = ap (λ t. taken ++ t) e ∙ sym (append_assoc taken line (10 ∷ [])) in
+      reads_is _ _ _ (record {
+        rests = now;
+        form = was.form;
+        place = (taken ++ line, same);
+        held = rw same (holds_line kind (taken ++ line) (ghosts.size m) was.form (rw same at (settled now)));
         few = omega (arith, size, was.few, length-append taken run);
       })
 

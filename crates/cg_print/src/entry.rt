@@ -5,9 +5,9 @@ ghost use Rattle.cg_value.specs.Records.{records};
 ghost use Rattle.cg_print.specs.Headed.{headed, shown};
 ghost use Rattle.cg_print.specs.Entry.{WroteEntry};
 
-use crate::canonical::append_bytes;
+use crate::canonical::{append_bytes, append_newline};
 use crate::file::append_value;
-use crate::setting::print_setting;
+use crate::setting::append_setting;
 use crate::sink::Sink;
 use crate::text::{WriteStopped, write_text};
 use cg_text::OutOfMemory;
@@ -66,11 +66,12 @@ pub fn print_shown(alloc: Global, entry: &Entry) -> Result<Vec<u8>, OutOfMemory>
 pub fn print_item(alloc: Global, item: &PlanItem) -> Result<Vec<u8>, OutOfMemory>
     ensures { IfOk result (λ text. text.items ≡ item.now.path ++ 0 ∷ print_setting_of item.now.setting) }
 {
-    let line = print_setting(alloc, item.setting())?;
-    let mut text = Vec::new(alloc);
-    append_bytes(&mut text, item.path())?;
+    let path = item.path();
+    let mut text = Vec::with_capacity(alloc, path.len().saturating_add(LINE))?;
+    append_bytes(&mut text, path)?;
     append_bytes(&mut text, b"\0")?;
-    append_bytes(&mut text, line.as_slice())?;
+    append_setting(&mut text, item.setting())?;
+    append_newline(&mut text)?;
     Ok(text)
 }
 

@@ -26,7 +26,7 @@ pub fn print_setting(alloc: Global, setting: &Setting) -> Result<Vec<u8>, OutOfM
 }
 
 /// Adds the canonical line of a setting, without its newline.
-fn append_setting(text: &mut Vec<u8>, setting: &Setting) -> Result<(), OutOfMemory>
+pub(crate) fn append_setting(text: &mut Vec<u8>, setting: &Setting) -> Result<(), OutOfMemory>
     ensures { OnOk result (text.new.items ≡ text.old.items ++ print_setting_line setting.now) }
 {
     match setting {

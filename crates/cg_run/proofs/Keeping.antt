@@ -26,7 +26,7 @@ use Rattle.cg_run.specs.Taken.{taken_unstopped}
 use Rattle.cg_run.specs.declared.kept.KeptReader.{KeptReader}
 
 -- The first bytes of a stream that nothing stops.
-unstopped_front : (L : List ℕ → Type 0) (IsWhy : List ℕ → ℕ → Why → Type 0) (IsLong IsMany : List ℕ → ℕ → Type 0) (max : ℕ) (x y : List ℕ) →
+pub unstopped_front : (L : List ℕ → Type 0) (IsWhy : List ℕ → ℕ → Why → Type 0) (IsLong IsMany : List ℕ → ℕ → Type 0) (max : ℕ) (x y : List ℕ) →
     IsUnstopped L IsWhy IsLong IsMany max (x ++ y) → IsUnstopped L IsWhy IsLong IsMany max x
 unstopped_front L IsWhy IsLong IsMany max x y u k within =
     let e : take (k + 1) (x ++ y) ≡ take (k + 1) x = take-append-le {A = ℕ} (k + 1) x y (omega (arith, within)) in

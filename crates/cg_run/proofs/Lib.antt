@@ -11,6 +11,10 @@ pub mod Planning
 pub mod Profiles
 pub mod Pulled
 pub mod RunLemmas
+pub mod Showing
+pub mod ShowsBytes
+pub mod ShowsText
+pub mod SnapEnds
 pub mod Stops
 pub mod Streams
 pub mod Telling

@@ -1,5 +1,5 @@
 -- What a decoder of snapshots finds that took some bytes.
-use Rattle.std.proofs.Common.{◌≡◌, ℕ, ◌+◌, ◌<◌, List, [], ◌∷◌, ◌++◌, length, take, None, subst, ◌∙◌}
+use Rattle.std.proofs.Common.{◌≡◌, ℕ, ◌+◌, ◌-◌, ◌<◌, List, [], ◌∷◌, ◌++◌, length, take, None, subst, ◌∙◌}
 use Rattle.cg_value.specs.Entry.{EntryData}
 use Rattle.cg_value.specs.declared.profile.Profile.{Profile}
 use Rattle.cg_snap.specs.Closed.{Closed}
@@ -32,7 +32,7 @@ module _ (was now : SnapshotDecoder) (profile : Profile) (limits : Limits) (p : 
 
   abbrev pub PulledIs : What → Type 0
   PulledIs whats.NeedMore = HasTaken now profile limits (p ++ take used piece) es
-  PulledIs (whats.Entry e) = (0 < used) × HasTaken now profile limits (p ++ take used piece) (es ++ e ∷ [])
+  PulledIs (whats.Entry e) = (0 < used) × HasTaken now profile limits (p ++ take used piece) (es ++ e ∷ []) × Closed profile (p ++ take (used - 1) piece) es
   PulledIs (whats.Stopped stop) =
       IsByteStop stop × SnapStopOf profile limits (p ++ piece) stop × (place_of stop ≡ length p + used) × Closed profile (p ++ take used piece) es
   PulledIs whats.OutOfMemory =
@@ -41,7 +41,7 @@ module _ (was now : SnapshotDecoder) (profile : Profile) (limits : Limits) (p : 
 
   pub pulled_is : (what : What) → WhatIs now p es piece used what → PulledIs what
   pulled_is whats.NeedMore w = taken (p ++ take used piece) es w.0 w.2
-  pulled_is (whats.Entry e) w = (w.1, taken (p ++ take used piece) (es ++ e ∷ []) w.0 w.3)
+  pulled_is (whats.Entry e) w = (w.1, taken (p ++ take used piece) (es ++ e ∷ []) w.0 w.3, of_form (λ q l. Closed q (p ++ take (used - 1) piece) es) w.2)
   pulled_is (whats.Stopped stop) w = (
     byte_stop (p ++ piece) stop w.2,
     of_form (λ q l. SnapStopOf q l (p ++ piece) stop) w.2,

@@ -11,6 +11,9 @@ pub mod Planned
 pub mod Reading
 pub mod Rows
 pub mod Run
+pub mod Shown
+pub mod ShownBytes
+pub mod ShownText
 pub mod Source
 pub mod Stream
 pub mod Streaming

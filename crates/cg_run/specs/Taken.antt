@@ -2,6 +2,7 @@
 use Rattle.std.proofs.Common.{◌≡◌, ℕ, ◌≤◌, List, length, subst, ap, arith}
 use Rattle.cg_value.specs.Entry.{EntryData}
 use Rattle.cg_value.specs.declared.profile.Profile.{Profile}
+use Rattle.cg_snap.specs.Closed.{Closed}
 use Rattle.cg_snap.specs.Decode.{HasTaken}
 use Rattle.cg_snap.specs.Decoder.{offset_of, profile_of}
 use Rattle.cg_snap.specs.SnapStop.{IsSnapUnstopped}
@@ -9,6 +10,9 @@ use Rattle.cg_snap.specs.declared.decoder.SnapshotDecoder.{SnapshotDecoder}
 use Rattle.cg_snap.specs.declared.limits.Limits.{Limits}
 
 module _ (d : SnapshotDecoder) (profile : Profile) (limits : Limits) (p : List ℕ) (es : List EntryData) (h : HasTaken d profile limits p es) where
+  pub taken_closed : Closed profile p es
+  taken_closed = subst (λ (q : Profile). Closed q p es) h.profile_is h.stands.closed
+
   pub taken_unstopped : IsSnapUnstopped profile limits p
   taken_unstopped =
       subst (λ (q : Profile). IsSnapUnstopped q limits p) h.profile_is

@@ -15,6 +15,8 @@ mod planned;
 mod reading;
 pub mod rows;
 pub mod running;
+mod shown;
+mod shown_text;
 pub mod source;
 mod stream_reader;
 mod streaming;

@@ -2,16 +2,17 @@
 ghost use Rattle.std.specs.Prelude.{◌≡◌, ◌≢◌, ◌≤◌, ◌+◌, ℕ, List, [], false, None, length};
 ghost use Rattle.cg_value.specs.Table.{read_form_of, write_form_of};
 ghost use Rattle.cg_run.specs.Run.{Ran, DidRun, IsIdle, IsTextRight, IsFileRight, IsSnapshotRight, IsWriteRight, IsRealFault};
-ghost use Rattle.cg_run.specs.Entries.{entry_part};
+ghost use Rattle.cg_run.specs.Stream.{json_part, shown_part};
 ghost use Rattle.cg_run.specs.Ended.{HasEnded};
 
 use crate::checked::run_check;
-use crate::entries::{EntryReader, Telling};
+use crate::entries::EntryReader;
 use crate::kinds::told_kinds;
 use crate::line::last_line_of;
 use crate::outcome::Outcome;
 use crate::planned::PlannedReader;
 use crate::reading::{Ending, read_all};
+use crate::shown::ShownReader;
 use crate::source::Source;
 use crate::streaming::run_stream;
 use crate::text_reader::TextReader;
@@ -128,23 +129,41 @@ fn run_setting<R: Source, W: Sink>(
     }
 }
 
-/// Reads a snapshot, and tells each entry.
+/// Reads a snapshot, and shows each entry.
 #[tactic(auto, using(crate::proofs::RunLemmas::wrote_real))]
-fn run_entries<R: Source, W: Sink>(
+fn run_show<R: Source, W: Sink>(
     alloc: Global,
     profile: Profile,
-    telling: Telling,
     reader: &mut R,
     writer: &mut W,
     limits: Limits,
 ) -> Outcome
-    ensures ran { R.has_failed reader.old ≡ false → DidRun (IsSnapshotRight (entry_part telling) profile limits)
+    ensures ran { R.has_failed reader.old ≡ false → DidRun (IsSnapshotRight shown_part profile limits)
         (R.coming reader.old) (R.coming reader.new) (R.has_failed reader.new)
         (W.taken writer.old) (W.taken writer.new) (W.has_failed writer.new) result }
     ensures real { IsRealFault result (W.has_failed writer.new) }
     ensures asks { R.asks reader.new ≤ R.asks reader.old + limits.max_stream + 1 }
 {
-    let entries = EntryReader::new(alloc, profile, limits, telling);
+    let entries = ShownReader::new(alloc, profile, limits);
+    run_stream(alloc, entries, reader, writer, limits.max_stream)
+}
+
+/// Reads a snapshot, and tells each entry as a line of JSON.
+#[tactic(auto, using(crate::proofs::RunLemmas::wrote_real))]
+fn run_json<R: Source, W: Sink>(
+    alloc: Global,
+    profile: Profile,
+    reader: &mut R,
+    writer: &mut W,
+    limits: Limits,
+) -> Outcome
+    ensures ran { R.has_failed reader.old ≡ false → DidRun (IsSnapshotRight json_part profile limits)
+        (R.coming reader.old) (R.coming reader.new) (R.has_failed reader.new)
+        (W.taken writer.old) (W.taken writer.new) (W.has_failed writer.new) result }
+    ensures real { IsRealFault result (W.has_failed writer.new) }
+    ensures asks { R.asks reader.new ≤ R.asks reader.old + limits.max_stream + 1 }
+{
+    let entries = EntryReader::new(alloc, profile, limits);
     run_stream(alloc, entries, reader, writer, limits.max_stream)
 }
 
@@ -180,8 +199,8 @@ pub fn run<R: Source, W: Sink>(
             writer,
             max,
         ),
-        Command::Show => run_entries(alloc, profile, Telling::Shown, reader, writer, limits),
-        Command::Json => run_entries(alloc, profile, Telling::Json, reader, writer, limits),
+        Command::Show => run_show(alloc, profile, reader, writer, limits),
+        Command::Json => run_json(alloc, profile, reader, writer, limits),
         Command::Check => run_check(alloc, profile, limits, reader, writer),
     }
 }

@@ -65,6 +65,17 @@ counted_push old new p b h li lt o (inr z) = record {
   length_is = omega (arith, z.1, h.length_is, length_push h.begun b);
 }
 
+-- After what comes of a line, with its newline.
+pub counted_line : (old new : Meter) (p line : List ℕ) (n : ℕ) → IsCounted old p → new.limits ≡ old.limits → n ≡ length line + 1 → n ≤ old.limits.max_stream - old.offset → new.offset ≡ old.offset + n → new.record_len ≡ 0 →
+    IsCounted new (p ++ (line ++ 10 ∷ []))
+counted_line old new p line n h li e far o r = record {
+  offset = omega (arith, o, e, h.offset, length-append p (line ++ 10 ∷ []), length_push line 10);
+  within = rw li (omega (arith, e, far, h.within, h.offset, length-append p (line ++ 10 ∷ []), length_push line 10));
+  begun = [];
+  begins = subst (λ (t : List ℕ). IsBegun t []) (append_assoc p line (10 ∷ [])) (begun_newline (p ++ line) 10 refl);
+  length_is = r;
+}
+
 -- After a run without a newline.
 pub counted_run : (old new : Meter) (p q : List ℕ) (n : ℕ) → IsCounted old p → new.limits ≡ old.limits →
     Lacks 10 q → n ≡ length q → n ≤ old.limits.max_stream - old.offset → new.offset ≡ old.offset + n →

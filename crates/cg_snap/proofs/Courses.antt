@@ -12,7 +12,7 @@ use Rattle.cg_snap.specs.declared.stop.Stop.{Stop}
 use Rattle.cg_snap.specs.declared.stop.Stop.TheVariants as stops
 use Rattle.cg_snap.specs.declared.stop.Why.{Why}
 use Rattle.cg_snap.proofs.Begins.{is_long, not_long}
-use Rattle.cg_snap.proofs.Stops.{stop_long, stop_longer, stop_many, stop_much, stop_place, stop_refused, unstopped_push, unstopped_run}
+use Rattle.cg_snap.proofs.Stops.{stop_long, stop_longer, stop_many, stop_much, stop_place, stop_refused, unstopped_line, unstopped_push, unstopped_run}
 
 -- ---- A piece, byte by byte
 
@@ -126,6 +126,18 @@ module _ (L : List ℕ → Type 0) (Breaks : List ℕ → ℕ → Why → Type 0
       unstopped = rw li (unstopped_run L Breaks Many old.limits p h.begun (b ∷ q) u (goes_on s (p ++ b ∷ q) es a) h.begins plain few (omega (arith, long, h.length_is)) (omega (arith, far, h.offset)));
       closed = closed s (p ++ b ∷ q) es a;
     }
+
+    -- After what comes of a line, with its newline.
+    pub ran_line : (s : S) (old new : Meter) (p q line : List ℕ) (es : List Part) → q ≡ line ++ 10 ∷ [] → At s (p ++ q) es → IsCounted old p → IsCounted new (p ++ q) → new.limits ≡ old.limits → IsStreamUnstopped L Breaks Many old.limits p →
+        Lacks 10 line → AreFew (Many old.limits.max_lines) p q → length q ≤ old.limits.max_record - old.record_len → length q ≤ old.limits.max_stream - old.offset → Along s new (p ++ q) es
+    ran_line s old new p q line es e a h n li u plain few long far =
+        let size : length q ≡ length line + 1 = ap length e ∙ length-append line (10 ∷ []) in
+        record {
+          state = a;
+          counted = n;
+          unstopped = rw (li, e) (unstopped_line L Breaks Many old.limits p h.begun line u (rw e at (goes_on s (p ++ q) es a)) h.begins plain (rw e at few) (omega (arith, long, size, h.length_is)) (omega (arith, far, size, h.offset)));
+          closed = closed s (p ++ q) es a;
+        }
 
   module _ {S Part : Type 0} (Closes : List ℕ → List Part → Type 0) (At : S → List ℕ → List Part → Type 0) where
     -- What stands after a text stands after it in other words.

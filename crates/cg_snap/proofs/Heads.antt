@@ -1,10 +1,9 @@
 -- The head of one more record of the present entry, taken at once.
-use Rattle.std.proofs.Common.{◌≡◌, ℕ, suc, zero, ◌+◌, ◌<◌, ◌≤◌, get_or, List, [], ◌∷◌, ◌++◌, take, length, All, refl, sym, ap, subst, ◌∙◌, append_assoc, arith, Some, Bool, true, false}
-use Rattle.std.specs.List.{AllByRecursion}
+use Rattle.std.proofs.Common.{◌≡◌, ℕ, suc, ◌+◌, ◌<◌, ◌≤◌, get_or, List, [], ◌∷◌, ◌++◌, take, length, All, refl, sym, ap, subst, ◌∙◌, append_assoc, arith, Some, true, false}
 use Rattle.std.proofs.lemmas.List.{append-nil, length-append, take-append-le, take_all}
 use Rattle.cg_text.specs.Texts.{Lacks}
 use Rattle.cg_text.specs.TextsLaws.{lacks_both}
-use Rattle.cg_value.specs.Entry.{EntryData, IsPath, IsPathByte}
+use Rattle.cg_value.specs.Entry.{EntryData, IsPathByte}
 use Rattle.cg_value.specs.Lines.{unlines}
 use Rattle.cg_value.specs.declared.kind.ReadForm.{ReadForm}
 use Rattle.cg_value.specs.declared.profile.Profile.{Profile}

@@ -8,6 +8,7 @@ pub mod Ends
 pub mod Begins
 pub mod Stops
 pub mod Courses
+pub mod PathRuns
 pub mod Places
 pub mod Nuls
 pub mod Finishes

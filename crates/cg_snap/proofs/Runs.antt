@@ -1,5 +1,5 @@
 -- Runs of bytes.
-use Rattle.std.proofs.Common.{◌≡◌, ℕ, suc, zero, ◌<◌, ◌≤◌, List, [], ◌∷◌, ◌++◌, take, length, ap, ◌∙◌, append_assoc, arith, inl, inr, ◌⊎◌, Option, Some, None, Bool, true, false}
+use Rattle.std.proofs.Common.{◌≡◌, ℕ, suc, zero, ◌<◌, ◌≤◌, List, [], ◌∷◌, ◌++◌, take, length, refl, ap, ◌∙◌, append_assoc, arith, inl, inr, ◌⊎◌, Option, Some, None, Bool, true, false}
 use Rattle.std.specs.Bool.{MatchBool}
 use Rattle.std.specs.Prelude.{slice_index, ◌==◌}
 use Rattle.std.proofs.lemmas.Bool.{eq-eqb}
@@ -9,14 +9,14 @@ use Rattle.cg_value.specs.Entry.{EntryData}
 use Rattle.cg_value.specs.declared.profile.Profile.{Profile}
 use Rattle.cg_snap.specs.Begun.{IsBegun}
 use Rattle.cg_snap.specs.ClosedLaws.{begun_once}
-use Rattle.cg_snap.specs.DecoderState.{ArePathBytes, At, AtLine, AtPath, IsRun}
+use Rattle.cg_snap.specs.DecoderState.{ArePathBytes, At, AtLine, AtPath, IsInLine, IsRun}
 use Rattle.cg_snap.specs.declared.present.Present.{Present}
 use Rattle.cg_snap.specs.Course.{AreFew}
 use Rattle.cg_snap.specs.SnapStop.{IsManyRecords}
 use Rattle.cg_snap.proofs.Begins.{begun_push}
 use Rattle.cg_snap.proofs.Closes.{line_begun}
 use Rattle.cg_snap.proofs.Places.{not_many, not_many_line}
-use Rattle.cg_snap.proofs.States.{at_begun}
+use Rattle.cg_snap.proofs.States.{at_begun, line_state}
 use Rattle.cg_snap.proofs.Steps.{bytes_no_newline, bytes_no_nul}
 
 pub lacks_take : (n : ℕ) (bytes : List ℕ) → Lacks 10 bytes → Lacks 10 (take n bytes)
@@ -51,6 +51,17 @@ module _ (profile : Profile) where
     elim why.1 [ inl w ↦ not_many profile p r b max (length p) h w.0 | inr w ↦ not_many_line profile p r w.0 w.1 b max (length p) h w.2 ],
     few_run max (p ++ b ∷ []) (r ++ b ∷ []) q (begun_push p r b why.0.0 h) (why.0.1, elim why.1 [ inl w ↦ inl w.1 | inr w ↦ inr (w.0, w.1 ++ b ∷ [], longer_line r w.0 w.1 b w.2) ]),
   )
+
+  line_few : (max : ℕ) (p r q path line : List ℕ) → IsBegun p r → Lacks 10 q → r ≡ path ++ 0 ∷ line → AreFew (IsManyRecords profile max) p (q ++ 10 ∷ [])
+  line_few max p r [] path line h n e = (not_many_line profile p r path line 10 max (length p) h e, tt)
+  line_few max p r (b ∷ q) path line h n e = (not_many_line profile p r path line b max (length p) h e, line_few max (p ++ b ∷ []) (r ++ b ∷ []) q path (line ++ b ∷ []) (begun_push p r b n.0 h) n.1 (longer_line r path line b e))
+
+  -- What comes of a line, with its newline, has no NUL that ends a path.
+  pub few_in_line : (max : ℕ) (begun : List ℕ) (o : Option Present) (p q : List ℕ) (es : List EntryData) → At profile begun o p es → IsInLine o → Lacks 10 q → AreFew (IsManyRecords profile max) p (q ++ 10 ∷ [])
+  few_in_line max begun None p q es h i n = absurd i
+  few_in_line max begun (Some x) p q es h i n =
+      let l = line_state profile begun x p es i h in
+      line_few max p (x.path.items ++ 0 ∷ l.line) q x.path.items l.line (line_begun profile begun x p es l) n refl
 
   run_flag : (begun : List ℕ) (x : Present) (p r q : List ℕ) (es : List EntryData) (b : Bool) → MatchBool b (AtLine profile begun x p es) (AtPath profile begun x p es) → IsBegun p r → MatchBool b (Lacks 10 q) (ArePathBytes q) → RunWhy r q
   run_flag begun x p r q es true h g n = (n, inr (x.path.items, h.line, begun_once p r (x.path.items ++ 0 ∷ h.line) g (line_begun profile begun x p es h)))

@@ -23,7 +23,7 @@ use Rattle.cg_snap.specs.declared.present.Present.{Present}
 use Rattle.cg_snap.specs.declared.stop.Why.TheVariants as whys
 use Rattle.cg_snap.proofs.Closes.{line_begun, line_closed, path_begun, path_closed, start_begun, start_closed}
 use Rattle.cg_snap.proofs.Refusals.{head_byte, head_nul, line_takes, path_head, same_nul, start_head}
-use Rattle.cg_snap.proofs.Steps.{all_both, all_bytes, bytes_no_nul, line_end, line_kept, line_run, line_viable, path_run, path_viable, start_viable}
+use Rattle.cg_snap.proofs.Steps.{all_both, all_bytes, bytes_no_nul, line_end, line_kept, line_run, line_viable, line_whole, path_run, path_viable, start_viable}
 
 -- ---- Flags
 
@@ -146,6 +146,14 @@ module _ (profile : Profile) where
   line_ended begun x x' p es b t h n e c i r =
       let l = line_state begun x p es t h in
       at_false (AtLine profile begun x' (p ++ b ∷ []) es) (AtPath profile begun x' (p ++ b ∷ []) es) x'.in_line i (line_end profile begun x x' p es b l n e c (r l.kind (unlines l.lines ++ l.line) l.reads))
+
+  -- The rest of the line and its newline, which are the bytes.
+  pub line_at_once : (begun : List ℕ) (x x' : Present) (p : List ℕ) (es : List EntryData) (line bs : List ℕ) → bs ≡ line ++ 10 ∷ [] → x.in_line ≡ true →
+      At profile begun (Some x) p es → Lacks 10 line → x'.path.items ≡ x.path.items → x'.lines ≡ told (x.lines + 1) → x'.in_line ≡ false →
+      ((k : ReadForm) (t : List ℕ) → Reads x.reader k t → Reads x'.reader k (t ++ (line ++ 10 ∷ []))) → At profile begun (Some x') (p ++ bs) es
+  line_at_once begun x x' p es line bs f t h n e c i r =
+      let l = line_state begun x p es t h in
+      at_false (AtLine profile begun x' (p ++ bs) es) (AtPath profile begun x' (p ++ bs) es) x'.in_line i (rw f (line_whole profile begun x x' p es line l n e c (r l.kind (unlines l.lines ++ l.line) l.reads)))
 
   -- A reader that is as it was.
   pub line_same : (begun : List ℕ) (x x' : Present) (p : List ℕ) (es : List EntryData) → x.in_line ≡ true →

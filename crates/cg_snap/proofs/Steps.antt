@@ -333,6 +333,26 @@ module _ (profile : Profile) where
     count = c ∙ ap (λ n. told (n + 1)) h.count ∙ sym (told_more (length h.lines)) ∙ sym (ap told (length_push h.lines h.line));
   }
 
+  -- The rest of the line and its newline at once.
+  pub line_whole : (begun : List ℕ) (x x' : Present) (p : List ℕ) (es : List EntryData) (bs : List ℕ)
+      (h : AtLine profile begun x p es) → Lacks 10 bs → x'.path.items ≡ x.path.items → x'.lines ≡ told (x.lines + 1) →
+      Reads x'.reader h.kind ((unlines h.lines ++ h.line) ++ (bs ++ 10 ∷ [])) → AtPath profile begun x' (p ++ (bs ++ 10 ∷ [])) es
+  line_whole begun x x' p es bs h n e c r = record {
+    given = h.given;
+    lines = h.lines ++ (h.line ++ bs) ∷ [];
+    kind = h.kind;
+    split = rw (h.split, e, records-append, h.nothing_begun) (simp (append_assoc, append-nil));
+    entries = h.entries;
+    other = rw e h.other;
+    good = rw e h.good;
+    reads_at = rw e h.reads_at;
+    some = some_push h.lines (h.line ++ bs);
+    plain = all_push (Lacks 10) h.lines (h.line ++ bs) h.plain (lacks_both 10 h.line bs h.plain_line n);
+    reads = rw (unlines-push, append_assoc h.line bs (10 ∷ []), ← append_assoc (unlines h.lines) h.line (bs ++ 10 ∷ [])) r;
+    begun_path = rw h.nothing_begun tt;
+    count = c ∙ ap (λ n. told (n + 1)) h.count ∙ sym (told_more (length h.lines)) ∙ sym (ap told (length_push h.lines (h.line ++ bs)));
+  }
+
   -- ---- The NUL of a path
 
   pub start_path : (begun begun' p : List ℕ) (x' : Present) (es : List EntryData) (b : ℕ) (k : ReadForm) → b ≡ 0 →

@@ -11,7 +11,7 @@ use Rattle.cg_snap.specs.declared.limits.Limits.{Limits}
 use Rattle.cg_snap.specs.declared.stop.Stop.{Stop}
 use Rattle.cg_snap.specs.declared.stop.Stop.TheVariants as stops
 use Rattle.cg_snap.specs.declared.stop.Why.{Why}
-use Rattle.cg_snap.proofs.Begins.{begun_push, not_long}
+use Rattle.cg_snap.proofs.Begins.{begun_push, begun_run, not_long}
 
 module _ (L : List ℕ → Type 0) (Breaks : List ℕ → ℕ → Why → Type 0) (Many : ℕ → List ℕ → ℕ → Type 0) where
   viable_front : (text : List ℕ) (n : ℕ) → Viable L text → Viable L (take n text)
@@ -62,6 +62,29 @@ module _ (L : List ℕ → Type 0) (Breaks : List ℕ → ℕ → Why → Type 0
         subst (IsStreamUnstopped L Breaks Many limits) whole
         (unstopped_run (p ++ b ∷ []) (r ++ b ∷ []) q (unstopped_push p b u next free) (subst (Viable L) (sym whole) v) (begun_push p r b n.0 h) n.1 few.1
         (omega (arith, long, length_push r b)) (omega (arith, far, length_push p b)))
+
+    few_front : (p line : List ℕ) (b : ℕ) → AreFew (Many limits.max_lines) p (line ++ b ∷ []) → AreFew (Many limits.max_lines) p line × (Many limits.max_lines ((p ++ line) ++ b ∷ []) (length (p ++ line)) → ⊥)
+    few_front p [] b h = (tt, rw (append-nil p) h.0)
+    few_front p (x ∷ line) b h =
+        let more = few_front (p ++ x ∷ []) line b h.1 in
+        let same : (p ++ x ∷ []) ++ line ≡ p ++ x ∷ line = append_assoc p (x ∷ []) line in
+        ((h.0, more.0), rw same at more.1)
+
+    -- What comes of a line, with its newline.
+    pub unstopped_line : (p r line : List ℕ) → IsStreamUnstopped L Breaks Many limits p → Viable L (p ++ (line ++ 10 ∷ [])) → IsBegun p r → Lacks 10 line → AreFew (Many limits.max_lines) p (line ++ 10 ∷ []) →
+        length r + (length line + 1) ≤ limits.max_record → length p + (length line + 1) ≤ limits.max_stream → IsStreamUnstopped L Breaks Many limits (p ++ (line ++ 10 ∷ []))
+    unstopped_line p r line u v h n few long far =
+        let same : (p ++ line) ++ 10 ∷ [] ≡ p ++ (line ++ 10 ∷ []) = append_assoc p line (10 ∷ []) in
+        let next : Next L (p ++ line) 10 = subst (Viable L) (sym same) v in
+        let front : Viable L (p ++ line) = subst (Viable L) (front_of (p ++ line) (10 ∷ [])) (viable_front ((p ++ line) ++ 10 ∷ []) (length (p ++ line)) next) in
+        let f = few_front p line 10 few in
+        let free : IsFree L Breaks Many limits (p ++ line) 10 = record {
+          short = not_long (p ++ line) (r ++ line) 10 limits.max_record (length (p ++ line)) (begun_run p r line n h) (omega (arith, long, length-append r line));
+          few = f.1;
+          before = λ e. absurd (omega (arith, far, e, length-append p line));
+        } in
+        subst (IsStreamUnstopped L Breaks Many limits) same
+        (unstopped_push (p ++ line) 10 (unstopped_run p r line u front h n f.0 (omega (arith, long)) (omega (arith, far))) next free)
 
     pub stop_at : (p : List ℕ) (b : ℕ) (stop : Stop) → IsStreamUnstopped L Breaks Many limits p →
         StopsAt L (IsLastWhy Breaks) (IsLongRecord limits.max_record) (Many limits.max_lines) limits.max_stream (p ++ b ∷ []) (length p) stop → StreamStopOf L Breaks Many limits (p ++ b ∷ []) stop

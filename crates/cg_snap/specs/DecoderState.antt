@@ -1,5 +1,5 @@
 -- What a decoder's state stands for: the bytes that it consumed, and the entries that it gave.
-use Rattle.std.specs.Prelude.{◌≡◌, ◌≢◌, ℕ, List, [], ◌∷◌, ◌++◌, length, Option, Some, None, Bool, false}
+use Rattle.std.specs.Prelude.{◌≡◌, ◌≢◌, ℕ, List, [], ◌∷◌, ◌++◌, length, Option, Some, None, Bool, true, false}
 use Rattle.std.specs.Bool.{MatchBool}
 use Rattle.std.specs.List.{AllByRecursion}
 use Rattle.cg_text.specs.Texts.{Lacks, Next, Viable}
@@ -96,6 +96,11 @@ AtPaths profile begun (Some x) p es = AtPath profile begun x p es
 abbrev pub IsBetween : Option Present → Type 0
 IsBetween None = Unit {0}
 IsBetween (Some x) = x.in_line ≡ false
+
+-- A line is begun.
+abbrev pub IsInLine : Option Present → Type 0
+IsInLine None = ⊥
+IsInLine (Some x) = x.in_line ≡ true
 
 abbrev pub IsLineFlag : Option Present → Bool → Type 0
 IsLineFlag None flag = flag ≡ false

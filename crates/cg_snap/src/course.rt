@@ -1,5 +1,5 @@
 //! The course of a decoder over its stream: byte by byte, with the limits.
-ghost use Rattle.std.specs.Prelude.{◌≡◌, ◌↔◌, ◌≤◌, ◌++◌, ℕ, List, length, take};
+ghost use Rattle.std.specs.Prelude.{◌≡◌, ◌↔◌, ◌<◌, ◌≤◌, ◌++◌, ℕ, List, length, take, IsTrue};
 ghost use Rattle.cg_text.specs.Bytes.{HasByte};
 ghost use Rattle.cg_text.specs.Texts.{Next};
 ghost use Rattle.cg_value.specs.declared.profile.Profile.{Profile};
@@ -71,6 +71,59 @@ fn skip_head<R: Records>(records: &mut R, meter: &mut Meter, piece: &[u8]) -> us
     head
 }
 
+/// Takes at once what comes of a line with its newline, or nothing, and answers how many bytes.
+fn skip_line<R: Records>(records: &mut R, meter: &mut Meter, piece: &[u8]) -> usize
+    ensures skipped { (form : Profile) (p : List ℕ) (es : List R.Part) →
+        IsAlong (R.language form) (R.breaks form) (R.many form) (R.closes form) (λ s. R.at s form) records.old meter.old p es →
+        IsAlong (R.language form) (R.breaks form) (R.many form) (R.closes form) (λ s. R.at s form) records.new meter.new (p ++ take result piece.now) es }
+    ensures within { result ≤ length piece.now }
+    ensures profile { R.profile records.new ≡ R.profile records.old }
+    ensures limits { meter.new.limits ≡ meter.old.limits }
+{
+    let used = records.take_line(piece, meter.room());
+    if used > 0 {
+        meter.count_line(used);
+    }
+    used
+}
+
+/// Takes at once the path of one more record with its NUL, and what comes of its line with the newline, as far as it can.
+/// Answers how many bytes, and whether there was a whole line.
+fn skip_record<R: Records>(records: &mut R, meter: &mut Meter, piece: &[u8]) -> (usize, bool)
+    ensures skipped { (form : Profile) (p : List ℕ) (es : List R.Part) →
+        IsAlong (R.language form) (R.breaks form) (R.many form) (R.closes form) (λ s. R.at s form) records.old meter.old p es →
+        IsAlong (R.language form) (R.breaks form) (R.many form) (R.closes form) (λ s. R.at s form) records.new meter.new (p ++ take result.0 piece.now) es }
+    ensures within { result.0 ≤ length piece.now }
+    ensures some { IsTrue result.1 → 0 < result.0 }
+    ensures profile { R.profile records.new ≡ R.profile records.old }
+    ensures limits { meter.new.limits ≡ meter.old.limits }
+{
+    let head = skip_head(records, meter, piece);
+    let (_, rest) = piece.split_at(head);
+    let line = skip_line(records, meter, rest);
+    (head + line, line > 0)
+}
+
+/// Takes at once records of the entry at hand, as many as it can, and perhaps the path of another. Answers how many bytes.
+fn skip_records<R: Records>(records: &mut R, meter: &mut Meter, piece: &[u8]) -> usize
+    ensures skipped { (form : Profile) (p : List ℕ) (es : List R.Part) →
+        IsAlong (R.language form) (R.breaks form) (R.many form) (R.closes form) (λ s. R.at s form) records.old meter.old p es →
+        IsAlong (R.language form) (R.breaks form) (R.many form) (R.closes form) (λ s. R.at s form) records.new meter.new (p ++ take result piece.now) es }
+    ensures within { result ≤ length piece.now }
+    ensures profile { R.profile records.new ≡ R.profile records.old }
+    ensures limits { meter.new.limits ≡ meter.old.limits }
+{
+    let mut used = 0;
+    loop {
+        let (_, rest) = piece.split_at(used);
+        let (count, goes_on) = skip_record(records, meter, rest);
+        used += count;
+        if !goes_on {
+            return used;
+        }
+    }
+}
+
 /// Takes at once what comes of a path or of a line, and answers how many bytes.
 fn skip_run<R: Records>(records: &mut R, meter: &mut Meter, piece: &[u8]) -> usize
     ensures skipped { (form : Profile) (p : List ℕ) (es : List R.Part) →
@@ -85,8 +138,7 @@ fn skip_run<R: Records>(records: &mut R, meter: &mut Meter, piece: &[u8]) -> usi
     used
 }
 
-/// Takes at once the path of one more record with its NUL, and what comes of its line, or what comes of a path or of a line, and
-/// answers how many bytes.
+/// Takes at once records of the entry at hand, and what then comes of a path or of a line, and answers how many bytes.
 fn skip<R: Records>(records: &mut R, meter: &mut Meter, piece: &[u8]) -> usize
     ensures skipped { (form : Profile) (p : List ℕ) (es : List R.Part) →
         IsAlong (R.language form) (R.breaks form) (R.many form) (R.closes form) (λ s. R.at s form) records.old meter.old p es →
@@ -95,9 +147,9 @@ fn skip<R: Records>(records: &mut R, meter: &mut Meter, piece: &[u8]) -> usize
     ensures profile { R.profile records.new ≡ R.profile records.old }
     ensures limits { meter.new.limits ≡ meter.old.limits }
 {
-    let head = skip_head(records, meter, piece);
-    let (_, rest) = piece.split_at(head);
-    head + skip_run(records, meter, rest)
+    let whole = skip_records(records, meter, piece);
+    let (_, rest) = piece.split_at(whole);
+    whole + skip_run(records, meter, rest)
 }
 
 /// Takes bytes until a part is there, a byte stops the stream or no memory is left; where none of these comes, the whole piece.

@@ -1,5 +1,5 @@
 //! How much of a stream was consumed, and the limits of that.
-ghost use Rattle.std.specs.Prelude.{◌≡◌, ◌-◌, ◌<◌, ◌≤◌, ℕ, List, [], ◌∷◌, ◌++◌, length};
+ghost use Rattle.std.specs.Prelude.{◌≡◌, ◌+◌, ◌-◌, ◌<◌, ◌≤◌, ℕ, List, [], ◌∷◌, ◌++◌, length};
 ghost use Rattle.cg_text.specs.Texts.{Lacks};
 ghost use Rattle.cg_snap.specs.Meter.{IsCounted, LimitIs};
 
@@ -67,6 +67,16 @@ impl Meter {
         } else {
             self.record_len + 1
         };
+    }
+
+    /// Counts what comes of a line with its newline.
+    pub(crate) fn count_line(&mut self, run: usize)
+        requires stream { run ≤ self.old.limits.max_stream - self.old.offset }
+        ensures counted { (p line : List ℕ) → IsCounted self.old p → run ≡ length line + 1 → IsCounted self.new (p ++ (line ++ 10 ∷ [])) }
+        ensures limits { self.new.limits ≡ self.old.limits }
+    {
+        self.offset += run as u64;
+        self.record_len = 0;
     }
 
     /// Counts bytes without a newline.

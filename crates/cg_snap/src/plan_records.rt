@@ -229,6 +229,11 @@ impl Records for PlanRecords {
         0
     }
 
+    fn take_line(&mut self, _piece: &[u8], _room: u64) -> usize {
+        // The newline ends an item, so it goes by `step`.
+        0
+    }
+
     fn take_run(&mut self, piece: &[u8], room: u64) -> usize {
         if let Some(writing) = &mut self.present {
             return take_line(&self.begun, writing, piece, room);

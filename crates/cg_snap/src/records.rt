@@ -1,6 +1,7 @@
 //! What takes the records of a stream, byte by byte.
-ghost use Rattle.std.specs.Prelude.{◌≡◌, ◌≤◌, ◌++◌, ℕ, List, length, take};
+ghost use Rattle.std.specs.Prelude.{◌≡◌, ◌<◌, ◌≤◌, ◌++◌, ℕ, List, length, take};
 ghost use Rattle.cg_text.specs.Texts.{Lacks, Viable};
+ghost use Rattle.cg_line.specs.Runs.{IsLineFront};
 ghost use Rattle.cg_value.specs.declared.profile.Profile.{Profile};
 ghost use Rattle.cg_snap.specs.Course.{AreFew, DidStep, FullIs, OffersAre, RefusedBy};
 ghost use Rattle.cg_snap.specs.declared.stop.Why.{Why};
@@ -69,6 +70,16 @@ pub(crate) trait Records: Drop {
         ensures taken { (form : Profile) (p : List ℕ) (es : List Self.Part) → at self.old form p es → at self.new form (p ++ take result piece.now) es }
         ensures few { (form : Profile) (p : List ℕ) (es : List Self.Part) → at self.old form p es → AreFew (many form max_lines) p (take result piece.now) }
         ensures plain { (form : Profile) (p : List ℕ) (es : List Self.Part) → at self.old form p es → Lacks 10 (take result piece.now) }
+        ensures within { result ≤ length piece.now }
+        ensures room { result ≤ room }
+        ensures profile { profile self.new ≡ profile self.old };
+
+    /// Takes what comes of a line with its newline, where one is begun, the piece has its end and there is room for it; or takes
+    /// nothing. Answers how many bytes it took.
+    fn take_line(&mut self, piece: &[u8], room: u64) -> usize
+        ensures taken { (form : Profile) (p : List ℕ) (es : List Self.Part) → at self.old form p es → at self.new form (p ++ take result piece.now) es }
+        ensures few { (form : Profile) (p : List ℕ) (es : List Self.Part) (max : ℕ) → at self.old form p es → AreFew (many form max) p (take result piece.now) }
+        ensures line { 0 < result → IsLineFront piece.now result }
         ensures within { result ≤ length piece.now }
         ensures room { result ≤ room }
         ensures profile { profile self.new ≡ profile self.old };

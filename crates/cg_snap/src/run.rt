@@ -1,12 +1,14 @@
 //! Runs of bytes, which are taken at once.
-ghost use Rattle.std.specs.Prelude.{◌≡◌, ◌≤◌, ◌++◌, ℕ, List, length, take, Some, true};
+ghost use Rattle.std.specs.Prelude.{◌≡◌, ◌<◌, ◌≤◌, ◌++◌, ℕ, List, length, take, Some, true};
+ghost use Rattle.memchr.specs.Find.{Nowhere, Passes, is_byte};
 ghost use Rattle.cg_text.specs.Texts.{Lacks};
+ghost use Rattle.cg_line.specs.Runs.{IsLineFront};
 ghost use Rattle.cg_value.specs.Entry.{EntryData};
 ghost use Rattle.cg_value.specs.declared.profile.Profile.{Profile};
-ghost use Rattle.cg_snap.specs.DecoderState.{ArePathBytes, At, IsRun};
+ghost use Rattle.cg_snap.specs.DecoderState.{ArePathBytes, At, IsInLine, IsRun};
 
 use crate::present::Present;
-use memchr::{memchr, memchr2};
+use memchr::memchr;
 
 /// So many of the bytes as there is room for.
 fn at_most(run: usize, room: u64) -> usize
@@ -20,17 +22,24 @@ fn at_most(run: usize, room: u64) -> usize
     }
 }
 
+/// How many bytes stand before the first one that is this byte, or all where there is none.
+fn count_before(byte: u8, bytes: &[u8]) -> usize
+    ensures within { result ≤ length bytes.now }
+    ensures none { Nowhere (Passes (is_byte byte) bytes.now) 0 result }
+{
+    match memchr(byte, bytes) {
+        Some(place) => place,
+        None => bytes.len(),
+    }
+}
+
 /// How many bytes of a line the piece begins with, at most so many as there is room for.
 pub(crate) fn line_length(piece: &[u8], room: u64) -> usize
     ensures within { result ≤ length piece.now }
     ensures room { result ≤ room }
     ensures plain { Lacks 10 (take result piece.now) }
 {
-    let run = match memchr(b'\n', piece) {
-        Some(place) => place,
-        None => piece.len(),
-    };
-    at_most(run, room)
+    at_most(count_before(b'\n', piece), room)
 }
 
 /// How many bytes of a path the piece begins with, at most so many as there is room for.
@@ -39,7 +48,8 @@ fn path_length(piece: &[u8], room: u64) -> usize
     ensures room { result ≤ room }
     ensures plain { ArePathBytes (take result piece.now) }
 {
-    at_most(memchr2(0, b'\n', piece).unwrap_or(piece.len()), room)
+    let (front, _) = piece.split_at(count_before(0, piece));
+    at_most(count_before(b'\n', front), room)
 }
 
 /// Takes what comes of a line, and answers how many bytes.
@@ -52,6 +62,52 @@ fn take_line(begun: &Vec<u8>, present: &mut Present, piece: &[u8], room: u64) ->
 {
     let (front, _) = piece.split_at(line_length(piece, room));
     present.reader.push_run(front).used
+}
+
+/// Takes what comes of a line with its newline, or nothing, and answers how many bytes.
+fn take_rest(begun: &Vec<u8>, present: &mut Present, piece: &[u8], room: u64) -> usize
+    ensures taken { (profile : Profile) (p : List ℕ) (es : List EntryData) → At profile begun.now.items (Some present.old) p es → present.old.in_line ≡ true →
+        At profile begun.now.items (Some present.new) (p ++ take result piece.now) es }
+    ensures line { 0 < result → IsLineFront piece.now result }
+    ensures within { result ≤ length piece.now }
+    ensures room { result ≤ room }
+{
+    let end = match memchr(b'\n', piece) {
+        Some(end) => end,
+        None => return 0,
+    };
+    let (line, _) = piece.split_at(end);
+    if end as u64 >= room {
+        return 0;
+    }
+    if !present.reader.push_line(line) {
+        return 0;
+    }
+    present.in_line = false;
+    present.lines = present.lines.saturating_add(1);
+    end + 1
+}
+
+/// Takes what comes of a line with its newline, where one is begun, the piece has its end and there is room for it; or takes
+/// nothing. Answers how many bytes it took.
+pub(crate) fn take_whole_line(
+    begun: &Vec<u8>,
+    present: &mut Option<Present>,
+    piece: &[u8],
+    room: u64,
+) -> usize
+    ensures taken { (profile : Profile) (p : List ℕ) (es : List EntryData) → At profile begun.now.items present.old p es → At profile begun.now.items present.new (p ++ take result piece.now) es }
+    ensures begun { 0 < result → IsInLine present.old }
+    ensures line { 0 < result → IsLineFront piece.now result }
+    ensures within { result ≤ length piece.now }
+    ensures room { result ≤ room }
+{
+    if let Some(x) = present {
+        if x.in_line {
+            return take_rest(begun, x, piece, room);
+        }
+    }
+    0
 }
 
 /// Takes what comes of a path, or nothing where memory is refused, and answers how many bytes.

@@ -5,7 +5,7 @@ use crate::head::take_head;
 use crate::present::{Present, is_full, step};
 use crate::records::{Records, Stepped};
 use crate::refusal::refusal;
-use crate::run::take_run;
+use crate::run::{take_run, take_whole_line};
 use crate::stop::Why;
 use cg_text::ByteSet;
 use cg_value::{Entry, Profile};
@@ -90,6 +90,10 @@ impl Records for SnapshotRecords {
 
     fn take_head(&mut self, piece: &[u8], room: u64, max_lines: u64) -> usize {
         take_head(&self.begun, &mut self.present, piece, room, max_lines)
+    }
+
+    fn take_line(&mut self, piece: &[u8], room: u64) -> usize {
+        take_whole_line(&self.begun, &mut self.present, piece, room)
     }
 
     fn take_run(&mut self, piece: &[u8], room: u64) -> usize {

@@ -5,6 +5,8 @@ use Rattle.std.proofs.lemmas.Bool.{and_from, and_parts}
 use Rattle.std.proofs.Math.Nat.{pow-succ', mul-le-mul_left, mul-le-mul_right}
 use native.Mathlib.Decide.{dec_lt}
 use Prim.{yes, no}
+use Rattle.std.proofs.Common.{take, add-one}
+use Rattle.cg_text.specs.Scan.{FollowsRun}
 use Rattle.cg_text.specs.Token.{AreBytes}
 use Rattle.cg_text.specs.Decimal.{AreDigits, read_on, IsNumeral}
 use Rattle.cg_text.specs.DecimalState.{Spans, Reaches, some_below, reaches, IsDecimalRest, is_open, decimal_ends}
@@ -223,3 +225,15 @@ number_run lo hi n number run rest v d e = (
 -- A number of the range is in reach.
 pub number_open : (lo hi n : ℕ) → 0 < n → lo ≤ n → n ≤ hi → IsTrue (is_open lo hi (Number n))
 number_open lo hi n above low high = and_from _ _ (lt-ltb _ _ above) (true_from_Reaches lo hi n above (Spans_here lo hi n (n + 1) (omega arith) high))
+
+-- The first digit of a number that isn't 0, and then a run of its digits.
+pub number_begun : (lo hi number first n : ℕ) (bytes more : List ℕ) → bytes ≡ first ∷ more → 49 ≤ first → first ≤ 57 → AreDigits (take n more) → number ≡ read_on (first - 48) (take n more) →
+    FollowsRun (IsDecimalRest lo hi) Start (take (n + 1) bytes) (Number number)
+number_begun lo hi number first n bytes more e low high d is rest v = rw (e, add-one) (
+  λ h. (let k = (number_run lo hi (first - 48) number (take n more) rest v d is).0 h in (k.0, k.1, inr (low, high, k.2, k.3))),
+  λ h. (let k = begun_rest first (take n more ++ rest) v low h.2 in (number_run lo hi (first - 48) number (take n more) rest v d is).1 (h.0, h.1, k.0, k.1)),
+)
+  where
+    begun_rest : (first : ℕ) (rest : List ℕ) (v : ℕ) → 49 ≤ first → IsNumeral v (first ∷ rest) → AreDigits rest × (v ≡ read_on (first - 48) rest)
+    begun_rest first rest v low (inl z) = absurd (omega (arith, z.0, low))
+    begun_rest first rest v low (inr s) = (s.2, s.3)

@@ -15,6 +15,7 @@ pub mod Hundredths
 pub mod HundredthsLaws
 pub mod HundredthsState
 pub mod Key
+pub mod KeyState
 pub mod Keyword
 pub mod KeywordLaws
 pub mod Limit

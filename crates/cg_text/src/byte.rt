@@ -48,6 +48,14 @@ impl Token for ByteText {
         }
     }
 
+    fn whole(&self, bytes: &[u8]) -> Option<((), usize)> {
+        if self.taken || bytes.is_empty() || bytes[0] != self.byte {
+            None
+        } else {
+            Some(((), 1))
+        }
+    }
+
     fn allows(&self, byte: u8) -> bool {
         !self.taken && byte == self.byte
     }

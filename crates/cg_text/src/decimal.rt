@@ -3,6 +3,7 @@ ghost use Rattle.std.specs.Prelude.{◌+◌, ◌*◌, ◌≤◌, ◌<◌, ◌↔
 ghost use Rattle.cg_text.specs.Decimal.{AreDigits, IsDecimal, read_on};
 ghost use Rattle.cg_text.specs.DecimalState.{Reaches, IsDecimalRest, is_open, decimal_ends};
 ghost use Rattle.cg_text.specs.Scan.{FollowsRun};
+ghost use Rattle.cg_text.specs.declared.decimal.Progress.TheVariants.{Start};
 ghost use Rattle.cg_text.specs.Token.{Follows, NoneBegins, Spells};
 
 use crate::memory::OutOfMemory;
@@ -113,6 +114,27 @@ fn after_digits(lo: u64, hi: u64, progress: Progress, bytes: &[u8]) -> (Progress
     }
 }
 
+/// The state after the digits of a number, and how many: all in front of `bytes`, if they are a number of the range, or none.
+fn begun_digits(lo: u64, hi: u64, bytes: &[u8]) -> (Progress, usize)
+    requires range { lo ≤ hi }
+    ensures within { result.1 ≤ length bytes.now }
+    ensures follows { FollowsRun (IsDecimalRest lo hi) Start (take result.1 bytes.now) result.0 }
+    ensures live { IsTrue (is_open lo hi result.0) }
+{
+    let (first, rest) = match bytes.split_first() {
+        Some(parts) => parts,
+        None => return (Progress::Start, 0),
+    };
+    if *first < b'1' || *first > b'9' || hi < (*first - b'0') as u64 {
+        return (Progress::Start, 0);
+    }
+    let (number, count) = take_digits(hi, (*first - b'0') as u64, rest);
+    if number < lo {
+        return (Progress::Start, 0);
+    }
+    (Progress::Number(number), count + 1)
+}
+
 impl DecimalText {
     /// A token of the numbers from `lo` to `hi`, unless there are none.
     pub fn new(lo: u64, hi: u64) -> Option<DecimalText>
@@ -157,6 +179,13 @@ impl Token for DecimalText {
     }
 
     fn run(&mut self, bytes: &[u8]) -> usize {
+        if let Progress::Start = self.progress {
+            let (progress, count) = begun_digits(self.lo, self.hi, bytes);
+            if count > 0 {
+                self.progress = progress;
+                return count;
+            }
+        }
         let (first, rest) = match bytes.split_first() {
             Some(parts) => parts,
             None => return 0,
@@ -168,6 +197,16 @@ impl Token for DecimalText {
         let (progress, count) = after_digits(self.lo, self.hi, begun, rest);
         self.progress = progress;
         count + 1
+    }
+
+    fn whole(&self, bytes: &[u8]) -> Option<(u64, usize)> {
+        let mut token = *self;
+        let count = token.run(bytes);
+        if token.can_end() {
+            Some((token.take(), count))
+        } else {
+            None
+        }
     }
 
     fn allows(&self, byte: u8) -> bool {

@@ -165,6 +165,16 @@ impl Token for HundredthsText {
         }
     }
 
+    fn whole(&self, bytes: &[u8]) -> Option<(Hundredths, usize)> {
+        let mut token = *self;
+        let count = token.run(bytes);
+        if token.can_end() {
+            Some((token.take(), count))
+        } else {
+            None
+        }
+    }
+
     fn allows(&self, byte: u8) -> bool {
         match after(self.form, self.most, self.part, byte) {
             Some(_) => true,

@@ -1,16 +1,29 @@
 //! Keys: the words of a line.
-ghost use Rattle.std.specs.Prelude.{◌≡◌, IsTrue, ◌↔◌, ◌≤◌, length, take};
+ghost use Rattle.std.specs.Prelude.{◌≡◌, IsTrue, ◌↔◌, ◌≤◌, IfOk, length, take};
 ghost use Rattle.cg_text.specs.Word.{IsWord, IsWordByte, AreWordBytes};
 ghost use Rattle.cg_text.specs.Key.{IsKeyMade};
+ghost use Rattle.cg_text.specs.KeyState.{stored, IsStored};
 
+use crate::memory::OutOfMemory;
 use std::alloc::Global;
 use std::marker::Model;
 use thiserror::Error;
 
+/// Where the bytes of a key lie.
+#[derive(Drop, Debug)]
+enum Store {
+    /// In the key itself, so many of these.
+    Short { len: usize, bytes: [u8; 22] },
+    Long(Vec<u8>),
+}
+
+/// How many bytes a key has at most that take no memory of their own.
+const SHORT: usize = 22;
+
 /// One or more bytes 33 to 126 without `=`.
 #[derive(Drop, Debug)]
 pub struct Key {
-    bytes: Vec<u8>,
+    store: Store,
 }
 
 impl Model for Key {
@@ -19,9 +32,11 @@ impl Model for Key {
 
     ghost Value = { List ℕ };
 
-    ghost view = { λ k. k.bytes.items };
+    ghost use Rattle.cg_text.specs.KeyState.{stored, IsStored};
 
-    ghost invariant = { λ k. IsWord k.bytes.items };
+    ghost view = { λ k. stored k.store };
+
+    ghost invariant = { λ k. IsWord (stored k.store) × IsStored k.store };
 }
 
 /// Why bytes make no key.
@@ -66,6 +81,21 @@ fn is_word(bytes: &[u8]) -> bool
     !bytes.is_empty()
 }
 
+/// Bytes, in a vector only where they are too many for the key itself.
+fn stored(alloc: Global, bytes: &[u8]) -> Result<Store, OutOfMemory>
+    ensures { IfOk result (λ store. (stored store ≡ bytes.now) × IsStored store) }
+{
+    if bytes.len() > SHORT {
+        return Ok(Store::Long(Vec::from_slice(alloc, bytes)?));
+    }
+    let mut short = [0; SHORT];
+    short[..bytes.len()].copy_from_slice(bytes);
+    Ok(Store::Short {
+        len: bytes.len(),
+        bytes: short,
+    })
+}
+
 impl Key {
     /// The key of these bytes, where they are a word.
     pub fn new(alloc: Global, bytes: &[u8]) -> Result<Key, KeyFault>
@@ -74,8 +104,8 @@ impl Key {
         if !is_word(bytes) {
             return Err(KeyFault::BadKey);
         }
-        match Vec::from_slice(alloc, bytes) {
-            Ok(bytes) => Ok(Key { bytes }),
+        match stored(alloc, bytes) {
+            Ok(store) => Ok(Key { store }),
             Err(_) => Err(KeyFault::OutOfMemory),
         }
     }
@@ -85,7 +115,19 @@ impl Key {
         requires { IsWord bytes.items }
         ensures { result ≡ bytes.items }
     {
-        Key { bytes }
+        Key {
+            store: Store::Long(bytes),
+        }
+    }
+
+    /// The key of these bytes, which are a word.
+    pub(crate) fn of_word(alloc: Global, bytes: &[u8]) -> Result<Key, OutOfMemory>
+        requires { IsWord bytes.now }
+        ensures { IfOk result (λ key. key ≡ bytes.now) }
+    {
+        Ok(Key {
+            store: stored(alloc, bytes)?,
+        })
     }
 
     /// The bytes of the key, which are a word.
@@ -93,7 +135,10 @@ impl Key {
         ensures bytes { result.now ≡ self.now }
         ensures word { IsWord self.now }
     {
-        self.bytes.as_slice()
+        match &self.store {
+            Store::Short { len, bytes } => &bytes[..*len],
+            Store::Long(bytes) => bytes.as_slice(),
+        }
     }
 }
 
@@ -108,6 +153,6 @@ impl PartialEq for Key {
     ghost laws = { record { symm = nat_list_eq_equiv.symm; trans = λ x y z e f. nat_list_eq_equiv.congr x y z e ∙ f } };
 
     fn eq(&self, other: &Key) -> bool {
-        self.bytes == other.bytes
+        self.bytes() == other.bytes()
     }
 }

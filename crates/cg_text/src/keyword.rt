@@ -136,6 +136,15 @@ impl Token for KeywordText {
         }
     }
 
+    fn whole(&self, bytes: &[u8]) -> Option<((), usize)> {
+        let (_, left) = self.keyword.text().split_at(self.at);
+        if bytes.starts_with(left) {
+            Some(((), left.len()))
+        } else {
+            None
+        }
+    }
+
     fn allows(&self, byte: u8) -> bool {
         let text = self.keyword.text();
         self.at < text.len() && text[self.at] == byte

@@ -34,7 +34,7 @@ pub use key::{Key, KeyFault};
 pub use keyword::{Keyword, KeywordText};
 pub use list::StrictListText;
 pub use loose::LooseListText;
-pub use memory::OutOfMemory;
+pub use memory::{OutOfMemory, make_room};
 pub use numbers::NumberSet;
 pub use pairs::{LimitKey, LimitPairs, LimitPairsText};
 pub use raw::RawText;

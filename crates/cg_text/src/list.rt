@@ -8,7 +8,7 @@ ghost use Rattle.cg_text.specs.DecimalState.{decimal_ends};
 ghost use Rattle.cg_text.specs.ListLaws.{IsSound_prop};
 
 use crate::decimal::DecimalText;
-use crate::memory::OutOfMemory;
+use crate::memory::{OutOfMemory, make_room};
 use crate::numbers::NumberSet;
 use crate::token::Token;
 use std::alloc::Global;
@@ -108,15 +108,13 @@ pub(crate) fn close(ranges: &mut Vec<(u32, u32)>, begin: u32, end: u32) -> Resul
     ensures closed { OnOk result (ranges.new.items ≡ (front ranges.old.items ++ (begin, end) ∷ []) ++ (0, 0) ∷ []) }
     ensures same { OnErr result (ranges.new.items ≡ ranges.old.items) }
 {
-    match ranges.reserve(1) {
+    match make_room(ranges) {
         Ok(()) => {}
         Err(_) => return Err(OutOfMemory),
     }
     set_last(ranges, begin, end);
-    match ranges.push((0, 0)) {
-        Ok(()) => Ok(()),
-        Err(_) => unreachable!(),
-    }
+    ranges.push_reserved((0, 0));
+    Ok(())
 }
 
 /// Begins the first range, where there is none.

@@ -1,12 +1,12 @@
 //! What every token keeps.
-ghost use Rattle.std.specs.Prelude.{◌≡◌, ℕ, ◌+◌, ◌≤◌, ◌↔◌, Bool, List, [], IsTrue, IsFalse, OnErr, length, take};
+ghost use Rattle.std.specs.Prelude.{◌≡◌, ℕ, ◌+◌, ◌≤◌, ◌↔◌, Bool, List, [], IsTrue, IsFalse, IfSome, OnErr, length, take};
 ghost use Rattle.cg_text.specs.Scan.{FollowsRun};
-ghost use Rattle.cg_text.specs.Token.{Follows, Begins, NoneBegins, Ends, Same, Completes, HasOneValue, HoldsBytes, IfTaken, IfRefused, UnlessTaken, told};
+ghost use Rattle.cg_text.specs.Token.{Follows, Begins, NoneBegins, Ends, Same, Completes, HasOneValue, HoldsBytes, IfTaken, IfRefused, IsFront, UnlessTaken, told};
 
 use crate::memory::OutOfMemory;
 
 /// A token: it takes the text of one value, a byte at a time, and gives what the text spells.
-pub trait Token: Drop {
+pub trait Token: Drop + Sized {
     type Out: Drop;
 
     /// The rests that complete a state, each with its value.
@@ -66,6 +66,15 @@ pub trait Token: Drop {
             }
         }
         bytes.len()
+    }
+
+    /// The value of a rest with which `bytes` begins, and the rest's length. It may find none where there is one, and a longer
+    /// one may be there too.
+    fn whole(&self, _bytes: &[u8]) -> Option<(Self::Out, usize)>
+        ensures front { IfSome result (IsFront means self.now _bytes.now) }
+        ensures size { IfSome result (λ r. value_size r.0 ≤ size self.now + r.1) }
+    {
+        None
     }
 
     /// Whether some rest begins with the byte.

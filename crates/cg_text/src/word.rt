@@ -13,6 +13,7 @@ use std::alloc::Global;
 /// A word, or a controller's word, which begins with no sign.
 #[derive(Drop)]
 pub struct WordText {
+    alloc: Global,
     controller: bool,
     bytes: Vec<u8>,
     ghost sound: { IsWordFront controller bytes.items } by { IsWordFront_prop controller bytes.items },
@@ -35,6 +36,7 @@ impl WordText {
         ensures size { ⟦<WordText as Token>⟧.size result ≡ 0 }
     {
         WordText {
+            alloc,
             controller,
             bytes: Vec::new(alloc),
         }
@@ -90,6 +92,22 @@ impl Token for WordText {
         match self.bytes.extend_from_slice(run) {
             Ok(()) => count,
             Err(_) => 0,
+        }
+    }
+
+    fn whole(&self, bytes: &[u8]) -> Option<(Key, usize)> {
+        // Where something was taken, or a sign may come first, the bytes go by `step`.
+        if self.controller || !self.bytes.is_empty() {
+            return None;
+        }
+        let count = count_word_bytes(bytes);
+        if count == 0 {
+            return None;
+        }
+        let (front, _) = bytes.split_at(count);
+        match Key::of_word(self.alloc, front) {
+            Ok(key) => Some((key, count)),
+            Err(_) => None,
         }
     }
 

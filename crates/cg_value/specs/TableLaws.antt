@@ -1,11 +1,13 @@
 -- What holds of the file table.
 use Rattle.std.proofs.Common.{◌≡◌, ℕ, zero, suc, ◌<◌, length, map, slice_index_or, ◌≤◌, List, [], ◌∷◌, Option, Some, None, Bool, true, false, cond, drop, refl, sym, ◌∙◌, ap, arith, inl, inr}
-use Rattle.std.specs.Prelude.{if◌then◌else◌, IfSome, MatchOption}
+use Rattle.std.specs.Prelude.{◌&&◌, is_none, get_or, if◌then◌else◌, IfSome, MatchOption}
 use Rattle.std.specs.Option.{option_map}
 use Rattle.std.specs.Str.{bytes_eq}
+use Rattle.std.proofs.lemmas.Bool.{cond-true, cond-false, false_from_ne_true, false≢true}
+use Rattle.std.proofs.lemmas.Slice.Eq.{bytes_eq-Decides}
 use Rattle.cg_value.specs.Kind.{IsReadForm, IsWriteForm}
 use Rattle.cg_value.specs.Table.{Row, rows, reads_in, writes_in, read_form_of, write_form_of}
-use Rattle.cg_value.specs.TableRows.{longest, read_in, table_name_at, table_names, write_in}
+use Rattle.cg_value.specs.TableRows.{forms_of, found_in, longest, read_in, stand_once, table_name_at, table_names, write_in}
 use Rattle.cg_value.specs.declared.profile.Profile.{Profile}
 use Rattle.cg_value.specs.declared.profile.Profile.TheVariants.{One, Two}
 use Rattle.cg_value.specs.declared.kind.ReadForm.{ReadForm}
@@ -13,6 +15,7 @@ use Rattle.cg_value.specs.declared.kind.ReadForm.TheVariants as read
 use Rattle.cg_value.specs.declared.kind.WriteForm.{WriteForm}
 use Rattle.cg_value.specs.declared.kind.WriteForm.TheVariants as write
 use Rattle.cg_value.specs.declared.table.Forms.{Forms}
+use Rattle.cg_value.specs.declared.table.Row as code
 
 -- A member of a list as it is mapped.
 pub index_map : {X Y : Type 0} (f : X → Y) (xs : List X) (k : ℕ) (d : X) (e : Y) → k < length xs → f (slice_index_or xs k d) ≡ slice_index_or (map f xs) k e
@@ -32,6 +35,25 @@ pub found_short : {X : Type 0} (found : Option X) (now : X → List ℕ) (place 
     × (now name ≡ table_name_at place)) → IfSome found (λ name. length (now name) ≤ longest table_names)
 found_short None now place row = tt
 found_short (Some name) now place row = rw row.1 (longest_is table_names place row.0)
+
+-- The row of a name that stands once is the first one of the name.
+two_true : (a b : Bool) → (a && b) ≡ true → (a ≡ true) × (b ≡ true)
+two_true true b e = (refl, e)
+two_true false b e = absurd (false≢true e)
+
+none_of_some : (found : Option Forms) (f : Forms) → found ≡ Some f → is_none found ≡ true → ⊥
+none_of_some found f e none = false≢true (sym (ap is_none e) ∙ none)
+
+pub found_once : (rs : List code.Row) (name : List ℕ) (k : ℕ) (d : code.Row) → stand_once rs ≡ true → k < length rs → (get_or rs k d).name.now ≡ name →
+    found_in rs name ≡ Some (forms_of (get_or rs k d))
+found_once [] name k d once within is = absurd (omega (arith, within))
+found_once (x ∷ xs) name zero d once within is = cond-true _ _ _ ((bytes_eq-Decides x.name.now name).1 is)
+found_once (x ∷ xs) name (suc k) d once within is =
+    let both = two_true (is_none (found_in xs x.name.now)) (stand_once xs) once in
+    let later = found_once xs name k d both.1 (omega (arith, within)) is in
+    let apart : bytes_eq x.name.now name ≡ true → ⊥ = λ e.
+    none_of_some (found_in xs x.name.now) (forms_of (get_or xs k d)) (ap (found_in xs) ((bytes_eq-Decides x.name.now name).0 e) ∙ later) both.0 in
+    cond-false _ _ _ (false_from_ne_true _ apart) ∙ later
 
 -- What the first row of the name says both ways.
 abbrev pub forms_in : List Row → List ℕ → Option Forms

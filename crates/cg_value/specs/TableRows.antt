@@ -1,5 +1,5 @@
 -- The rows of the code's table.
-use Rattle.std.specs.Prelude.{ℕ, List, [], ◌∷◌, Option, Some, None, if◌then◌else◌, slice_index_or, map, max, length}
+use Rattle.std.specs.Prelude.{ℕ, Bool, true, ◌&&◌, List, [], ◌∷◌, Option, Some, None, is_none, if◌then◌else◌, slice_index_or, map, max, length}
 use Rattle.std.specs.Str.{bytes_eq}
 use Rattle.cg_value.specs.Table.{Row as TableRow, rows}
 use Rattle.cg_value.specs.declared.kind.ReadForm.{ReadForm}
@@ -11,10 +11,19 @@ use Rattle.cg_value.specs.declared.profile.Profile.TheVariants.{One, Two}
 use Rattle.cg_value.specs.declared.table.Forms.{Forms}
 use Rattle.cg_value.specs.declared.table.Row.{Row}
 
+-- What a row says.
+abbrev pub forms_of : Row → Forms
+forms_of r = record { reads = r.reads; writes = r.writes }
+
 -- What the first row of the name says.
 abbrev pub found_in : List Row → List ℕ → Option Forms
 found_in [] name = None
-found_in (r ∷ rs) name = if bytes_eq r.name.now name then Some (record { reads = r.reads; writes = r.writes }) else found_in rs name
+found_in (r ∷ rs) name = if bytes_eq r.name.now name then Some (forms_of r) else found_in rs name
+
+-- Whether each name stands in one row.
+abbrev pub stand_once : List Row → Bool
+stand_once [] = true
+stand_once (r ∷ rs) = is_none (found_in rs r.name.now) && stand_once rs
 
 -- What stands in a profile for a form of the second one.
 abbrev pub read_in : Profile → ReadForm → ReadForm

@@ -7,7 +7,7 @@ ghost use Rattle.cg_index.specs.Position.{HasNoZero};
 ghost use Rattle.cg_value.specs.FlatLaws.{keys_of};
 
 use cg_index::KeyIndex;
-use cg_text::{Key, KeyFault, OutOfMemory};
+use cg_text::{Key, KeyFault, OutOfMemory, make_room};
 use std::alloc::Global;
 use std::marker::Model;
 use thiserror::Error;
@@ -126,7 +126,7 @@ impl FlatBuilder {
         if key_near(self.pairs.as_slice(), near) == key.bytes() {
             return Err(FlatRefused::Repeated(key));
         }
-        if self.pairs.try_reserve(1).is_err() || self.index.reserve().is_err() {
+        if make_room(&mut self.pairs).is_err() || self.index.reserve().is_err() {
             return Err(FlatRefused::OutOfMemory(key));
         }
         self.index

@@ -1,7 +1,7 @@
 //! The file table.
-ghost use Rattle.std.specs.Prelude.{◌≡◌, ◌<◌, ◌≤◌, Some, None, IfOk, IfSome, OnErr, MatchOption, [], length, slice_index_or};
+ghost use Rattle.std.specs.Prelude.{◌≡◌, ◌<◌, ◌≤◌, Some, None, true, IfOk, IfSome, OnErr, MatchOption, [], length, slice_index_or};
 ghost use Rattle.cg_value.specs.Table.{read_form_of, write_form_of};
-ghost use Rattle.cg_value.specs.TableRows.{found_in, longest, names_in, read_in, table_name_at, table_names, write_in};
+ghost use Rattle.cg_value.specs.TableRows.{forms_of, found_in, longest, names_in, read_in, table_name_at, table_names, stand_once, write_in};
 
 use crate::kind::{ReadForm, ReadKind, WriteForm, WriteKind};
 use crate::profile::Profile;
@@ -22,6 +22,18 @@ struct Row {
     name: &'static [u8],
     reads: Option<ReadForm>,
     writes: Option<WriteForm>,
+}
+
+impl Row {
+    /// What it says.
+    fn forms(&self) -> Forms
+        ensures { result ≡ forms_of self.now }
+    {
+        Forms {
+            reads: self.reads,
+            writes: self.writes,
+        }
+    }
 }
 
 /// The names with what they hold, in the order of the kernel's document.
@@ -381,18 +393,56 @@ struct Forms {
 }
 
 /// What the first row of the name says, none where no row has it.
-fn find_row(rows: &[Row], name: &[u8]) -> Option<Forms>
+fn search_rows(rows: &[Row], name: &[u8]) -> Option<Forms>
     ensures { result ≡ found_in rows.now name.now }
 {
     for row in rows {
         if row.name == name {
-            return Some(Forms {
-                reads: row.reads,
-                writes: row.writes,
-            });
+            return Some(row.forms());
         }
     }
     None
+}
+
+/// For each number that `guess` makes of names, the place of a row of such a name, or 255 where there is none.
+static PLACES: [u8; 256] = [
+    255, 20, 255, 255, 255, 255, 255, 44, 255, 255, 255, 0, 255, 255, 5, 57, 255, 255, 255, 255,
+    255, 255, 255, 255, 255, 255, 255, 2, 255, 255, 255, 255, 255, 255, 255, 255, 255, 255, 12, 7,
+    10, 255, 255, 45, 1, 255, 255, 255, 255, 255, 255, 255, 255, 255, 255, 255, 8, 255, 255, 4,
+    255, 255, 255, 255, 255, 255, 16, 255, 36, 255, 255, 255, 255, 255, 255, 255, 255, 6, 255, 255,
+    255, 33, 255, 255, 255, 255, 255, 255, 255, 255, 13, 255, 59, 255, 41, 255, 255, 255, 255, 255,
+    255, 255, 255, 255, 39, 255, 255, 255, 255, 255, 255, 22, 255, 255, 28, 255, 255, 255, 56, 255,
+    255, 255, 255, 255, 255, 255, 255, 255, 255, 255, 255, 35, 255, 38, 255, 51, 27, 255, 255, 255,
+    255, 54, 255, 255, 255, 255, 255, 21, 255, 17, 255, 255, 255, 255, 255, 255, 255, 19, 255, 29,
+    255, 255, 255, 255, 255, 255, 255, 255, 255, 255, 255, 255, 53, 255, 46, 255, 24, 255, 50, 30,
+    58, 14, 255, 18, 255, 26, 255, 47, 34, 255, 255, 255, 255, 255, 255, 255, 40, 255, 52, 255,
+    255, 255, 255, 255, 9, 255, 255, 255, 255, 255, 255, 42, 23, 255, 49, 37, 255, 255, 255, 255,
+    255, 11, 255, 255, 31, 25, 48, 255, 255, 255, 255, 15, 255, 255, 255, 255, 255, 32, 255, 43, 3,
+    255, 255, 255, 255, 255, 255, 255, 255, 255, 255, 255, 255, 255, 255, 255,
+];
+
+/// The place where the row of the name stands, if there is one: mostly. It needn't be right.
+fn guess(name: &[u8]) -> usize {
+    let len = name.len();
+    if len < 4 {
+        return 0;
+    }
+    let ends = name[len - 1] as usize + name[len - 4] as usize;
+    let number = (len % 256) * 13 + name[0] as usize * 31 + ends * 23;
+    PLACES[number % 256] as usize
+}
+
+/// What the only row of the name says, none where no row has it: that which stands at the place that is guessed, or else the
+/// one that is found by a search.
+fn find_row(rows: &[Row], name: &[u8]) -> Option<Forms>
+    requires { stand_once rows.now ≡ true }
+    ensures { result ≡ found_in rows.now name.now }
+{
+    let place = guess(name);
+    if place < rows.len() && rows[place].name == name {
+        return Some(rows[place].forms());
+    }
+    search_rows(rows, name)
 }
 
 /// What stands in the profile for a read form of the second one.

@@ -25,21 +25,22 @@ use std::test::Fail;
 /// The blocks that keep the heap starved.
 pub(crate) type Blocks = Vec<Vec<u8>>;
 
-/// Takes all memory that is to be had, in blocks of falling size.
+/// Takes all memory that is to be had, in blocks of falling size: of halves, and at last of each size of which the heap may
+/// keep a freed block that serves no other.
 pub(crate) fn hog(alloc: Global) -> Result<Blocks, AllocError> {
     let mut held: Blocks = Vec::with_capacity(alloc, 400000)?;
     let mut size: usize = 17179869184;
-    for _ in 0..40 {
+    for _ in 0..100 {
         for _ in 0..20000 {
             match Vec::with_capacity(alloc, size) {
                 Ok(block) => held.push(block)?,
                 Err(_) => break,
             }
         }
-        size /= 2;
-        if size < 16 {
+        if size < 32 {
             break;
         }
+        size = if size > 1024 { size / 2 } else { size - 16 };
     }
     Ok(held)
 }
@@ -99,10 +100,11 @@ fn decodes_setting(alloc: Global) -> Option<bool> {
     }
 }
 
-/// Whether a key is made.
+/// Whether a key is made that is too long to lie in itself.
 fn makes_key(alloc: Global) -> Option<bool> {
-    match Key::new(alloc, b"anon") {
-        Ok(key) => Some(key.bytes() == b"anon".as_slice()),
+    let long: &[u8] = b"a_key_that_has_a_vector";
+    match Key::new(alloc, long) {
+        Ok(key) => Some(key.bytes() == long),
         Err(KeyFault::OutOfMemory) => None,
         Err(KeyFault::BadKey) => Some(false),
     }
@@ -239,10 +241,10 @@ fn three_to_five_and_nine(alloc: Global) -> Result<NumberSet, OutOfMemory> {
     Ok(set)
 }
 
-/// One pair.
+/// One pair, whose key is too long to lie in itself.
 fn one_pair(alloc: Global) -> Result<Flat, Fail> {
     let mut flat = Flat::new(alloc);
-    let key = Key::new(alloc, b"anon")?;
+    let key = Key::new(alloc, b"a_key_that_has_a_vector")?;
     flat.push(key, 1)?;
     Ok(flat)
 }

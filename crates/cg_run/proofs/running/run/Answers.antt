@@ -19,7 +19,7 @@ returns-in-Plan-clause-ran g c fresh =
 
 pub returns-in-Show-clause-ran : goal.returns-in-Show-clause-ran
 returns-in-Show-clause-ran g c fresh =
-    let h = c.run_entries.ensures.ran fresh in
+    let h = c.run_show.ensures.ran fresh in
     record {
       read = h.read;
       consumed = h.consumed;
@@ -31,7 +31,7 @@ returns-in-Show-clause-ran g c fresh =
 
 pub returns-in-Json-clause-ran : goal.returns-in-Json-clause-ran
 returns-in-Json-clause-ran g c fresh =
-    let h = c.run_entries-in-Json.ensures.ran fresh in
+    let h = c.run_json.ensures.ran fresh in
     record {
       read = h.read;
       consumed = h.consumed;

@@ -26,7 +26,7 @@ insert-requires-clause-key c = word_bytes c.bytes-3.result.now (rw (← c.bytes-
 
 pub insert-requires-clause-nearest : goal.insert-requires-clause-nearest
 insert-requires-clause-nearest c =
-    let there = rw (c.as_slice-2.ensures.value, c.try_reserve.ensures.items) at c.key_near-2.ensures.key in
+    let there = rw (c.as_slice-2.ensures.value, c.make_room.ensures.items) at c.key_near-2.ensures.key in
     let nearest = rw (c.bytes.ensures.bytes ∙ sym c.bytes-3.ensures.bytes) at c.nearest-near.ensures.nearest in (
       keys_of c.self.inside.pairs.items,
       same_indexes c.reserve.ensures.same c.self.invariant.indexed,
@@ -41,11 +41,11 @@ invariant_of-self-2 c =
     let only = rw (c.bytes.ensures.bytes) at c.nearest-near.ensures.only in
     let other = compared_other c.key_near.result.now c.bytes-2.result.now c.args.key c.eq.result c.eq.ensures c.if-eq.false c.bytes-2.ensures.bytes in
     let none = near_none c.self.invariant c.nearest-near.result c.key_near.result.now c.args.key c.nearest-near.ensures.none only before other in
-    let there = rw (c.as_slice-2.ensures.value, c.try_reserve.ensures.items) at c.key_near-2.ensures.key in
+    let there = rw (c.as_slice-2.ensures.value, c.make_room.ensures.items) at c.key_near-2.ensures.key in
     let nearest = rw (c.bytes.ensures.bytes ∙ sym c.bytes-3.ensures.bytes) at c.nearest-near.ensures.nearest in
     let near = near_is c.self.invariant.indexed c.nearest-near.result c.key_near-2.result.now c.bytes-3.result.now c.reserve.ensures.same c.nearest-near.ensures.none nearest there in
     let grown = c.insert.ensures.index (keys_of pairs) (same_indexes c.reserve.ensures.same c.self.invariant.indexed) near in
-    rw (c.push_reserved.ensures.items, c.try_reserve.ensures.items) (index_push c.self.invariant p none (rw (c.bytes-3.ensures.bytes) at grown))
+    rw (c.push_reserved.ensures.items, c.make_room.ensures.items) (index_push c.self.invariant p none (rw (c.bytes-3.ensures.bytes) at grown))
 
 pub returns-clause-repeated : goal.returns-clause-repeated
 returns-clause-repeated c =

@@ -1,0 +1,6 @@
+use Rattle.std.proofs.Common.{take}
+use Rattle.cg_json.specs.Compact.{ArePlain}
+use Rattle.cg_json.proofs.text.is_plain.Given as goal
+
+abbrev pub invariant-loop-byte : goal.invariant-loop-byte
+invariant-loop-byte l = ArePlain (take l.byte-index l.bytes)

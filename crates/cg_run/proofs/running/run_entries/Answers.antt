@@ -1,4 +1,0 @@
-use Rattle.cg_run.proofs.running.run_entries.Goals as goal
-
-pub returns-clause-ran : goal.returns-clause-ran
-returns-clause-ran g c fresh = c.run_stream.ensures.ran ((c.args.profile, c.args.limits), c.args.telling) c.new-entries.ensures fresh

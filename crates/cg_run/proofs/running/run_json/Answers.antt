@@ -1,0 +1,4 @@
+use Rattle.cg_run.proofs.running.run_json.Goals as goal
+
+pub returns-clause-ran : goal.returns-clause-ran
+returns-clause-ran g c fresh = c.run_stream.ensures.ran (c.args.profile, c.args.limits) c.new-entries.ensures fresh

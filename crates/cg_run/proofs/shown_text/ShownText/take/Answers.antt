@@ -1,0 +1,18 @@
+use Rattle.std.proofs.Common.{◌≡◌, length, drop, refl, ap, length-drop, arith}
+use Rattle.cg_run.proofs.ShowsText.{shows_none, shows_rest}
+use Rattle.cg_run.proofs.shown_text.ShownText.take.Goals as goal
+
+pub loop-used-init : goal.loop-used-init
+loop-used-init c = record { within = omega arith; shows = shows_none c.args.self.now _ c.try_reserve.ensures.items refl }
+
+pub loop-used-preserved : goal.loop-used-preserved
+loop-used-preserved c =
+    let bytes = c.args.bytes.now in
+    let used = c.loop-used.used in
+    let rest = c.split_at.result.1.now in
+    let took = c.in_ok-used.ensures in
+    let left : length rest ≡ length (drop used bytes) = ap length c.split_at.ensures.back in
+    record {
+      within = omega (arith, took.1, left, length-drop used bytes, c.loop-used.invariant.within);
+      shows = shows_rest c.args.self.now c.loop-used.self c.take_some.new.self bytes rest used c.in_ok-used.field-0 c.split_at.ensures.back c.loop-used.invariant.shows took.2;
+    }

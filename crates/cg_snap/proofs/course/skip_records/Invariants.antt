@@ -1,0 +1,17 @@
+use Rattle.std.proofs.Common.{◌≡◌, ◌++◌, ◌≤◌, ◌-◌, ℕ, List, take, length}
+use Rattle.cg_value.specs.declared.profile.Profile.{Profile}
+use Rattle.cg_snap.specs.Course.{IsAlong}
+use Rattle.cg_snap.proofs.course.skip_records.Given as goal
+
+abbrev pub invariant-loop-used : goal.invariant-loop-used
+invariant-loop-used g l = record {
+  along : (form : Profile) (p : List ℕ) (es : List g.row.R-Part.Denot) →
+      IsAlong (g.R.Records.language form) (g.R.Records.breaks form) (g.R.Records.many form) (g.R.Records.closes form) (λ s. g.R.Records.at s form) l.fn.records l.fn.meter p es →
+      IsAlong (g.R.Records.language form) (g.R.Records.breaks form) (g.R.Records.many form) (g.R.Records.closes form) (λ s. g.R.Records.at s form) l.records l.meter (p ++ take l.used l.piece) es;
+  within : l.used ≤ length l.piece;
+  profile : g.R.Records.profile l.records ≡ g.R.Records.profile l.fn.records;
+  limits : l.meter.limits ≡ l.fn.meter.limits;
+}
+
+abbrev pub decreases-loop-used : goal.decreases-loop-used
+decreases-loop-used g l = length l.piece - l.used
