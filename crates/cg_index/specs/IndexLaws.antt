@@ -3,7 +3,8 @@ use Rattle.std.proofs.Common.{◌≡◌, ◌≢◌, ℕ, zero, suc, ◌<◌, Lis
 use Rattle.std.proofs.lemmas.Bool.Decides.{nat_tests}
 use Rattle.cg_text.specs.Word.{AreWordBytes}
 use Rattle.cg_index.specs.Position.{HasNoZero}
-use Rattle.cg_index.specs.Tree.{Indexed, Indexes, IsNear, IsNearest, IsOnlyFor, IsSameBut, key_at}
+use Rattle.cg_index.specs.declared.fork.Seat.{Seat}
+use Rattle.cg_index.specs.Tree.{Indexed, Indexes, IsNear, IsNearest, IsOnlyFor, IsSameBut, IsSeat, key_at}
 
 -- The bytes are the key at the place, and none of no place.
 abbrev pub IsKeyThere : List (List ℕ) → Option ℕ → List ℕ → Type 0
@@ -18,6 +19,14 @@ pub same_indexes : {P : Type 0} {old new : Indexed P} → IsSameBut old new → 
 same_indexes same of = record {
   tree = rw (same.forks, same.root) of.tree;
   count = rw (same.besides) of.count;
+}
+
+-- A seat stays one.
+pub same_seat : {P : Type 0} {old new : Indexed P} → IsSameBut old new → {keys : List (List ℕ)} {key : List ℕ} {seat : Seat} → IsSeat old keys key seat → IsSeat new keys key seat
+same_seat same is = record {
+  within = rw (same.forks) is.within;
+  tree = rw (same.forks, same.root) is.tree;
+  of = rw (same.forks, same.root) is.of;
 }
 
 module _ {P : Type 0} {index : Indexed P} {keys : List (List ℕ)} (of : Indexes index keys) (near : Option ℕ) (there key : List ℕ) where

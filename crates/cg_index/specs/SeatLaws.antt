@@ -1,5 +1,5 @@
 -- What holders of items with keys cite of the index in which the items lie.
-use Rattle.std.proofs.Common.{◌≡◌, ℕ, zero, suc, ◌+◌, ◌<◌, List, [], ◌∷◌, ◌++◌, length, get_or, map, Option, Some, None, Bool, true, false, option_map, is_none, IfSome, ◌==◌, nat_eq}
+use Rattle.std.proofs.Common.{◌≡◌, ℕ, zero, suc, ◌+◌, ◌<◌, List, [], ◌∷◌, ◌++◌, length, get_or, map, Option, Some, None, Bool, true, false, option_map, is_none, is_some, IfSome, ◌==◌, nat_eq}
 use Rattle.std.proofs.Common.{refl, sym, ap, ◌∙◌, arith}
 use Rattle.std.proofs.lemmas.Bool.{cond-true, cond-false, false_from_ne_true}
 use Rattle.std.proofs.lemmas.List.{nil_from_length, length-map, map-append}
@@ -8,9 +8,9 @@ use Rattle.std.specs.Bool.{then_some}
 use Rattle.std.specs.Str.{bytes_eq}
 use Rattle.std.specs.Cmp.Lexicographic.{pointwise}
 use Rattle.cg_text.specs.Distinct.{AreDistinct, LacksValue}
-use Rattle.cg_index.specs.Keyed.{place_among, IsLastChanged}
-use Rattle.cg_index.specs.KeyedLaws.{push_keys, changed_keys}
-use Rattle.cg_index.specs.IndexLaws.{IsKeyThere, no_length, same_indexes, near_is}
+use Rattle.cg_index.specs.Keyed.{is_among, place_among, IsLastChanged}
+use Rattle.cg_index.specs.KeyedLaws.{some_place, push_keys, changed_keys}
+use Rattle.cg_index.specs.IndexLaws.{IsKeyThere, no_length, same_indexes, near_has, near_lacks, near_is}
 use Rattle.cg_index.specs.Tree.{Indexed, Indexes, IsNear, IsNearest, IsOnlyFor, IsSameBut, IsSameTree, key_at}
 
 -- The keys of the items are all different, and the index is that of the keys.
@@ -83,10 +83,10 @@ keys_read key item [] i d h = absurd (omega (arith, h))
 keys_read key item (x ∷ xs) zero d h = refl
 keys_read key item (x ∷ xs) (suc i) d h = keys_read key item xs i d (omega (arith, h))
 
-same_key : (a b : List ℕ) (test : Bool) → test ≡ bytes_eq a b → test ≡ true → a ≡ b
+pub same_key : (a b : List ℕ) (test : Bool) → test ≡ bytes_eq a b → test ≡ true → a ≡ b
 same_key a b test is holds = (bytes_eq-Decides a b).0 (sym is ∙ holds)
 
-not_same_key : (a b : List ℕ) (test : Bool) → test ≡ bytes_eq a b → test ≡ false → a ≡ b → ⊥
+pub not_same_key : (a b : List ℕ) (test : Bool) → test ≡ bytes_eq a b → test ≡ false → a ≡ b → ⊥
 not_same_key a b test is fails same =
     let would = (bytes_eq-Decides a b).1 same in
     cc
@@ -104,6 +104,19 @@ module _ {T : Type 0} {key : T → List ℕ} {index : Indexed T} (keyed : IsKeye
       sym (no_place sought (map key index.besides) (λ k h e.
       let same : k ≡ place = only (map key index.besides) keyed.indexed k h e in
       not_same_key seen sought false fails refl (is ∙ ap (key_at (map key index.besides)) (sym same) ∙ e)))
+
+  -- The key that is found near is the one that is sought.
+  pub near_among : (near : Option ℕ) (there sought : List ℕ) → IfSome near (λ k. k < length index.besides) → IsKeyThere (map key index.besides) near there →
+      there ≡ sought → 0 < length sought → true ≡ is_among sought (map key index.besides)
+  near_among near there sought within is same some =
+      let found = near_has keyed.indexed near there sought within is same some in
+      ap is_some (sym (one_place sought (map key index.besides) found.0 keyed.distinct found.1 found.2)) ∙ some_place sought (map key index.besides)
+
+  -- It is another one.
+  pub near_other : (near : Option ℕ) (there sought : List ℕ) → is_none near ≡ (length index.besides == 0) → IfSome near (IsOnlyFor index sought) →
+      IsKeyThere (map key index.besides) near there → (there ≡ sought → ⊥) → false ≡ is_among sought (map key index.besides)
+  near_other near there sought none only is apart =
+      ap is_some (sym (no_place sought (map key index.besides) (near_lacks keyed.indexed near there sought none only is apart))) ∙ some_place sought (map key index.besides)
 
   -- A key that is new isn't the one that is nearest to it.
   pub near_apart : (near : Option ℕ) (there sought : List ℕ) → is_none near ≡ (length index.besides == 0) → IfSome near (λ k. k < length index.besides) →

@@ -59,6 +59,7 @@ impl<P> KeyIndex<P> {
     }
 
     /// The number of the only key that can be the same as this one, none where there are no keys. It compares no keys.
+    #[inline(always)]
     pub fn nearest(&self, key: &[u8]) -> Option<usize>
         ensures none { is_none result ≡ (length self.now.besides == 0) }
         ensures within { IfSome result (λ k. k < length self.now.besides) }
@@ -72,6 +73,7 @@ impl<P> KeyIndex<P> {
     }
 
     /// Makes room, so that the next insertion takes no memory.
+    #[inline(always)]
     pub fn reserve(&mut self) -> Result<(), AllocError>
         ensures same { IsSameBut self.old self.new }
         ensures room { OnOk result (IsTrue self.new.has_room) }
@@ -110,6 +112,7 @@ impl<P> KeyIndex<P> {
     }
 
     /// Adds the key whose seat it is. It takes no memory.
+    #[inline(always)]
     pub(crate) fn insert_at(&mut self, seat: Seat, beside: P)
         requires room { IsTrue self.old.has_room }
         requires seat { (keys : List (List ℕ)) × (key : List ℕ) × IsSeat self.old keys key seat }

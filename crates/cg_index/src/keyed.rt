@@ -1,13 +1,14 @@
 //! Items with keys that are all different, in order, found by their keys.
-ghost use Rattle.std.specs.Prelude.{◌≡◌, ℕ, List, ◌<◌, ◌++◌, ◌∷◌, [], IsTrue, IfErr, IsOk, OnOk, OnErr, length, map, slice_get, Some, MatchOption, ◌≤◌, IfSome};
+ghost use Rattle.std.specs.Prelude.{◌≡◌, ℕ, List, ◌<◌, ◌++◌, ◌∷◌, [], IsTrue, IfErr, IsOk, OnOk, OnErr, length, map, slice_get, Some, MatchOption, ◌≤◌, IfSome, is_none};
 ghost use Rattle.std.specs.Cmp.Lexicographic.{pointwise};
 ghost use Rattle.cg_text.specs.Distinct.{AreDistinct, LacksValue};
 ghost use Rattle.cg_index.specs.IndexLaws.{IsKeyThere};
 ghost use Rattle.cg_index.specs.Position.{HasNoZero};
-ghost use Rattle.cg_index.specs.Tree.{IsSameTree};
+ghost use Rattle.cg_index.specs.Tree.{IsSameTree, IsSeat};
+ghost use Rattle.cg_index.specs.SeatLaws.{IsKeyed};
 ghost use Rattle.cg_index.specs.Keyed.{IsLastChanged, IsHandedBack, is_repeated, is_among, place_among};
 
-use crate::fork::Placed;
+use crate::fork::{Placed, Seat};
 use crate::index::KeyIndex;
 use cg_text::{Key, OutOfMemory};
 use std::alloc::Global;
@@ -72,6 +73,21 @@ fn key_near<T: HasKey>(placed: &[Placed<T>], place: Option<usize>) -> &[u8]
 }
 
 impl<T: HasKey> KeyIndex<T> {
+    /// Where the key goes in, none where an item has it. It takes one search, and at most one comparison of whole keys.
+    #[inline(always)]
+    fn seat_of(&self, key: &Key) -> Option<Seat>
+        requires { IsKeyed T.key_of self.now }
+        ensures there { is_none result ≡ is_among key.now (map T.key_of self.now.besides) }
+        ensures seat { IfSome result (IsSeat self.now (map T.key_of self.now.besides) key.now) }
+    {
+        let bytes = key.bytes();
+        let there = key_near(self.placed(), self.nearest(bytes));
+        if there == bytes {
+            return None;
+        }
+        Some(self.seat(bytes, there))
+    }
+
     /// Gives what is kept beside the last key a part. It takes no memory.
     fn change_last<C: Change<T>>(&mut self, part: C::Part)
         requires { 0 < length self.old.besides }
@@ -172,6 +188,25 @@ impl<T: HasKey> KeyedBuilder<T> {
         self.index.insert_at(seat, item);
     }
 
+    /// Adds an item at the end. Where an item has its key it answers `Repeated`, and where memory is wanting
+    /// `OutOfMemory`: both hand the item back, and the items stay.
+    #[inline(always)]
+    fn add(&mut self, item: T) -> Result<(), Refused<T>>
+        ensures ok { OnOk result (self.new.items ≡ self.old.items ++ item ∷ []) }
+        ensures err { OnErr result (self.new.items ≡ self.old.items) }
+        ensures back { IfErr result (IsHandedBack item) }
+        ensures repeated { is_repeated result ≡ is_among (T.key_of item) (map T.key_of self.old.items) }
+    {
+        let Some(seat) = self.index.seat_of(item.key()) else {
+            return Err(Refused::Repeated(item));
+        };
+        if self.index.reserve().is_err() {
+            return Err(Refused::OutOfMemory(item));
+        }
+        self.index.insert_at(seat, item);
+        Ok(())
+    }
+
     /// Gives the last item a part. It takes no memory.
     pub fn change_last<C: Change<T>>(&mut self, part: C::Part)
         requires { 0 < length self.old.items }
@@ -245,20 +280,14 @@ impl<T: HasKey> KeyedItems<T> {
 
     /// Adds an item at the end. Where an item has its key it answers `Repeated`, and where memory is wanting
     /// `OutOfMemory`: both hand the item back, and the items stay.
+    #[inline(always)]
     pub fn push(&mut self, item: T) -> Result<(), Refused<T>>
         ensures ok { OnOk result (self.new ≡ self.old ++ item ∷ []) }
         ensures err { OnErr result (self.new ≡ self.old) }
         ensures back { IfErr result (IsHandedBack item) }
         ensures repeated { is_repeated result ≡ is_among (T.key_of item) (map T.key_of self.old) }
     {
-        if self.built.has(item.key().bytes()) {
-            return Err(Refused::Repeated(item));
-        }
-        if self.built.reserve().is_err() {
-            return Err(Refused::OutOfMemory(item));
-        }
-        self.built.push(item);
-        Ok(())
+        self.built.add(item)
     }
 }
 

@@ -1,5 +1,6 @@
 -- What holds of repetitions, pairs and keyed lines of which the part at hand takes a run of bytes.
-use Rattle.std.proofs.Common.{◌≡◌, ℕ, ◌<◌, ◌↔◌, Bool, true, false, Option, List, [], ◌∷◌, ◌++◌, length, Ok, append_assoc}
+use Rattle.std.proofs.Common.{◌≡◌, ℕ, ◌<◌, ◌↔◌, Bool, true, false, Option, List, [], ◌∷◌, ◌++◌, length, Ok, append_assoc, append-nil}
+use Rattle.cg_text.specs.Token.{HasOneText}
 use Rattle.cg_join.specs.Distinct.{IsDistinctAfter}
 use Rattle.cg_join.specs.DistinctLaws.{with_distinct}
 use Rattle.cg_join.specs.Keyed.{IsKeyed}
@@ -10,7 +11,7 @@ use Rattle.cg_join.specs.LinesLaws.{lacks_taken}
 use Rattle.cg_join.specs.Pairs.{ArePairsAfter, IsPairText, PairRest}
 use Rattle.cg_join.specs.PairsLaws.{paired_ended, paired_rest, value_step, value_step_same, word_step_same, word_step_taken}
 use Rattle.cg_join.specs.Repeat.{IsListAfter, Stops}
-use Rattle.cg_join.specs.RepeatLaws.{list_same, list_taken, stops_taken}
+use Rattle.cg_join.specs.RepeatLaws.{list_next, list_same, list_taken, stops_taken}
 use Rattle.cg_join.specs.RunLaws.{begun_run, part_run}
 use Rattle.cg_join.specs.Spelling.{IsTurned}
 use Rattle.cg_join.specs.declared.pairs.Stage.TheVariants.{InWord, InValue}
@@ -27,6 +28,16 @@ module _ {V : Type 0} (separator : ℕ) (R : List ℕ → V → Type 0) (items :
       (rest : List ℕ) (all : List V) → IsListAfter items P' R separator rest all ↔ IsListAfter items P R separator (run ++ rest) all
   list_run = part_run (λ P rest all. IsListAfter items P R separator rest all) Fits fits (λ P P' f. list_same separator P P' R f items)
       (λ P P' b stops c f. list_taken separator P P' R b stops c f items)
+
+  -- A text of the part at hand, and the separator after it, are taken.
+  pub list_whole : (P F : List ℕ → V → Type 0) → ((rest : List ℕ) (v : V) → F rest v ↔ R rest v) → Stops P separator → HasOneText P → (text : List ℕ) (v : V) → P text v →
+      (rest : List ℕ) (all : List V) → IsListAfter (items ++ v ∷ []) F R separator rest all ↔ IsListAfter items P R separator ((text ++ separator ∷ []) ++ rest) all
+  list_whole P F f stops one text v h rest all =
+      let P' : List ℕ → V → Type 0 = λ r u. P (text ++ r) u in
+      let ended : P' [] v = rw (append-nil text) h in
+      let next = list_next separator P' F R v ended (λ r u w. one (text ++ r) u w) (λ r u. stops text r v u h) f items rest all in
+      let part = list_run P P' text stops ([], v, ended) (λ r u. (λ k. k, λ k. k)) (separator ∷ rest) all in
+      rw (append_assoc text (separator ∷ []) rest) (λ k. part.0 (next.0 k), λ k. next.1 (part.1 k))
 
   pub distinct_run : (P P' : List ℕ → V → Type 0) (run : List ℕ) → Stops P separator → ((rest : List ℕ) × (v : V) × P' rest v) → ((rest : List ℕ) (v : V) → P' rest v ↔ P (run ++ rest) v) →
       (rest : List ℕ) (all : List V) → IsDistinctAfter items P' R separator rest all ↔ IsDistinctAfter items P R separator (run ++ rest) all

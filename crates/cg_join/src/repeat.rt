@@ -1,5 +1,6 @@
 //! One or more of a token, with a byte between.
-ghost use Rattle.std.specs.Prelude.{◌≡◌, ◌+◌, ◌<◌, true, false, IsTrue, vec_len, vec_capacity};
+ghost use Rattle.std.specs.Prelude.{◌≡◌, ◌+◌, ◌≤◌, ◌<◌, true, false, IsTrue, length, take, vec_len, vec_capacity};
+ghost use Rattle.cg_text.specs.Scan.{FollowsRun};
 ghost use Rattle.cg_text.specs.Token.{Spells, told};
 ghost use Rattle.cg_join.specs.Repeat.{AreJoined, IsListAfter, LacksEmpty, Stops, items_size, out_size};
 
@@ -40,6 +41,49 @@ impl<T: Token, S: Start<T>> Repeat<T, S> {
             items: Vec::new(alloc),
             current,
             items_held: 0,
+        }
+    }
+
+    /// Takes the item with which the bytes begin and the separator after it, or nothing, which it may do with any item. Answers
+    /// how many bytes it took.
+    fn take_item(&mut self, bytes: &[u8]) -> usize
+        ensures within { result ≤ length bytes.now }
+        ensures follows { FollowsRun ⟦<Repeat<T, S> as Token>⟧.means self.old (take result bytes.now) self.new }
+        ensures size { ⟦<Repeat<T, S> as Token>⟧.size self.new ≤ ⟦<Repeat<T, S> as Token>⟧.size self.old + result }
+        ensures same_size { result ≡ 0 → ⟦<Repeat<T, S> as Token>⟧.size self.new ≡ ⟦<Repeat<T, S> as Token>⟧.size self.old }
+    {
+        let (value, count) = match self.current.whole(bytes) {
+            Some(found) => found,
+            None => return 0,
+        };
+        if count == bytes.len() || bytes[count] != self.separator {
+            return 0;
+        }
+        if make_room(&mut self.items).is_err() {
+            return 0;
+        }
+        let new_size = T::held_in(&value);
+        put(&mut self.items, value);
+        self.items_held = self.items_held.saturating_add(1).saturating_add(new_size);
+        self.current = self.start.start();
+        count + 1
+    }
+
+    /// Takes items with which the bytes begin, each with the separator after it. Answers how many bytes it took.
+    fn take_items(&mut self, bytes: &[u8]) -> usize
+        ensures within { result ≤ length bytes.now }
+        ensures follows { FollowsRun ⟦<Repeat<T, S> as Token>⟧.means self.old (take result bytes.now) self.new }
+        ensures size { ⟦<Repeat<T, S> as Token>⟧.size self.new ≤ ⟦<Repeat<T, S> as Token>⟧.size self.old + result }
+        ensures same_size { result ≡ 0 → ⟦<Repeat<T, S> as Token>⟧.size self.new ≡ ⟦<Repeat<T, S> as Token>⟧.size self.old }
+    {
+        let mut used = 0;
+        loop {
+            let (_, rest) = bytes.split_at(used);
+            let count = self.take_item(rest);
+            used += count;
+            if count == 0 {
+                return used;
+            }
         }
     }
 }
@@ -91,11 +135,12 @@ impl<T: Token, S: Start<T>> Token for Repeat<T, S> {
     }
 
     fn run(&mut self, bytes: &[u8]) -> usize {
+        let whole = self.take_items(bytes);
+        let (_, rest) = bytes.split_at(whole);
         match make_room(&mut self.items) {
-            Ok(()) => {}
-            Err(_) => return 0,
+            Ok(()) => whole + self.current.run(rest),
+            Err(_) => whole,
         }
-        self.current.run(bytes)
     }
 
     fn allows(&self, byte: u8) -> bool {

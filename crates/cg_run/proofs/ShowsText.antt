@@ -3,54 +3,36 @@ use Rattle.std.proofs.Common.{◌≡◌, ℕ, ◌+◌, ◌<◌, ◌≤◌, Bool,
 use Rattle.std.proofs.lemmas.List.{take_all, take_more}
 use Rattle.std.proofs.Math.Seq.{take-add}
 use Rattle.memchr.specs.Find.{Nowhere, Passes, is_byte}
-use Rattle.cg_value.specs.PathLaws.{lacks_all}
-use Rattle.cg_run.specs.ShownBytes.{is_line_after, shown_bytes}
+use Rattle.cg_run.specs.ShownBytes.{IsPlain, is_line_after, shown_bytes}
 use Rattle.cg_run.specs.ShownText.{Shows}
 use Rattle.cg_run.specs.declared.shown_text.ShownText.{ShownText}
-use Rattle.cg_run.proofs.ShowsBytes.{after-append, lacks_before, line_after, line_shown, path_after, path_shown, shown-append}
+use Rattle.cg_run.proofs.ShowsBytes.{after-append, lacks_before, path_after, path_shown, shown-append}
 
 module _ (was now : ShownText) (bytes : List ℕ) where
-  -- A path came, and its NUL.
-  pub path_ended : (mid : List ℕ) (end : ℕ) → was.in_line ≡ false → now.in_line ≡ true → end < length bytes → get_or bytes end 0 ≡ 0 → Nowhere (Passes (is_byte 0) bytes) 0 end →
-      mid ≡ was.text.items ++ take end bytes → now.text.items ≡ mid ++ 58 ∷ 32 ∷ [] → Shows was now (take (end + 1) bytes)
-  path_ended mid end path line within nul none first then =
-      let plain = lacks_before 0 bytes end none in
-      let whole : take (end + 1) bytes ≡ take end bytes ++ 0 ∷ [] = take_more bytes end 0 within ∙ ap (λ b. take end bytes ++ b ∷ []) nul in
+  -- A path came, and its NUL, behind bytes that are shown as they are.
+  pub path_ended : (path front colon : List ℕ) (place size : ℕ) → path ≡ drop place bytes → IsPlain was.in_line (take place bytes) false →
+      size < length path → get_or path size 0 ≡ 0 → Nowhere (Passes (is_byte 0) path) 0 size → now.in_line ≡ true →
+      front ≡ was.text.items ++ take (place + size) bytes → colon ≡ front ++ 58 ∷ [] → now.text.items ≡ colon ++ 32 ∷ [] → Shows was now (take (place + size + 1) bytes)
+  path_ended path front colon place size behind plain within nul none line first second third =
+      let before = take place bytes in
+      let name = take size path in
+      let old = was.text.items in
+      let ended : take (size + 1) path ≡ name ++ 0 ∷ [] = take_more path size 0 within ∙ ap (λ b. name ++ b ∷ []) nul in
+      let sum : place + size + 1 ≡ place + (size + 1) = omega arith in
+      let whole : take (place + size + 1) bytes ≡ before ++ (name ++ 0 ∷ []) = ap (λ (n : ℕ). take n bytes) sum ∙ take-add place (size + 1) bytes ∙ ap (λ t. before ++ take (size + 1) t) (sym behind) ∙ ap (λ t. before ++ t) ended in
+      let short : take (place + size) bytes ≡ before ++ name = take-add place size bytes ∙ ap (λ t. before ++ take size t) (sym behind) in
+      let lacks = lacks_before 0 path size none in
+      let shown : shown_bytes was.in_line (before ++ (name ++ 0 ∷ [])) ≡ before ++ (name ++ 58 ∷ 32 ∷ []) =
+      shown-append was.in_line before (name ++ 0 ∷ []) ∙ ap (λ t. t ++ shown_bytes (is_line_after was.in_line before) (name ++ 0 ∷ [])) plain.shown
+      ∙ ap (λ (b : Bool). before ++ shown_bytes b (name ++ 0 ∷ [])) plain.ends ∙ ap (λ t. before ++ t) (path_shown name (0 ∷ []) lacks) in
+      let after : is_line_after was.in_line (before ++ (name ++ 0 ∷ [])) ≡ true =
+      after-append was.in_line before (name ++ 0 ∷ []) ∙ ap (λ (b : Bool). is_line_after b (name ++ 0 ∷ [])) plain.ends ∙ path_after name (0 ∷ []) lacks in
+      let came : now.text.items ≡ old ++ (before ++ (name ++ 58 ∷ 32 ∷ [])) =
+      third ∙ ap (λ t. t ++ 32 ∷ []) second ∙ append_assoc front (58 ∷ []) (32 ∷ []) ∙ ap (λ t. t ++ 58 ∷ 32 ∷ []) first ∙ append_assoc old (take (place + size) bytes) (58 ∷ 32 ∷ [])
+      ∙ ap (λ t. old ++ (t ++ 58 ∷ 32 ∷ [])) short ∙ ap (λ t. old ++ t) (append_assoc before name (58 ∷ 32 ∷ [])) in
       record {
-        text = then ∙ ap (λ t. t ++ 58 ∷ 32 ∷ []) first ∙ append_assoc was.text.items (take end bytes) (58 ∷ 32 ∷ [])
-            ∙ ap (λ t. was.text.items ++ t) (sym (rw (path, whole) (path_shown (take end bytes) (0 ∷ []) plain)));
-        in_line = line ∙ sym (rw (path, whole) (path_after (take end bytes) (0 ∷ []) plain));
-      }
-
-  -- No NUL came.
-  pub path_goes : was.in_line ≡ false → now.in_line ≡ was.in_line → Nowhere (Passes (is_byte 0) bytes) 0 (length bytes) → now.text.items ≡ was.text.items ++ bytes → Shows was now (take (length bytes) bytes)
-  path_goes path same none taken =
-      let plain = lacks_all 0 bytes none in
-      let all : take (length bytes) bytes ≡ bytes ++ [] = take_all (length bytes) bytes (omega arith) ∙ sym (append-nil bytes) in
-      record {
-        text = taken ∙ ap (λ t. was.text.items ++ t) (sym (rw (path, all) (path_shown bytes [] plain ∙ append-nil bytes)));
-        in_line = same ∙ path ∙ sym (rw (path, all) (path_after bytes [] plain));
-      }
-
-  -- A line came, and its newline.
-  pub line_ended : (end : ℕ) → was.in_line ≡ true → now.in_line ≡ false → end < length bytes → get_or bytes end 0 ≡ 10 → Nowhere (Passes (is_byte 10) bytes) 0 end →
-      now.text.items ≡ was.text.items ++ take (end + 1) bytes → Shows was now (take (end + 1) bytes)
-  line_ended end line path within newline none taken =
-      let plain = lacks_before 10 bytes end none in
-      let whole : take (end + 1) bytes ≡ take end bytes ++ 10 ∷ [] = take_more bytes end 0 within ∙ ap (λ b. take end bytes ++ b ∷ []) newline in
-      record {
-        text = taken ∙ ap (λ t. was.text.items ++ t) (sym (rw (line, whole) (line_shown (take end bytes) (10 ∷ []) plain)));
-        in_line = path ∙ sym (rw (line, whole) (line_after (take end bytes) (10 ∷ []) plain));
-      }
-
-  -- No newline came.
-  pub line_goes : was.in_line ≡ true → now.in_line ≡ was.in_line → Nowhere (Passes (is_byte 10) bytes) 0 (length bytes) → now.text.items ≡ was.text.items ++ bytes → Shows was now (take (length bytes) bytes)
-  line_goes line same none taken =
-      let plain = lacks_all 10 bytes none in
-      let all : take (length bytes) bytes ≡ bytes ++ [] = take_all (length bytes) bytes (omega arith) ∙ sym (append-nil bytes) in
-      record {
-        text = taken ∙ ap (λ t. was.text.items ++ t) (sym (rw (line, all) (line_shown bytes [] plain ∙ append-nil bytes)));
-        in_line = same ∙ line ∙ sym (rw (line, all) (line_after bytes [] plain));
+        text = came ∙ ap (λ t. old ++ t) (sym (ap (λ t. shown_bytes was.in_line t) whole ∙ shown));
+        in_line = line ∙ sym (ap (λ t. is_line_after was.in_line t) whole ∙ after);
       }
 
 -- Nothing came.

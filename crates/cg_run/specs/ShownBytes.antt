@@ -21,6 +21,11 @@ abbrev pub shown_bytes : Bool → List ℕ → List ℕ
 shown_bytes in_line [] = []
 shown_bytes in_line (byte ∷ bytes) = shown_byte in_line byte ++ shown_bytes (is_line_next in_line byte) bytes
 
+-- The bytes are shown as they are. Behind them a line is begun or not.
+pub record IsPlain (in_line : Bool) (bytes : List ℕ) (after : Bool) : Type 0 where
+  pub shown : shown_bytes in_line bytes ≡ bytes
+  pub ends : is_line_after in_line bytes ≡ after
+
 -- The text is cut after its last newline.
 pub record IsCut (text lines rest : List ℕ) : Type 0 where
   pub whole : text ≡ lines ++ rest

@@ -1,6 +1,6 @@
 //! The text of an entry, as it is shown, made of the bytes of its records.
-ghost use Rattle.std.specs.Prelude.{◌≡◌, ◌≤◌, ◌<◌, ◌++◌, length, take, [], false, true, IfOk, MatchResult};
-ghost use Rattle.cg_run.specs.ShownBytes.{IsCut, is_line_after, shown_bytes};
+ghost use Rattle.std.specs.Prelude.{◌≡◌, ◌≤◌, ◌<◌, ◌++◌, length, take, drop, [], false, IfOk, MatchOption, MatchResult};
+ghost use Rattle.cg_run.specs.ShownBytes.{IsCut, IsPlain, is_line_after, shown_bytes};
 
 use cg_text::OutOfMemory;
 use memchr::{memchr, memrchr};
@@ -10,6 +10,9 @@ use std::mem;
 /// A record mostly has this many bytes or more. Each is shown with a byte more.
 const RECORD: usize = 8;
 
+/// For how many bytes an entry's text has room before more of them come.
+const ROOM: usize = 1024;
+
 /// What came of a snapshot since its last entry, as it is shown: of each record the NUL after the path as a colon and a space,
 /// and the other bytes as they are.
 #[derive(Drop)]
@@ -17,6 +20,20 @@ pub(crate) struct ShownText {
     pub(crate) text: Vec<u8>,
     /// Whether a line is begun, and no path.
     pub(crate) in_line: bool,
+}
+
+/// Where a path begins in the bytes: at once, or where a line is begun behind its newline.
+fn path_place(in_line: bool, bytes: &[u8]) -> Option<usize>
+    ensures { MatchOption result (IsPlain in_line bytes.now in_line) (λ place. (place ≤ length bytes.now) × IsPlain in_line (take place bytes.now) false) }
+{
+    if in_line {
+        match memchr(b'\n', bytes) {
+            Some(end) => Some(end + 1),
+            None => None,
+        }
+    } else {
+        Some(0)
+    }
 }
 
 impl ShownText {
@@ -33,56 +50,48 @@ impl ShownText {
         }
     }
 
-    /// Takes what the bytes begin with of a path, with its NUL where that comes, and answers how many bytes it took.
-    fn take_path(&mut self, bytes: &[u8]) -> Result<usize, OutOfMemory>
+    /// Takes all of the bytes as they are, and answers how many they are. Behind them a line is begun or not.
+    fn take_plain(&mut self, bytes: &[u8], in_line: bool) -> Result<usize, OutOfMemory>
         requires some { 0 < length bytes.now }
-        requires in_path { self.old.in_line ≡ false }
+        requires plain { IsPlain self.old.in_line bytes.now in_line }
         ensures { IfOk result (λ used. (0 < used) × (used ≤ length bytes.now) × Shows self.old self.new (take used bytes.now)) }
     {
-        match memchr(0, bytes) {
-            Some(end) => {
-                let (path, _) = bytes.split_at(end);
-                self.text.extend_from_slice(path)?;
-                self.text.extend_from_slice(b": ")?;
+        self.text.extend_from_slice(bytes)?;
+        self.in_line = in_line;
+        Ok(bytes.len())
+    }
+
+    /// Takes what the bytes begin with up to the NUL of the path that begins at this place, or all where none comes. Answers
+    /// how many it took.
+    fn take_path(&mut self, bytes: &[u8], place: usize) -> Result<usize, OutOfMemory>
+        requires some { 0 < length bytes.now }
+        requires within { place ≤ length bytes.now }
+        requires plain { IsPlain self.old.in_line (take place bytes.now) false }
+        ensures { IfOk result (λ used. (0 < used) × (used ≤ length bytes.now) × Shows self.old self.new (take used bytes.now)) }
+    {
+        let (_, path) = bytes.split_at(place);
+        match memchr(0, path) {
+            Some(size) => {
+                let end = place + size;
+                let (front, _) = bytes.split_at(end);
+                self.text.extend_from_slice(front)?;
+                self.text.push(b':')?;
+                self.text.push(b' ')?;
                 self.in_line = true;
                 Ok(end + 1)
             }
-            None => {
-                self.text.extend_from_slice(bytes)?;
-                Ok(bytes.len())
-            }
+            None => self.take_plain(bytes, false),
         }
     }
 
-    /// Takes what the bytes begin with of a line, with its newline where that comes, and answers how many bytes it took.
-    fn take_line(&mut self, bytes: &[u8]) -> Result<usize, OutOfMemory>
-        requires some { 0 < length bytes.now }
-        requires in_line { self.old.in_line ≡ true }
-        ensures { IfOk result (λ used. (0 < used) × (used ≤ length bytes.now) × Shows self.old self.new (take used bytes.now)) }
-    {
-        match memchr(b'\n', bytes) {
-            Some(end) => {
-                let (line, _) = bytes.split_at(end + 1);
-                self.text.extend_from_slice(line)?;
-                self.in_line = false;
-                Ok(end + 1)
-            }
-            None => {
-                self.text.extend_from_slice(bytes)?;
-                Ok(bytes.len())
-            }
-        }
-    }
-
-    /// Takes some of the bytes: what comes of a path or of a line. Answers how many it took.
+    /// Takes some of the bytes: what comes of a line, and of the path behind it. Answers how many it took.
     fn take_some(&mut self, bytes: &[u8]) -> Result<usize, OutOfMemory>
         requires { 0 < length bytes.now }
         ensures { IfOk result (λ used. (0 < used) × (used ≤ length bytes.now) × Shows self.old self.new (take used bytes.now)) }
     {
-        if self.in_line {
-            self.take_line(bytes)
-        } else {
-            self.take_path(bytes)
+        match path_place(self.in_line, bytes) {
+            Some(place) => self.take_path(bytes, place),
+            None => self.take_plain(bytes, self.in_line),
         }
     }
 
@@ -115,12 +124,34 @@ impl ShownText {
         Ok(mem::replace(&mut self.text, rest))
     }
 
+    /// Takes the bytes up to this place, and gives the text so far. What comes of the other bytes is kept.
+    fn take_both(&mut self, bytes: &[u8], end: usize) -> Result<Vec<u8>, OutOfMemory>
+        requires { end ≤ length bytes.now }
+        ensures { IfOk result (λ front. (front.items ≡ self.old.text.items ++ shown_bytes self.old.in_line (take end bytes.now))
+            × (self.new.text.items ≡ shown_bytes (is_line_after self.old.in_line (take end bytes.now)) (drop end bytes.now))
+            × (self.new.in_line ≡ is_line_after self.old.in_line bytes.now)) }
+    {
+        let (front, rest) = bytes.split_at(end);
+        self.take(front)?;
+        let mut next = ShownText {
+            text: Vec::with_capacity(*self.text.allocator(), ROOM)?,
+            in_line: self.in_line,
+        };
+        next.take(rest)?;
+        Ok(mem::replace(self, next).text)
+    }
+
     /// Takes the last bytes of an entry, and behind them those of the next record, and gives the entry's lines.
     pub(crate) fn take_last(&mut self, bytes: &[u8]) -> Result<Vec<u8>, OutOfMemory>
         ensures { IfOk result (λ lines. IsCut (self.old.text.items ++ shown_bytes self.old.in_line bytes.now) lines.items self.new.text.items
             × (self.new.in_line ≡ is_line_after self.old.in_line bytes.now)) }
     {
-        self.take(bytes)?;
-        self.cut()
+        match memrchr(b'\n', bytes) {
+            Some(place) => self.take_both(bytes, place + 1),
+            None => {
+                self.take(bytes)?;
+                self.cut()
+            }
+        }
     }
 }

@@ -1,13 +1,13 @@
 -- The present entry ends.
-use Rattle.std.proofs.Common.{◌≡◌, ℕ, Some, List, refl, sym, subst}
+use Rattle.std.proofs.Common.{◌≡◌, ℕ, Some, List, length, refl, sym, subst, ◌∙◌}
+use Rattle.std.proofs.lemmas.List.{nil_from_length}
 use Rattle.cg_value.specs.Entry.{EntryData, ReadsAt}
-use Rattle.cg_value.specs.EntryRefusal.{IsEntryFault}
 use Rattle.cg_value.specs.Files.{KindFile, KindText, ReadLines}
 use Rattle.cg_value.specs.Lines.{unlines}
-use Rattle.cg_value.specs.declared.entry.EntryFault.{EntryFault}
+use Rattle.cg_value.specs.Print.{print_lines}
 use Rattle.cg_value.specs.declared.profile.Profile.{Profile}
 use Rattle.cg_value.specs.declared.value.Value.{Value}
-use Rattle.cg_line.specs.MadeLaws.{no_fault}
+use Rattle.cg_line.specs.MadeLaws.{printed_some}
 use Rattle.cg_line.specs.SplitLaws.{lines_spell}
 use Rattle.cg_snap.specs.DecoderState.{AtPath}
 use Rattle.cg_snap.specs.Snap.{AreEntryLines}
@@ -26,8 +26,8 @@ module _ (profile : Profile) (begun : List ℕ) (x : Present) (p : List ℕ) (es
     },
   )
 
-  pub never_refused : (why : EntryFault) (v : Value) → IsEntryFault profile x.path.items v why → KindText h.kind v (unlines h.lines) → ⊥
-  never_refused why v f t = no_fault profile x.path.items h.kind v h.lines why h.good h.reads_at h.some (lines_spell h.kind v h.lines h.plain t) f
+  pub never_empty : (v : Value) (count : ℕ) → count ≡ length (print_lines v) → count ≡ 0 → KindText h.kind v (unlines h.lines) → ⊥
+  never_empty v count counts none t = printed_some profile x.path.items h.kind v h.lines h.reads_at h.some (lines_spell h.kind v h.lines h.plain t) (nil_from_length (print_lines v) (sym counts ∙ none))
 
   pub never_cut : (KindFile h.kind (unlines h.lines) → ⊥) → ⊥
   never_cut n = let v = path_ends profile begun x p es h in n (v.0, record { lines = h.lines; spelled = v.1; text_is = refl })

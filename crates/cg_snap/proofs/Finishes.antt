@@ -9,7 +9,8 @@ use Rattle.cg_value.specs.Entry.{EntryData, IsPath}
 use Rattle.cg_value.specs.PathLaws.{path_lacks_nul}
 use Rattle.cg_value.specs.Records.{records}
 use Rattle.cg_value.specs.declared.profile.Profile.{Profile}
-use Rattle.cg_snap.specs.DecoderState.{ArePathBytes, At, AtLine, AtPath, AtStart}
+use Rattle.cg_snap.specs.DecoderState.{At, AtLine, AtPath, AtStart}
+use Rattle.cg_snap.specs.PathBytes.{ArePathBytes}
 use Rattle.cg_snap.specs.Snap.{AreEntryLines, Snap, SnapText, StartsOther}
 use Rattle.cg_snap.specs.SnapLaws.{cut, not_of, record_then}
 use Rattle.cg_snap.specs.declared.present.Present.{Present}

@@ -1,5 +1,5 @@
 -- The head of one more record of the present entry, taken at once.
-use Rattle.std.proofs.Common.{◌≡◌, ℕ, suc, ◌+◌, ◌<◌, ◌≤◌, get_or, List, [], ◌∷◌, ◌++◌, take, length, All, refl, sym, ap, subst, ◌∙◌, append_assoc, arith, Some, true, false}
+use Rattle.std.proofs.Common.{◌≡◌, ℕ, suc, ◌+◌, ◌<◌, ◌≤◌, get_or, List, [], ◌∷◌, ◌++◌, take, length, All, refl, sym, ap, subst, ◌∙◌, append_assoc, arith, Some, false}
 use Rattle.std.proofs.lemmas.List.{append-nil, length-append, take-append-le, take_all}
 use Rattle.cg_text.specs.Texts.{Lacks}
 use Rattle.cg_text.specs.TextsLaws.{lacks_both}
@@ -10,13 +10,14 @@ use Rattle.cg_value.specs.declared.profile.Profile.{Profile}
 use Rattle.cg_line.specs.Place.{TakesLine}
 use Rattle.cg_line.specs.Reads.{Reads}
 use Rattle.cg_snap.specs.Course.{AreFew}
-use Rattle.cg_snap.specs.DecoderState.{ArePathBytes, At, AtLine, AtPath}
+use Rattle.cg_snap.specs.DecoderState.{At, AtLine, AtPath}
+use Rattle.cg_snap.specs.PathBytes.{ArePathBytes}
 use Rattle.cg_snap.specs.HeadState.{Repeats}
 use Rattle.cg_snap.specs.SnapStop.{IsManyRecords}
 use Rattle.cg_snap.specs.declared.present.Present.{Present}
 use Rattle.cg_snap.proofs.Nuls.{full_is}
 use Rattle.cg_snap.proofs.Runs.{run_few}
-use Rattle.cg_snap.proofs.States.{at_false, at_true, takes_more}
+use Rattle.cg_snap.proofs.States.{at_false, takes_more}
 use Rattle.cg_snap.proofs.Steps.{bytes_no_newline, path_run, same_path}
 
 -- ---- Lists
@@ -56,14 +57,14 @@ module _ (profile : Profile) (x : Present) (p : List ℕ) (es : List EntryData) 
   pub head_plain : Lacks 10 (x.path.items ++ 0 ∷ [])
   head_plain = lacks_both 10 x.path.items (0 ∷ []) (bytes_no_newline x.path.items head_bytes) ((λ e. absurd (omega (arith, e))), tt)
 
-  pub head_taken : (begun : List ℕ) (y : Present) (piece : List ℕ) (room max : ℕ) → begun ≡ [] →
-      y.path.items ≡ x.path.items → y.lines ≡ x.lines → y.reader ≡ x.reader → y.in_line ≡ true → Repeats x piece room max →
-      At profile begun (Some y) (p ++ (x.path.items ++ 0 ∷ [])) es
-  head_taken begun y piece room max n e c r i t =
+  pub head_taken : (begun : List ℕ) (y : Present) (piece : List ℕ) (count room max : ℕ) → begun ≡ [] →
+      y.path.items ≡ x.path.items → y.lines ≡ x.lines → y.reader ≡ x.reader → Repeats x piece room max →
+      count ≡ length x.path.items + 1 → AtLine profile begun y (p ++ take count piece) es
+  head_taken begun y piece count room max n e c r t m =
       let a = after_path in
       let line = same_path profile x.path.items begun x y (p ++ x.path.items) es 0 a refl n refl e c r (takes_more a.kind a.lines (t.takes a.kind (unlines a.lines) a.reads)) in
-      subst (λ (t : List ℕ). At profile begun (Some y) t es) (append_assoc p x.path.items (0 ∷ []))
-      (at_true (AtLine profile begun y ((p ++ x.path.items) ++ 0 ∷ []) es) (AtPath profile begun y ((p ++ x.path.items) ++ 0 ∷ []) es) y.in_line i line)
+      let whole : p ++ take count piece ≡ (p ++ x.path.items) ++ 0 ∷ [] = ap (λ (q : List ℕ). p ++ q) (head_is x.path.items t.rest piece count t.begins m) ∙ sym (append_assoc p x.path.items (0 ∷ [])) in
+      subst (λ (q : List ℕ). AtLine profile begun y q es) (sym whole) line
 
   pub head_few : (piece : List ℕ) (room max : ℕ) → max ≤ 18446744073709551615 → x.in_line ≡ false → Repeats x piece room max →
       AreFew (IsManyRecords profile max) p (x.path.items ++ 0 ∷ [])

@@ -5,6 +5,7 @@ pub mod Closes
 pub mod States
 pub mod Allowed
 pub mod Ends
+pub mod Sounds
 pub mod Begins
 pub mod Stops
 pub mod Courses
@@ -20,3 +21,4 @@ pub mod Taken
 pub mod Wholes
 pub mod FirstWrite
 pub mod PlanStates
+pub mod PlanFronts

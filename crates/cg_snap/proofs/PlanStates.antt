@@ -22,7 +22,7 @@ use Rattle.cg_file.specs.WeightFileLaws.{not_empty}
 use Rattle.cg_line.specs.Takes.{Takes, takes_viable}
 use Rattle.cg_snap.specs.Begun.{IsBegun}
 use Rattle.cg_snap.specs.Course.{AreFew, DidStep, RefusedBy}
-use Rattle.cg_snap.specs.DecoderState.{ArePathBytes}
+use Rattle.cg_snap.specs.PathBytes.{ArePathBytes}
 use Rattle.cg_snap.specs.Plan.{ClosedPlan, IsItemLine, Plan, PlanText}
 use Rattle.cg_snap.specs.PlanLaws.{item_line_plain, one_write_form, plan_ends, written_plain}
 use Rattle.cg_snap.specs.PlanState.{AtItemLine, AtItemPath, AtItems, DidItem, HasTakenItems, IsOfWriteKind}

@@ -13,7 +13,8 @@ use Rattle.cg_value.specs.declared.kind.ReadForm.{ReadForm}
 use Rattle.cg_value.specs.declared.profile.Profile.{Profile}
 use Rattle.cg_value.specs.declared.value.Value.{Value}
 use Rattle.cg_file.specs.WeightFileLaws.{not_empty}
-use Rattle.cg_snap.specs.DecoderState.{ArePathBytes, AtLine, AtPath, AtStart, CanEndLine}
+use Rattle.cg_snap.specs.DecoderState.{AtLine, AtPath, AtStart, CanEndLine}
+use Rattle.cg_snap.specs.PathBytes.{ArePathBytes}
 use Rattle.cg_snap.specs.Snap.{Snap, SnapText, StartsOther}
 use Rattle.cg_snap.specs.SnapLaws.{cut, entry_starts, not_of, record_then}
 use Rattle.cg_snap.specs.declared.present.Present.{Present}

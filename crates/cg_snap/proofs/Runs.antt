@@ -9,7 +9,8 @@ use Rattle.cg_value.specs.Entry.{EntryData}
 use Rattle.cg_value.specs.declared.profile.Profile.{Profile}
 use Rattle.cg_snap.specs.Begun.{IsBegun}
 use Rattle.cg_snap.specs.ClosedLaws.{begun_once}
-use Rattle.cg_snap.specs.DecoderState.{ArePathBytes, At, AtLine, AtPath, IsInLine, IsRun}
+use Rattle.cg_snap.specs.DecoderState.{At, AtLine, AtPath, IsInLine, IsRun}
+use Rattle.cg_snap.specs.PathBytes.{ArePathBytes}
 use Rattle.cg_snap.specs.declared.present.Present.{Present}
 use Rattle.cg_snap.specs.Course.{AreFew}
 use Rattle.cg_snap.specs.SnapStop.{IsManyRecords}

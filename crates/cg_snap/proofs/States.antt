@@ -16,7 +16,8 @@ use Rattle.cg_line.specs.Place.{AtLineStart, TakesLine}
 use Rattle.cg_line.specs.Reads.{Reads}
 use Rattle.cg_snap.specs.Closed.{Closed}
 use Rattle.cg_snap.specs.Begun.{IsBegun}
-use Rattle.cg_snap.specs.DecoderState.{ArePathBytes, AtLine, AtPath, AtPaths, AtStart, At, CanEndLine, IsBetween, IsLineFlag, IsOfKind, IsWhyAfter}
+use Rattle.cg_snap.specs.DecoderState.{AtLine, AtPath, AtPaths, AtStart, At, CanEndLine, IsBetween, IsLineFlag, IsOfKind, IsWhyAfter}
+use Rattle.cg_snap.specs.PathBytes.{ArePathBytes}
 use Rattle.cg_snap.specs.Snap.{Snap}
 use Rattle.cg_snap.specs.SnapStop.{IsNameless}
 use Rattle.cg_snap.specs.declared.present.Present.{Present}

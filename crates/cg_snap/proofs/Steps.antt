@@ -27,7 +27,8 @@ use Rattle.cg_line.specs.MadeLaws.{printed_some}
 use Rattle.cg_line.specs.Reads.{Reads, reads_viable}
 use Rattle.cg_line.specs.SplitLaws.{lines_spell}
 use Rattle.cg_snap.specs.Closed.{EndsOther}
-use Rattle.cg_snap.specs.DecoderState.{ArePathBytes, AtLine, AtPath, AtStart, CanEndLine}
+use Rattle.cg_snap.specs.DecoderState.{AtLine, AtPath, AtStart, CanEndLine}
+use Rattle.cg_snap.specs.PathBytes.{ArePathBytes}
 use Rattle.cg_snap.specs.Snap.{AreEntryLines, Snap, SnapText}
 use Rattle.cg_snap.specs.declared.present.Present.{Present}
 use Rattle.cg_snap.proofs.Joins.{ends_push, lines_first, push_at, records-append, snap_append, unlines-push}

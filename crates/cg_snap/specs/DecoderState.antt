@@ -4,7 +4,7 @@ use Rattle.std.specs.Bool.{MatchBool}
 use Rattle.std.specs.List.{AllByRecursion}
 use Rattle.cg_text.specs.Texts.{Lacks, Next, Viable}
 use Rattle.cg_text.specs.Token.{told}
-use Rattle.cg_value.specs.Entry.{EntryData, IsPath, IsPathByte, ReadsAt}
+use Rattle.cg_value.specs.Entry.{EntryData, IsPath, ReadsAt}
 use Rattle.cg_value.specs.Files.{KindFile}
 use Rattle.cg_value.specs.Lines.{unlines}
 use Rattle.cg_value.specs.Records.{records}
@@ -13,6 +13,7 @@ use Rattle.cg_value.specs.declared.profile.Profile.{Profile}
 use Rattle.cg_line.specs.Reads.{Reads}
 use Rattle.cg_snap.specs.Closed.{Closed, EndsOther}
 use Rattle.cg_snap.specs.Course.{BreaksAfter, RefusedBy}
+use Rattle.cg_snap.specs.PathBytes.{ArePathBytes}
 use Rattle.cg_snap.specs.Snap.{Snap, SnapText}
 use Rattle.cg_snap.specs.SnapStop.{IsNameless, IsRecordWhy}
 use Rattle.cg_snap.specs.declared.class.PathClass.{PathClass}
@@ -32,10 +33,6 @@ abbrev pub IsClass : Profile → List ℕ → PathClass → Type 0
 IsClass profile path NoName = IsNameless path
 IsClass profile path NotReadable = (IsNameless path → ⊥) × ReadsAt profile path None
 IsClass profile path (Readable kind) = IsOfKind profile path kind
-
--- The front of a path.
-abbrev pub ArePathBytes : List ℕ → Type 0
-ArePathBytes bytes = AllByRecursion IsPathByte bytes
 
 -- The line that is begun can be ended so that a file of the kind goes on.
 abbrev pub CanEndLine : ReadForm → List (List ℕ) → List ℕ → Type 0

@@ -10,8 +10,10 @@ pub mod EncodeLaws
 pub mod HeadState
 pub mod Laws
 pub mod Meter
+pub mod PathBytes
 pub mod Plan
 pub mod PlanDecoder
+pub mod PlanFront
 pub mod PlanLaws
 pub mod PlanState
 pub mod PlanStop
@@ -22,5 +24,6 @@ pub mod Rows
 pub mod Snap
 pub mod SnapLaws
 pub mod SnapStop
+pub mod Sound
 pub mod Stop
 pub mod StreamStop

@@ -6,7 +6,7 @@ use Rattle.cg_value.specs.declared.kind.WriteForm.{WriteForm}
 use Rattle.cg_value.specs.declared.profile.Profile.{Profile}
 use Rattle.cg_line.specs.Takes.{Takes}
 use Rattle.cg_snap.specs.Course.{RefusedBy}
-use Rattle.cg_snap.specs.DecoderState.{ArePathBytes}
+use Rattle.cg_snap.specs.PathBytes.{ArePathBytes}
 use Rattle.cg_snap.specs.Plan.{ClosedPlan, Plan, PlanText}
 use Rattle.cg_snap.specs.PlanStop.{IsItemWhy}
 use Rattle.cg_snap.specs.SnapStop.{IsNameless}

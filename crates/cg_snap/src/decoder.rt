@@ -10,9 +10,9 @@ ghost use Rattle.cg_snap.specs.DecoderState.{HasTakenRecords};
 ghost use Rattle.cg_snap.specs.Decoder.{FinishIs};
 
 use crate::course::{Moved, allowed, pull};
+use crate::entry_step::ended;
 use crate::limits::Limits;
 use crate::meter::Meter;
-use crate::present::ended;
 use crate::snapshot_records::SnapshotRecords;
 use crate::stop::Stop;
 use cg_text::ByteSet;
@@ -159,7 +159,7 @@ pub(crate) fn finish_at(records: SnapshotRecords, at: u64) -> Result<Option<Entr
 {
     let SnapshotRecords {
         alloc: _,
-        profile,
+        profile: _,
         begun,
         present,
     } = records;
@@ -172,7 +172,7 @@ pub(crate) fn finish_at(records: SnapshotRecords, at: u64) -> Result<Option<Entr
             if x.in_line {
                 return Err(Stop::Cut { at });
             }
-            match ended(profile, x) {
+            match ended(x) {
                 Some(entry) => Ok(Some(entry)),
                 None => Err(Stop::Cut { at }),
             }

@@ -12,6 +12,7 @@ ghost use Rattle.cg_snap.specs.PlanState.{HasTakenItems};
 use crate::course::{Moved, allowed, pull};
 use crate::limits::Limits;
 use crate::meter::Meter;
+use crate::plan_front::item_in_front;
 use crate::plan_records::PlanRecords;
 use crate::stop::Stop;
 use cg_text::ByteSet;
@@ -79,6 +80,13 @@ impl PlanDecoder {
             return PlanPulled {
                 used: 0,
                 what: PlanWhat::Stopped(stop),
+            };
+        }
+        if let Some((item, used)) = item_in_front(&self.records, piece, self.meter.room()) {
+            self.meter.count_line(used);
+            return PlanPulled {
+                used,
+                what: PlanWhat::Item(item),
             };
         }
         let progress = pull(&mut self.records, &mut self.meter, piece);

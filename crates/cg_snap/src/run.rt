@@ -5,13 +5,14 @@ ghost use Rattle.cg_text.specs.Texts.{Lacks};
 ghost use Rattle.cg_line.specs.Runs.{IsLineFront};
 ghost use Rattle.cg_value.specs.Entry.{EntryData};
 ghost use Rattle.cg_value.specs.declared.profile.Profile.{Profile};
-ghost use Rattle.cg_snap.specs.DecoderState.{ArePathBytes, At, IsInLine, IsRun};
+ghost use Rattle.cg_snap.specs.DecoderState.{At, IsInLine, IsRun};
+ghost use Rattle.cg_snap.specs.PathBytes.{ArePathBytes};
 
 use crate::present::Present;
 use memchr::memchr;
 
 /// So many of the bytes as there is room for.
-fn at_most(run: usize, room: u64) -> usize
+pub(crate) fn at_most(run: usize, room: u64) -> usize
     ensures run { result ≤ run }
     ensures room { result ≤ room }
 {
@@ -133,6 +134,8 @@ pub(crate) fn take_run(
     piece: &[u8],
     room: u64,
 ) -> usize
+    requires { ArePathBytes begun.old.items }
+    ensures path { ArePathBytes begun.new.items }
     ensures taken { (profile : Profile) (p : List ℕ) (es : List EntryData) → At profile begun.old.items present.old p es → At profile begun.new.items present.new (p ++ take result piece.now) es }
     ensures within { result ≤ length piece.now }
     ensures room { result ≤ room }

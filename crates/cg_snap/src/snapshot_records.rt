@@ -1,8 +1,10 @@
 //! The records of a snapshot.
 ghost use Rattle.std.specs.Prelude.{◌≡◌, []};
+ghost use Rattle.cg_snap.specs.PathBytes.{ArePathBytes, path_bytes_prop};
 
+use crate::entry_step::{is_full, step};
 use crate::head::take_head;
-use crate::present::{Present, is_full, step};
+use crate::present::Present;
 use crate::records::{Records, Stepped};
 use crate::refusal::refusal;
 use crate::run::{take_run, take_whole_line};
@@ -18,6 +20,7 @@ pub(crate) struct SnapshotRecords {
     pub(crate) profile: Profile,
     pub(crate) begun: Vec<u8>,
     pub(crate) present: Option<Present>,
+    ghost path: { ArePathBytes begun.items } by { path_bytes_prop begun.items },
 }
 
 impl SnapshotRecords {

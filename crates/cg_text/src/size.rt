@@ -115,6 +115,16 @@ impl Token for SizeText {
         }
     }
 
+    fn whole(&self, bytes: &[u8]) -> Option<(u64, usize)> {
+        let mut token = *self;
+        let count = token.run(bytes);
+        if token.can_end() {
+            Some((token.take(), count))
+        } else {
+            None
+        }
+    }
+
     fn allows(&self, byte: u8) -> bool {
         match after(self.taken, byte) {
             Some(_) => true,

@@ -96,8 +96,11 @@ impl Token for WordText {
     }
 
     fn whole(&self, bytes: &[u8]) -> Option<(Key, usize)> {
-        // Where something was taken, or a sign may come first, the bytes go by `step`.
-        if self.controller || !self.bytes.is_empty() {
+        // Where something was taken, the bytes go by `step`.
+        if !self.bytes.is_empty()
+            || bytes.is_empty()
+            || !may_stand(self.controller, true, bytes[0])
+        {
             return None;
         }
         let count = count_word_bytes(bytes);

@@ -90,6 +90,15 @@ impl Entry {
         }
     }
 
+    /// The entry of a path and a value of which it's known that they make one. It takes no memory.
+    pub fn known(path: Vec<u8>, value: Value) -> Entry
+        requires { IsSomeEntry path.items value }
+        ensures path { result.path ≡ path.items }
+        ensures value { result.value ≡ value }
+    {
+        Entry { path, value }
+    }
+
     /// The path.
     pub fn path(&self) -> &[u8]
         ensures path { result.now ≡ self.now.path }

@@ -80,6 +80,15 @@ impl PlanItem {
         }
     }
 
+    /// The item of a path and a setting of which it's known that they make one. It takes no memory.
+    pub fn known(path: Vec<u8>, setting: Setting) -> PlanItem
+        requires { IsSomeItem path.items setting }
+        ensures path { result.path ≡ path.items }
+        ensures setting { result.setting ≡ setting }
+    {
+        PlanItem { path, setting }
+    }
+
     /// The path.
     pub fn path(&self) -> &[u8]
         ensures path { result.now ≡ self.now.path }

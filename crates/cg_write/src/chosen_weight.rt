@@ -86,6 +86,10 @@ impl Token for ChosenText {
         self.parts.run(bytes)
     }
 
+    fn whole(&self, bytes: &[u8]) -> Option<(Option<u64>, usize)> {
+        self.parts.whole(bytes)
+    }
+
     fn allows(&self, byte: u8) -> bool {
         self.parts.allows(byte)
     }

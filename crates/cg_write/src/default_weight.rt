@@ -88,6 +88,10 @@ impl Token for DefaultText {
         self.parts.run(bytes)
     }
 
+    fn whole(&self, bytes: &[u8]) -> Option<(u64, usize)> {
+        self.parts.whole(bytes)
+    }
+
     fn allows(&self, byte: u8) -> bool {
         self.parts.allows(byte)
     }

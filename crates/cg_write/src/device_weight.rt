@@ -73,6 +73,10 @@ impl Token for AnyWeightText {
         self.parts.run(bytes)
     }
 
+    fn whole(&self, bytes: &[u8]) -> Option<(Either<u64, (Device, ((), Option<u64>))>, usize)> {
+        self.parts.whole(bytes)
+    }
+
     fn allows(&self, byte: u8) -> bool {
         self.parts.allows(byte)
     }
@@ -171,6 +175,10 @@ impl Token for DeviceWeightWrite {
 
     fn run(&mut self, bytes: &[u8]) -> usize {
         self.text.run(bytes)
+    }
+
+    fn whole(&self, bytes: &[u8]) -> Option<(Setting, usize)> {
+        self.text.whole(bytes)
     }
 
     fn allows(&self, byte: u8) -> bool {

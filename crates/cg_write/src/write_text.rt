@@ -1,5 +1,5 @@
 //! The text of a write of any kind (cgroup-v2.rst, "Interface Files").
-ghost use Rattle.std.specs.Prelude.{◌≡◌, ◌+◌, ◌≤◌, length, take, true};
+ghost use Rattle.std.specs.Prelude.{◌≡◌, ◌+◌, ◌≤◌, length, take, true, IfSome};
 ghost use Rattle.cg_text.specs.Scan.{FollowsRun};
 ghost use Rattle.cg_text.specs.Texts.{Lacks};
 ghost use Rattle.cg_text.specs.Token.{Spells};
@@ -22,7 +22,7 @@ use crate::set::SetWrite;
 use crate::signed::SignedWrite;
 use crate::size_limit::SizeLimitWrite;
 use crate::trigger::TriggerWrite;
-use cg_join::run_line;
+use cg_join::{run_line, run_parts};
 use cg_text::{OutOfMemory, Token};
 use cg_value::{Setting, WriteForm, WriteKind};
 use std::alloc::Global;
@@ -90,6 +90,47 @@ fn text_of(alloc: Global, form: WriteForm) -> WriteText
     }
 }
 
+/// The value of the token whose whole text the bytes are; none where they aren't one, or where memory is refused.
+fn value_of<T: Token>(token: T, text: &[u8]) -> Option<T::Out>
+    ensures { IfSome result (λ v. T.means token text.now v) }
+{
+    match token.whole(text) {
+        Some((value, used)) if used == text.len() => return Some(value),
+        _ => {}
+    }
+    let mut token = token;
+    if run_parts(&mut token, text) == text.len() && token.can_end() {
+        Some(token.take())
+    } else {
+        None
+    }
+}
+
+/// The setting of a write of one of the kinds whose whole text the bytes are, as far as it's found.
+fn setting_of(alloc: Global, form: WriteForm, text: &[u8]) -> Option<Setting>
+    requires { IsWriteForm form }
+    ensures { IfSome result (λ s. IsWriteText form s text.now) }
+{
+    match form {
+        WriteForm::Number { lo, hi } => value_of(NumberWrite::new(lo, hi), text),
+        WriteForm::Signed { lo, hi } => value_of(SignedWrite::new(lo, hi), text),
+        WriteForm::Limit { lo, hi } => value_of(LimitWrite::new(lo, hi), text),
+        WriteForm::SizeLimit => value_of(SizeLimitWrite::new(), text),
+        WriteForm::Clamp => value_of(ClampWrite::new(), text),
+        WriteForm::Mode => value_of(ModeWrite::new(), text),
+        WriteForm::Controllers => value_of(ControllersWrite::new(alloc), text),
+        WriteForm::CpuMax => value_of(CpuMaxWrite::new(), text),
+        WriteForm::Reclaim => value_of(ReclaimWrite::new(), text),
+        WriteForm::DeviceLimits => value_of(DeviceLimitsWrite::new(), text),
+        WriteForm::DeviceWeight => value_of(DeviceWeightWrite::new(), text),
+        WriteForm::DeviceTarget => value_of(DeviceTargetWrite::new(), text),
+        WriteForm::Set { most } => value_of(SetWrite::new(alloc, most), text),
+        WriteForm::Role => value_of(RoleWrite::new(), text),
+        WriteForm::Trigger => value_of(TriggerWrite::new(), text),
+        WriteForm::Raw => value_of(RawWrite::new(alloc), text),
+    }
+}
+
 impl WriteText {
     /// The text of a write of this kind, of which nothing was taken. It takes no memory.
     pub fn new(alloc: Global, kind: WriteKind) -> WriteText
@@ -98,6 +139,14 @@ impl WriteText {
         ensures form { IsWriteForm kind }
     {
         text_of(alloc, kind.form())
+    }
+
+    /// The setting of a write of this kind whose whole text the bytes are, its newline among them. None where they are no
+    /// such text, or where memory is refused.
+    pub fn read(alloc: Global, kind: WriteKind, text: &[u8]) -> Option<Setting>
+        ensures { IfSome result (λ s. IsWriteText kind s text.now) }
+    {
+        setting_of(alloc, kind.form(), text)
     }
 
     /// Takes bytes from the front of `bytes`, none of them a newline, and answers how many. It may leave some that `step`

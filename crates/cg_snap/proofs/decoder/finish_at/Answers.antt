@@ -1,9 +1,6 @@
-use Rattle.std.proofs.Common.{◌≡◌, ◌++◌, ◌∷◌, [], sym, subst, ◌∙◌, length, ap, vec_len, arith}
+use Rattle.std.proofs.Common.{◌≡◌, sym, ◌∙◌, length, ap, vec_len, arith}
 use Rattle.std.proofs.lemmas.Bool.{eqb-true, eqb-false}
 use Rattle.std.proofs.lemmas.List.{nil_from_length}
-use Rattle.cg_value.specs.declared.profile.Profile.{Profile}
-use Rattle.cg_snap.specs.DecoderState.{At}
-use Rattle.cg_snap.specs.Snap.{SnapText}
 use Rattle.cg_snap.proofs.Finishes.{begun_cut, in_line_cut, between_path, last_entry}
 use Rattle.cg_snap.proofs.decoder.finish_at.Goals as goal
 
@@ -21,15 +18,12 @@ returns-then-x c = λ profile p es h e. (e, in_line_cut profile c.args.records.b
 pub returns-in-Some-ended : goal.returns-in-Some-ended
 returns-in-Some-ended c = λ profile p es h e.
     let s = c.args.records in
-    let at = subst (λ (form : Profile). At form s.begun.items s.present p es) (sym h.profile_is) h.at in
-    let a = between_path s.profile s.begun.items s.present c.in-Some.x p es c.in-Some.is c.if-x.false at in
-    let ends = c.in-Some-ended.ensures s.begun.items p es a in
+    let a = between_path profile s.begun.items s.present c.in-Some.x p es c.in-Some.is c.if-x.false h.at in
+    let ends = c.in-Some-ended.ensures profile s.begun.items p es a in
     let empty = let z : vec_len s.begun ≡ 0 = eqb-true _ _ (sym c.is_empty.ensures ∙ c.if-not-is_empty.false) in nil_from_length s.begun.items (omega (arith, s.begun.ok.0)) in
-    subst (λ (form : Profile). SnapText form (es ++ c.in-Some-ended.entry ∷ []) p) h.profile_is (last_entry s.profile s.begun.items c.in-Some.x p es c.in-Some-ended.entry a empty ends.0 ends.1)
+    last_entry profile s.begun.items c.in-Some.x p es c.in-Some-ended.entry a empty ends.0 ends.1
 
 pub returns : goal.returns
 returns c = λ profile p es h e.
     let s = c.args.records in
-    let at = subst (λ (form : Profile). At form s.begun.items s.present p es) (sym h.profile_is) h.at in
-    let a = between_path s.profile s.begun.items s.present c.in-Some.x p es c.in-Some.is c.if-x.false at in
-    absurd (c.in-None-ended.ensures s.begun.items p es a)
+    absurd (c.in-None-ended.ensures profile s.begun.items p es (between_path profile s.begun.items s.present c.in-Some.x p es c.in-Some.is c.if-x.false h.at))

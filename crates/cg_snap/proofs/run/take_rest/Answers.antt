@@ -3,6 +3,7 @@ use Rattle.std.proofs.lemmas.Bool.{eqb-true}
 use Rattle.std.proofs.lemmas.List.{append-nil, take_more}
 use Rattle.cg_line.specs.Reads.{Reads}
 use Rattle.cg_text.specs.PlainLaws.{plain_searched}
+use Rattle.cg_snap.proofs.Sounds.{sound_line}
 use Rattle.cg_snap.proofs.States.{line_at_once, line_same}
 use Rattle.cg_snap.proofs.run.take_rest.Goals as goal
 
@@ -26,3 +27,13 @@ returns-clause-line c _ =
     let end = c.in-Some.end in
     let newline : get_or piece end 0 ≡ 10 = eqb-true _ _ c.in-Some.ensures.1 in
     (take end piece, take_more piece end 0 c.in-Some.ensures.0.high ∙ ap (λ b. take end piece ++ b ∷ []) newline, plain_searched piece end c.in-Some.ensures.0.before)
+
+pub invariant_of-present : goal.invariant_of-present
+invariant_of-present c =
+    let x = c.args.present.now in
+    record { sound = sound_line x.path.items x.reader c.push_line.new.self c.split_at.result.0.now c.push_line.result x.sound c.push_line.ensures.pushed }
+
+pub invariant_of-present-2 : goal.invariant_of-present-2
+invariant_of-present-2 c =
+    let x = c.args.present.now in
+    record { sound = sound_line x.path.items x.reader c.push_line.new.self c.split_at.result.0.now c.push_line.result x.sound c.push_line.ensures.pushed }

@@ -7,4 +7,4 @@ use Rattle.cg_snap.proofs.snapshot_records.SnapshotRecordsRecords.step.Goals as 
 pub returns-clause-did : goal.returns-clause-did
 returns-clause-did c form p es h =
     let s = c.args.self.now in
-    did_step _ s.profile form p es c.args.byte c.step.result refl h.profile_is (c.step.ensures p es (subst (λ (q : Profile). At q s.begun.items s.present p es) (sym h.profile_is) h.at))
+    did_step _ s.profile form p es c.args.byte c.step.result refl h.profile_is (c.step.ensures.did p es (subst (λ (q : Profile). At q s.begun.items s.present p es) (sym h.profile_is) h.at))

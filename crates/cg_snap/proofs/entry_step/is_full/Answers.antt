@@ -1,7 +1,7 @@
 use Rattle.std.proofs.Common.{arith, leb-true, leb-false}
 use Rattle.cg_snap.proofs.Nuls.{full_is, line_few}
 use Rattle.cg_snap.proofs.States.{flag_between}
-use Rattle.cg_snap.proofs.present.is_full.Goals as goal
+use Rattle.cg_snap.proofs.entry_step.is_full.Goals as goal
 
 pub returns-then-not-is_in_line : goal.returns-then-not-is_in_line
 returns-then-not-is_in_line c = λ profile p es h.
