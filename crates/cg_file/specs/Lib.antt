@@ -6,6 +6,8 @@ pub mod FileText
 pub mod FileTextLaws
 pub mod FlatFileLaws
 pub mod FourLaws
+pub mod Front
+pub mod FrontLaws
 pub mod KeyedFileLaws
 pub mod HeldLaws
 pub mod Kinds

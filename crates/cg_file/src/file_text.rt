@@ -1,6 +1,7 @@
 //! The text of a file of any kind.
-ghost use Rattle.std.specs.Prelude.{◌≡◌, ◌≤◌, ◌+◌, true, [], ◌∷◌, ◌++◌, IsTrue, IsFalse, length, take};
+ghost use Rattle.std.specs.Prelude.{◌≡◌, ◌≤◌, ◌<◌, ◌+◌, true, [], ◌∷◌, ◌++◌, IsTrue, IsFalse, length, take};
 ghost use Rattle.cg_text.specs.Scan.{FollowsRun};
+ghost use Rattle.cg_file.specs.Front.{IsLineFront};
 ghost use Rattle.cg_text.specs.Texts.{Lacks};
 ghost use Rattle.cg_text.specs.Token.{Same, Spells};
 ghost use Rattle.cg_value.specs.Kind.{IsReadForm};
@@ -27,6 +28,7 @@ use crate::words::WordsFile;
 use cg_join::{WholeLines, run_line};
 use cg_text::{OutOfMemory, Token};
 use cg_value::{ReadForm, ReadKind, Value};
+use memchr::memchr;
 use std::alloc::Global;
 
 /// The text of a file of any kind, a variant for each.
@@ -125,7 +127,7 @@ impl FileText {
 impl FileText {
     /// Takes a whole line, and the newline after it, at once, where no line is begun; or leaves the text as it is, which it may
     /// do with any line. Answers whether it took them.
-    pub fn take_line(&mut self, line: &[u8]) -> bool
+    fn take_line(&mut self, line: &[u8]) -> bool
         ensures taken { IsTrue result → FollowsRun ⟦<FileText as Token>⟧.means self.old (line.now ++ 10 ∷ []) self.new }
         ensures left { IsFalse result → Same ⟦<FileText as Token>⟧.means self.old self.new }
         ensures size { ⟦<FileText as Token>⟧.size self.new ≤ ⟦<FileText as Token>⟧.size self.old + (length line.now + 1) }
@@ -138,8 +140,38 @@ impl FileText {
             FileText::DeviceLimits(text) => text.take_line(line, b'\n'),
             FileText::DeviceTargets(text) => text.take_line(line, b'\n'),
             FileText::Nested(text) => text.take_line(line, b'\n'),
-            FileText::Raw(text) => text.take_line(line, b'\n'),
             _ => false,
+        }
+    }
+
+    /// The same with what stands before the first newline of `bytes`. Answers how many bytes it took.
+    fn take_ended(&mut self, bytes: &[u8]) -> usize
+        ensures within { result ≤ length bytes.now }
+        ensures line { 0 < result → IsLineFront bytes.now result }
+        ensures taken { FollowsRun ⟦<FileText as Token>⟧.means self.old (take result bytes.now) self.new }
+        ensures size { ⟦<FileText as Token>⟧.size self.new ≤ ⟦<FileText as Token>⟧.size self.old + result }
+        ensures same_size { result ≡ 0 → ⟦<FileText as Token>⟧.size self.new ≡ ⟦<FileText as Token>⟧.size self.old }
+    {
+        let end = match memchr(b'\n', bytes) {
+            Some(end) => end,
+            None => return 0,
+        };
+        let (line, _) = bytes.split_at(end);
+        if self.take_line(line) { end + 1 } else { 0 }
+    }
+
+    /// Takes a whole line with its newline from the front of `bytes`, where no line is begun; or nothing, which it may do with any
+    /// line. Answers how many bytes it took.
+    pub fn take_front(&mut self, bytes: &[u8]) -> usize
+        ensures within { result ≤ length bytes.now }
+        ensures line { 0 < result → IsLineFront bytes.now result }
+        ensures taken { FollowsRun ⟦<FileText as Token>⟧.means self.old (take result bytes.now) self.new }
+        ensures size { ⟦<FileText as Token>⟧.size self.new ≤ ⟦<FileText as Token>⟧.size self.old + result }
+        ensures same_size { result ≡ 0 → ⟦<FileText as Token>⟧.size self.new ≡ ⟦<FileText as Token>⟧.size self.old }
+    {
+        match self {
+            FileText::Raw(text) => text.take_front(bytes),
+            _ => self.take_ended(bytes),
         }
     }
 }

@@ -1,13 +1,14 @@
 //! A file of raw lines: any file outside the table.
-ghost use Rattle.std.specs.Prelude.{◌≡◌};
+ghost use Rattle.std.specs.Prelude.{◌≡◌, ◌≤◌, ◌<◌, ◌+◌, length, take};
+ghost use Rattle.cg_text.specs.Scan.{FollowsRun};
+ghost use Rattle.cg_file.specs.Front.{IsLineFront};
 ghost use Rattle.cg_text.specs.Token.{Spells};
 ghost use Rattle.cg_value.specs.Files.{KindText};
 ghost use Rattle.cg_value.specs.declared.kind.ReadForm.TheVariants.{Raw as RawForm};
 
-use cg_join::WholeLines;
 use cg_text::{OutOfMemory, Token};
 use cg_value::{RawLines, Value, are_whole_lines};
-use memchr::memchr;
+use memchr::{memchr, memchr2};
 use std::alloc::Global;
 
 /// The text of a file of any number of raw lines. All its bytes lie in one vector, which is the value's.
@@ -24,6 +25,29 @@ impl RawFile {
     {
         RawFile {
             text: Vec::new(alloc),
+        }
+    }
+
+    /// Takes a whole line with its newline from the front of `bytes`; or nothing, where there is none, it has a NUL or no memory
+    /// is left for it. Answers how many bytes it took.
+    pub(crate) fn take_front(&mut self, bytes: &[u8]) -> usize
+        ensures within { result ≤ length bytes.now }
+        ensures line { 0 < result → IsLineFront bytes.now result }
+        ensures taken { FollowsRun ⟦<RawFile as Token>⟧.means self.old (take result bytes.now) self.new }
+        ensures size { ⟦<RawFile as Token>⟧.size self.new ≤ ⟦<RawFile as Token>⟧.size self.old + result }
+        ensures same_size { result ≡ 0 → ⟦<RawFile as Token>⟧.size self.new ≡ ⟦<RawFile as Token>⟧.size self.old }
+    {
+        let end = match memchr2(0, b'\n', bytes) {
+            Some(end) => end,
+            None => return 0,
+        };
+        if bytes[end] == 0 {
+            return 0;
+        }
+        let (line, _) = bytes.split_at(end + 1);
+        match self.text.extend_from_slice(line) {
+            Ok(()) => end + 1,
+            Err(_) => 0,
         }
     }
 }
@@ -100,29 +124,5 @@ impl Token for RawFile {
 
     fn held_in(_value: &Value) -> u64 {
         0
-    }
-}
-
-impl WholeLines for RawFile {
-    fn take_line(&mut self, line: &[u8], end: u8) -> bool {
-        if end == 0 {
-            return false;
-        }
-        match memchr(0, line) {
-            Some(_) => return false,
-            None => {}
-        }
-        let len = self.text.len();
-        match self.text.extend_from_slice(line) {
-            Ok(()) => {}
-            Err(_) => return false,
-        }
-        match self.text.push(end) {
-            Ok(()) => true,
-            Err(_) => {
-                self.text.truncate(len);
-                false
-            }
-        }
     }
 }

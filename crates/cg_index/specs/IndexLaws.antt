@@ -14,51 +14,55 @@ IsKeyThere keys (Some place) bytes = bytes ≡ key_at keys place
 pub no_length : (n : ℕ) → true ≡ (n == 0) → n ≡ 0
 no_length n e = grind (arith, nat_tests)
 
+pub some_length : (seen n : ℕ) → seen ≡ n → (seen ≡ 0 → ⊥) → 0 < n
+some_length seen zero e h = absurd (h e)
+some_length seen (suc n) e h = omega arith
+
 -- What is the same but for the room is the index of the same keys.
-pub same_indexes : {P : Type 0} {old new : Indexed P} → IsSameBut old new → {keys : List (List ℕ)} → Indexes old keys → Indexes new keys
+pub same_indexes : {old new : Indexed} → IsSameBut old new → {keys : List (List ℕ)} → Indexes old keys → Indexes new keys
 same_indexes same of = record {
   tree = rw (same.forks, same.root) of.tree;
-  count = rw (same.besides) of.count;
 }
 
 -- A seat stays one.
-pub same_seat : {P : Type 0} {old new : Indexed P} → IsSameBut old new → {keys : List (List ℕ)} {key : List ℕ} {seat : Seat} → IsSeat old keys key seat → IsSeat new keys key seat
+pub same_seat : {old new : Indexed} → IsSameBut old new → {keys : List (List ℕ)} {key : List ℕ} {seat : Seat} → IsSeat old keys key seat → IsSeat new keys key seat
 same_seat same is = record {
   within = rw (same.forks) is.within;
+  links = rw (same.forks) is.links;
   tree = rw (same.forks, same.root) is.tree;
   of = rw (same.forks, same.root) is.of;
 }
 
-module _ {P : Type 0} {index : Indexed P} {keys : List (List ℕ)} (of : Indexes index keys) (near : Option ℕ) (there key : List ℕ) where
+module _ {index : Indexed} {keys : List (List ℕ)} (of : Indexes index keys) (near : Option ℕ) (there key : List ℕ) where
   -- The key there is the one that is looked for, which isn't empty: it has a place among the keys.
-  pub near_has : IfSome near (λ place. place < length index.besides) → IsKeyThere keys near there → there ≡ key → 0 < length key →
+  pub near_has : IfSome near (λ place. place < length index.forks) → IsKeyThere keys near there → there ≡ key → 0 < length key →
       (place : ℕ) × (place < length keys) × (key_at keys place ≡ key)
   near_has within is same some = elim near as
-      (λ near. IfSome near (λ place. place < length index.besides) → IsKeyThere keys near there → (place : ℕ) × (place < length keys) × (key_at keys place ≡ key)) [
+      (λ near. IfSome near (λ place. place < length index.forks) → IsKeyThere keys near there → (place : ℕ) × (place < length keys) × (key_at keys place ≡ key)) [
         | None ↦ λ w e. (
             let none : key ≡ [] = sym same ∙ e in
             absurd (omega (arith, some, ap length none)))
-        | Some place ↦ λ w e. (place, omega (arith, of.count, w), sym e ∙ same)
+        | Some place ↦ λ w e. (place, omega (arith, of.tree.count, w), sym e ∙ same)
       ] within is
 
   -- It is another: none of the keys is the one that is looked for.
-  pub near_lacks : is_none near ≡ (length index.besides == 0) → IfSome near (IsOnlyFor index key) → IsKeyThere keys near there → there ≢ key →
+  pub near_lacks : is_none near ≡ (length index.forks == 0) → IfSome near (IsOnlyFor index key) → IsKeyThere keys near there → there ≢ key →
       (j : ℕ) → j < length keys → key_at keys j ≢ key
   near_lacks none only is apart j h e = elim near as
-      (λ near. is_none near ≡ (length index.besides == 0) → IfSome near (IsOnlyFor index key) → IsKeyThere keys near there → ⊥) [
-        | None ↦ λ n o i. omega (arith, of.count, no_length (length index.besides) n, h)
+      (λ near. is_none near ≡ (length index.forks == 0) → IfSome near (IsOnlyFor index key) → IsKeyThere keys near there → ⊥) [
+        | None ↦ λ n o i. omega (arith, of.tree.count, no_length (length index.forks) n, h)
         | Some place ↦ λ n o i. (
             let same : j ≡ place = o keys of j h e in
             apart (i ∙ ap (key_at keys) (sym same) ∙ e))
       ] none only is
 
   -- The key there is the nearest one, also where room has been made.
-  pub near_is : {new : Indexed P} → IsSameBut index new → is_none near ≡ (length index.besides == 0) → IfSome near (IsNearest index key) →
+  pub near_is : {new : Indexed} → IsSameBut index new → is_none near ≡ (length index.forks == 0) → IfSome near (IsNearest index key) →
       IsKeyThere keys near there → IsNear new keys key there
   near_is {new} same none nearest is = λ some. elim near as
-      (λ near. is_none near ≡ (length index.besides == 0) → IfSome near (IsNearest index key) → IsKeyThere keys near there →
+      (λ near. is_none near ≡ (length index.forks == 0) → IfSome near (IsNearest index key) → IsKeyThere keys near there →
       (k : ℕ) × IsNearest new key k × (key_at keys k ≡ there)) [
-        | None ↦ λ n o i. absurd (omega (arith, of.count, no_length (length index.besides) n, some))
+        | None ↦ λ n o i. absurd (omega (arith, of.tree.count, no_length (length index.forks) n, some))
         | Some place ↦ λ n o i. (place, rw (same.forks, same.root) o, sym i)
       ] none nearest is
 

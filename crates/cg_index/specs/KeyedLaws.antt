@@ -27,10 +27,6 @@ pub distinct_push : {V : Type 0} (vs : List V) (u : V) → AreDistinct vs → La
 distinct_push [] u h k = (tt, tt)
 distinct_push (v ∷ vs) u h k = (lacks_push v u vs h.0 (λ e. k.0 (sym e)), distinct_push vs u h.1 k.1)
 
--- An item that is added has a key that none has.
-pub push_keys : {T : Type 0} (key : T → List ℕ) (items : List T) (item : T) → AreDistinct (map key items) → LacksValue (key item) (map key items) → AreDistinct (map key (items ++ item ∷ []))
-push_keys key items item d l = rw map-append (distinct_push (map key items) (key item) d l)
-
 -- The last of a list, and the list where another value stands in its place.
 last_at : {X : Type 0} (x : X) (rest : List X) (r y : X) (k : ℕ) → k ≡ length rest → r ≡ get_or (x ∷ rest) k r →
     (front : List X) × (x ∷ rest ≡ front ++ r ∷ []) × (slice_set (x ∷ rest) k y ≡ front ++ y ∷ [])
@@ -40,17 +36,12 @@ last_at x (w ∷ ws) r y zero n e = absurd (omega (arith, n))
 last_at x (w ∷ ws) r y (suc k) n e = let t = last_at w ws r y k (omega (arith, n)) e in (x ∷ t.0, ap (λ v. x ∷ v) t.1, ap (λ v. x ∷ v) t.2)
 
 -- The last of the items gets a part where it lies.
-pub last_changed : {X T W : Type 0} (item : X → T) (changed : T → W → T) (part : W) (xs : List X) (n : ℕ) (r y : X) → n ≡ length xs → 0 < length (map item xs) →
-    r ≡ get_or xs (n - 1) r → item y ≡ changed (item r) part → IsLastChanged changed (map item xs) part (map item (slice_set xs (n - 1) y))
-last_changed item changed part [] n r y e h g c = absurd (omega (arith, h))
-last_changed item changed part (x ∷ rest) n r y e h g c =
+pub last_changed : {T W : Type 0} (changed : T → W → T) (part : W) (xs : List T) (n : ℕ) (r y : T) → n ≡ length xs → 0 < length xs →
+    r ≡ get_or xs (n - 1) r → y ≡ changed r part → IsLastChanged changed xs part (slice_set xs (n - 1) y)
+last_changed changed part [] n r y e h g c = absurd (omega (arith, h))
+last_changed changed part (x ∷ rest) n r y e h g c =
     let t = last_at x rest r y (n - 1) (omega (arith, e)) g in
-    record {
-      front = map item t.0;
-      last = item r;
-      before = ap (map item) t.1 ∙ map-append item t.0 (r ∷ []);
-      after = ap (map item) t.2 ∙ map-append item t.0 (y ∷ []) ∙ ap (λ v. map item t.0 ++ v ∷ []) c;
-    }
+    record { front = t.0; last = r; before = t.1; after = t.2 ∙ ap (λ v. t.0 ++ v ∷ []) c }
 
 -- The keys stay.
 pub changed_keys : {T W : Type 0} (key : T → List ℕ) (changed : T → W → T) → ((t : T) (part : W) → key (changed t part) ≡ key t) →

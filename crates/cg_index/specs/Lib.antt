@@ -2,8 +2,11 @@ pub mod GrownLaws
 pub mod IndexLaws
 pub mod Keyed
 pub mod KeyedLaws
+pub mod Marked
+pub mod MarkedLaws
+pub mod Packed
+pub mod PlaceLaws
 pub mod Position
 pub mod PositionLaws
-pub mod SeatLaws
 pub mod Tree
 pub mod TreeLaws

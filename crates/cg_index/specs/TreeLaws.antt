@@ -1,5 +1,5 @@
 -- What follows for the tree of an index, and what becomes of it where a key is added.
-use Rattle.std.proofs.Common.{◌≡◌, ℕ, zero, suc, ◌+◌, ◌-◌, ◌<◌, ◌≤◌, ◌^◌, ◌⊎◌, inl, inr, List, [], ◌∷◌, ◌++◌, length, get_or, Some, Bool, true, false, not, map, IsTrue}
+use Rattle.std.proofs.Common.{◌≡◌, ℕ, zero, suc, ◌+◌, ◌-◌, ◌<◌, ◌≤◌, ◌^◌, ◌⊎◌, inl, inr, List, [], ◌∷◌, ◌++◌, length, get_or, Some, Bool, true, false, not, IsTrue}
 use Rattle.std.proofs.Common.{refl, sym, ap, subst, ◌∙◌, arith}
 use Rattle.std.proofs.Math.Seq.{get_or-append_seam}
 use Rattle.std.proofs.lemmas.Bool.{cases_lt, cases_order}
@@ -402,10 +402,13 @@ module _ {forks : List Fork} {root : Link} (tree : IsTree forks root) (f : ℕ) 
 
 -- What is read of a fork.
 
-pub fork_read : {A : Type 0} (fork : A → Fork) (xs : List A) (i : ℕ) (d : A) → i < length (map fork xs) → fork_at (map fork xs) i ≡ fork (get_or xs i d)
-fork_read fork [] i d h = absurd (omega (arith, h))
-fork_read fork (x ∷ xs) zero d h = refl
-fork_read fork (x ∷ xs) (suc i) d h = fork_read fork xs i d (omega (arith, h))
+fork_read : (forks : List Fork) (i : ℕ) (d : Fork) → i < length forks → fork_at forks i ≡ get_or forks i d
+fork_read [] i d h = absurd (omega (arith, h))
+fork_read (x ∷ xs) zero d h = refl
+fork_read (x ∷ xs) (suc i) d h = fork_read xs i d (omega (arith, h))
+
+pub fork_here : (forks : List Fork) (i : ℕ) (fork : Fork) → i < length forks → fork ≡ get_or forks i fork → fork_at forks i ≡ fork
+fork_here forks i fork h is = fork_read forks i fork h ∙ sym is
 
 module _ (forks : List Fork) (f : ℕ) (fork : Fork) (read : fork_at forks f ≡ fork) where
   pub at_read : at forks f ≡ number fork.at

@@ -1,8 +1,10 @@
 //! The forks of an index, and walks over them.
-ghost use Rattle.std.specs.Prelude.{◌≡◌, ◌<◌, map, length, vec_len, vec_capacity, IfSome};
+ghost use Rattle.std.specs.Prelude.{◌≡◌, ◌<◌, length, vec_len, vec_capacity, IfSome};
 ghost use Rattle.cg_index.specs.Position.{number, side};
-ghost use Rattle.cg_index.specs.Tree.{no_fork, way, turned, IsTree, IsEdge, IsParting, Leads, led_forks, led_root};
+ghost use Rattle.cg_index.specs.Packed.{most_keys, place_of};
+ghost use Rattle.cg_index.specs.Tree.{no_fork, IsTree, IsEdge, IsParting, Leads, led_forks, led_root};
 
+use crate::packed::Packed;
 use crate::position::{Position, side};
 
 /// Where a walk goes on.
@@ -52,41 +54,6 @@ impl Fork {
             }
         }
     }
-
-    /// Where a key with this digit goes on.
-    fn toward(&self, digit: bool) -> Link
-        ensures { result ≡ way self.now digit }
-    {
-        if digit { self.one } else { self.zero }
-    }
-
-    /// Lets the keys with this digit go on elsewhere.
-    pub(crate) fn turn(&mut self, digit: bool, link: Link)
-        ensures { self.new ≡ turned self.old digit link }
-    {
-        if digit {
-            self.one = link;
-        } else {
-            self.zero = link;
-        }
-    }
-}
-
-/// An item in its place.
-#[derive(Debug, Drop)]
-pub struct Placed<T> {
-    pub(crate) item: T,
-    /// The fork that came with the item's key; the first key came with none.
-    pub(crate) fork: Fork,
-}
-
-impl<T> Placed<T> {
-    /// The item.
-    pub fn item(&self) -> &T
-        ensures { result.now ≡ self.now.item }
-    {
-        &self.item
-    }
 }
 
 /// The last step of a walk before a position.
@@ -113,30 +80,30 @@ pub(crate) struct Seat {
 }
 
 /// The key to which a walk by the sides of this one leads.
-pub(crate) fn key_of_walk<T>(nodes: &[Placed<T>], root: Link, key: &[u8]) -> usize
-    requires tree { IsTree (map (λ n. n.fork) nodes.now) root }
-    requires some { 0 < length nodes.now }
-    ensures within { result < length nodes.now }
-    ensures leads { Leads (map (λ n. n.fork) nodes.now) key.now root result }
+pub(crate) fn key_of_walk(forks: &[Packed], root: Link, key: &[u8]) -> usize
+    requires tree { IsTree forks.now root }
+    requires some { 0 < length forks.now }
+    ensures within { result < length forks.now }
+    ensures leads { Leads forks.now key.now root result }
 {
     let mut link = root;
     loop {
         match link {
             Link::Key(place) => return place,
             Link::Fork(place) => {
-                let fork = nodes[place].fork;
-                link = fork.toward(side(key, fork.at));
+                let fork = &forks[place];
+                link = fork.toward(side(key, fork.at()));
             }
         }
     }
 }
 
 /// The last step, before the position, of a walk by the sides of the key.
-pub(crate) fn edge_before<T>(nodes: &[Placed<T>], root: Link, key: &[u8], at: Position) -> Edge
-    requires tree { IsTree (map (λ n. n.fork) nodes.now) root }
-    requires some { 0 < length nodes.now }
+pub(crate) fn edge_before(forks: &[Packed], root: Link, key: &[u8], at: Position) -> Edge
+    requires tree { IsTree forks.now root }
+    requires some { 0 < length forks.now }
     requires digit { at.digit < 8 }
-    ensures { IsEdge (map (λ n. n.fork) nodes.now) root key.now (number at) result }
+    ensures { IsEdge forks.now root key.now (number at) result }
 {
     let mut edge = Edge {
         from: None,
@@ -144,11 +111,11 @@ pub(crate) fn edge_before<T>(nodes: &[Placed<T>], root: Link, key: &[u8], at: Po
         to: root,
     };
     while let Link::Fork(place) = edge.to {
-        let fork = nodes[place].fork;
-        if !fork.at.is_before(at) {
+        let fork = &forks[place];
+        if !fork.at().is_before(at) {
             break;
         }
-        let digit = side(key, fork.at);
+        let digit = side(key, fork.at());
         edge = Edge {
             from: Some(place),
             digit,
@@ -159,18 +126,18 @@ pub(crate) fn edge_before<T>(nodes: &[Placed<T>], root: Link, key: &[u8], at: Po
 }
 
 /// Lets the step that the seat names go on at the seat's link. It returns the new root.
-pub(crate) fn redirect<T>(nodes: &mut Vec<Placed<T>>, root: Link, seat: Seat) -> Link
-    requires { IfSome seat.from (λ f. f < length nodes.old.items) }
-    ensures forks { map (λ n. n.fork) nodes.new.items ≡ led_forks (map (λ n. n.fork) nodes.old.items) seat }
+pub(crate) fn redirect(forks: &mut Vec<Packed>, root: Link, seat: Seat) -> Link
+    requires from { IfSome seat.from (λ f. f < length forks.old.items) }
+    requires link { place_of seat.link < most_keys }
+    ensures forks { forks.new.items ≡ led_forks forks.old.items seat }
     ensures root { result ≡ led_root root seat }
-    ensures items { map (λ n. n.item) nodes.new.items ≡ map (λ n. n.item) nodes.old.items }
-    ensures len { vec_len nodes.new ≡ vec_len nodes.old }
-    ensures capacity { vec_capacity nodes.new ≡ vec_capacity nodes.old }
+    ensures len { vec_len forks.new ≡ vec_len forks.old }
+    ensures capacity { vec_capacity forks.new ≡ vec_capacity forks.old }
 {
     match seat.from {
         None => seat.link,
         Some(place) => {
-            nodes[place].fork.turn(seat.digit, seat.link);
+            forks[place].turn(seat.digit, seat.link);
             root
         }
     }

@@ -1,19 +1,22 @@
 //! Items with keys that are all different, in order, found by their keys.
-ghost use Rattle.std.specs.Prelude.{◌≡◌, ℕ, List, ◌<◌, ◌++◌, ◌∷◌, [], IsTrue, IfErr, IsOk, OnOk, OnErr, length, map, slice_get, Some, MatchOption, ◌≤◌, IfSome, is_none};
+ghost use Rattle.std.specs.Prelude.{◌≡◌, ℕ, List, ◌<◌, ◌++◌, ◌∷◌, [], IsTrue, IfErr, IsOk, OnOk, OnErr, length, map, slice_get, Some, MatchOption, ◌≤◌, IfSome, is_none, is_err};
 ghost use Rattle.std.specs.Cmp.Lexicographic.{pointwise};
 ghost use Rattle.cg_text.specs.Distinct.{AreDistinct, LacksValue};
 ghost use Rattle.cg_index.specs.IndexLaws.{IsKeyThere};
 ghost use Rattle.cg_index.specs.Position.{HasNoZero};
-ghost use Rattle.cg_index.specs.Tree.{IsSameTree, IsSeat};
-ghost use Rattle.cg_index.specs.SeatLaws.{IsKeyed};
+ghost use Rattle.cg_index.specs.Tree.{Indexes, IsSeat};
+ghost use Rattle.cg_index.specs.Marked.{IsMarked, IsOnlyPlace, IsFree, IsKeyed};
 ghost use Rattle.cg_index.specs.Keyed.{IsLastChanged, IsHandedBack, is_repeated, is_among, place_among};
 
-use crate::fork::{Placed, Seat};
+use crate::fork::Seat;
 use crate::index::KeyIndex;
-use cg_text::{Key, OutOfMemory};
+use cg_text::{Key, OutOfMemory, make_room, mark_of};
 use std::alloc::Global;
 use std::marker::Model;
 use thiserror::Error;
+
+/// How many items are found by the marks of their keys at most. More are found by a tree.
+const MOST: usize = 64;
 
 /// What has a key.
 pub trait HasKey: Drop {
@@ -60,54 +63,82 @@ pub enum Refused<T> {
     OutOfMemory(T),
 }
 
+/// The place of the first item whose key has the mark.
+#[inline(always)]
+fn marked<T: HasKey>(items: &[T], mark: u32) -> Option<usize>
+    ensures { IsMarked (map T.key_of items.now) mark result }
+{
+    for (place, item) in items.iter().enumerate() {
+        if item.key().mark() == mark {
+            return Some(place);
+        }
+    }
+    None
+}
+
+/// Whether a key with this mark is new and needs no tree.
+#[inline(always)]
+fn is_free<T: HasKey>(items: &[T], index: &KeyIndex, mark: u32) -> bool
+    ensures { IsTrue result → IsFree (map T.key_of items.now) index.now mark }
+{
+    index.len() == 0 && items.len() < MOST && marked(items, mark).is_none()
+}
+
 /// The key of the item at a place, and no bytes of no place.
-fn key_near<T: HasKey>(placed: &[Placed<T>], place: Option<usize>) -> &[u8]
-    requires { IfSome place (λ i. i < length placed.now) }
-    ensures key { IsKeyThere (map T.key_of (map (λ p. p.item) placed.now)) place result.now }
+fn key_near<T: HasKey>(items: &[T], place: Option<usize>) -> &[u8]
+    requires { IfSome place (λ i. i < length items.now) }
+    ensures key { IsKeyThere (map T.key_of items.now) place result.now }
     ensures bytes { HasNoZero result.now }
 {
     match place {
-        Some(place) => placed[place].item.key().bytes(),
+        Some(place) => items[place].key().bytes(),
         None => &[],
     }
 }
 
-impl<T: HasKey> KeyIndex<T> {
-    /// Where the key goes in, none where an item has it. It takes one search, and at most one comparison of whole keys.
-    #[inline(always)]
-    fn seat_of(&self, key: &Key) -> Option<Seat>
-        requires { IsKeyed T.key_of self.now }
-        ensures there { is_none result ≡ is_among key.now (map T.key_of self.now.besides) }
-        ensures seat { IfSome result (IsSeat self.now (map T.key_of self.now.besides) key.now) }
-    {
-        let bytes = key.bytes();
-        let there = key_near(self.placed(), self.nearest(bytes));
-        if there == bytes {
-            return None;
-        }
-        Some(self.seat(bytes, there))
+/// Makes the tree of the items' keys, where there is none. It takes no memory.
+fn plant<T: HasKey>(items: &[T], index: &mut KeyIndex)
+    requires keyed { IsKeyed (map T.key_of items.now) index.old }
+    requires room { length items.now ≤ index.old.room }
+    ensures tree { Indexes index.new (map T.key_of items.now) }
+    ensures room { index.new.room ≡ index.old.room }
+{
+    if index.len() != 0 {
+        return;
     }
-
-    /// Gives what is kept beside the last key a part. It takes no memory.
-    fn change_last<C: Change<T>>(&mut self, part: C::Part)
-        requires { 0 < length self.old.besides }
-        ensures tree { IsSameTree self.old self.new }
-        ensures besides { IsLastChanged C.changed self.old.besides part self.new.besides }
-    {
-        let last = self.nodes.len() - 1;
-        C::change(&mut self.nodes[last].item, part);
+    for item in items {
+        let key = item.key().bytes();
+        let near = index.nearest(key);
+        index.insert(key, key_near(items, near));
     }
 }
 
+/// Where the key goes into the tree of the items' keys, none where an item has it. It takes one search, and at most one
+/// comparison of whole keys.
+#[inline(always)]
+fn seat_of<T: HasKey>(items: &[T], index: &KeyIndex, key: &Key) -> Option<Seat>
+    requires distinct { AreDistinct (map T.key_of items.now) }
+    requires tree { Indexes index.now (map T.key_of items.now) }
+    ensures there { is_none result ≡ is_among key.now (map T.key_of items.now) }
+    ensures seat { IfSome result (IsSeat index.now (map T.key_of items.now) key.now) }
+{
+    let bytes = key.bytes();
+    let there = key_near(items, index.nearest(bytes));
+    if there == bytes {
+        return None;
+    }
+    Some(index.seat(bytes, there))
+}
+
 /// Whether the items are the same, one by one.
-fn are_same<T: HasKey + PartialEq>(items: &[Placed<T>], others: &[Placed<T>]) -> bool
-    ensures { result ≡ pointwise T.eq (map (λ p. p.item) items.now) (map (λ p. p.item) others.now) }
+fn are_same<T: HasKey + PartialEq>(items: &[T], others: &[T]) -> bool
+    ensures { result ≡ pointwise T.eq items.now others.now }
 {
     if items.len() != others.len() {
         return false;
     }
-    for (place, placed) in items.iter().enumerate() {
-        if placed.item != others[place].item {
+    for (place, item) in items.iter().enumerate() {
+        if *item != others[place] {
             return false;
         }
     }
@@ -118,19 +149,21 @@ fn are_same<T: HasKey + PartialEq>(items: &[Placed<T>], others: &[Placed<T>]) ->
 /// there. Contracts see the items and whether there is room.
 #[derive(Debug, Drop)]
 pub struct KeyedBuilder<T: HasKey> {
-    /// The items lie beside their keys.
-    index: KeyIndex<T>,
+    items: Vec<T>,
+    /// The tree of their keys, none where few items have all different marks.
+    index: KeyIndex,
 }
 
 impl<T: HasKey> Model for KeyedBuilder<T> {
+    ghost use Rattle.std.specs.Prelude.{◌&&◌, nat_lt, map, vec_len, vec_capacity};
     ghost use Rattle.cg_index.specs.Keyed.{Collected};
-    ghost use Rattle.cg_index.specs.SeatLaws.{IsKeyed};
+    ghost use Rattle.cg_index.specs.Marked.{IsKeyed};
 
     ghost Value = { Collected T };
 
-    ghost view = { λ s. record { items = s.index.besides; has_room = s.index.has_room } };
+    ghost view = { λ s. record { items = s.items.items; has_room = nat_lt (vec_len s.items) (vec_capacity s.items) && nat_lt (vec_len s.items) s.index.room } };
 
-    ghost invariant = { λ s. IsKeyed T.key_of s.index };
+    ghost invariant = { λ s. IsKeyed (map T.key_of s.items.items) s.index };
 }
 
 impl<T: HasKey> KeyedBuilder<T> {
@@ -139,24 +172,37 @@ impl<T: HasKey> KeyedBuilder<T> {
         ensures { result.items ≡ [] }
     {
         KeyedBuilder {
+            items: Vec::new(alloc),
             index: KeyIndex::new(alloc),
         }
     }
 
-    /// The items in order, each in its place.
-    pub fn placed(&self) -> &[Placed<T>]
-        ensures items { map (λ p. p.item) result.now ≡ self.now.items }
+    /// The items in order.
+    pub fn items(&self) -> &[T]
+        ensures items { result.now ≡ self.now.items }
         ensures distinct { AreDistinct (map T.key_of self.now.items) }
     {
-        self.index.placed()
+        self.items.as_slice()
+    }
+
+    /// The place of the only item that can have the key, none where it is known that none has it. It compares no keys.
+    #[inline(always)]
+    pub fn nearest(&self, key: &[u8]) -> Option<usize>
+        ensures within { IfSome result (λ k. k < length self.now.items) }
+        ensures only { IsOnlyPlace (map T.key_of self.now.items) key.now result }
+    {
+        if self.index.len() == 0 {
+            return marked(self.items.as_slice(), mark_of(key));
+        }
+        self.index.nearest(key)
     }
 
     /// The place of the item that has the key. At most one comparison of whole keys is made.
     pub fn find(&self, key: &[u8]) -> Option<usize>
         ensures { result ≡ place_among key.now (map T.key_of self.now.items) }
     {
-        let place = self.index.nearest(key)?;
-        (self.index.placed()[place].item.key().bytes() == key).then_some(place)
+        let place = self.nearest(key)?;
+        (self.items[place].key().bytes() == key).then_some(place)
     }
 
     /// Whether an item has the key.
@@ -172,38 +218,96 @@ impl<T: HasKey> KeyedBuilder<T> {
         ensures room { OnOk result (IsTrue self.new.has_room) }
         ensures ready { IsTrue self.old.has_room → IsOk result }
     {
-        self.index.reserve()?;
+        make_room(&mut self.items)?;
+        self.index.reserve_for(self.items.len() + 1)?;
         Ok(())
     }
 
     /// Adds an item with a new key at the end, where there is room. It takes no memory.
+    #[inline(always)]
     pub fn push(&mut self, item: T)
         requires room { IsTrue self.old.has_room }
         requires new { LacksValue (T.key_of item) (map T.key_of self.old.items) }
         ensures { self.new.items ≡ self.old.items ++ item ∷ [] }
     {
+        if is_free(self.items.as_slice(), &self.index, item.key().mark()) {
+            self.items.push_reserved(item);
+            return;
+        }
+        self.push_by_tree(item);
+    }
+
+    /// Adds an item with a new key at the end and in the tree, where there is room. It takes no memory.
+    fn push_by_tree(&mut self, item: T)
+        requires room { IsTrue self.old.has_room }
+        requires new { LacksValue (T.key_of item) (map T.key_of self.old.items) }
+        ensures { self.new.items ≡ self.old.items ++ item ∷ [] }
+    {
+        plant(self.items.as_slice(), &mut self.index);
         let key = item.key().bytes();
         let near = self.index.nearest(key);
-        let seat = self.index.seat(key, key_near(self.index.placed(), near));
-        self.index.insert_at(seat, item);
+        self.index
+            .insert(key, key_near(self.items.as_slice(), near));
+        self.items.push_reserved(item);
     }
 
     /// Adds an item at the end. Where an item has its key it answers `Repeated`, and where memory is wanting
-    /// `OutOfMemory`: both hand the item back, and the items stay.
+    /// `OutOfMemory`: both hand the item back, and the items stay. Where there is room, it takes no memory.
     #[inline(always)]
-    fn add(&mut self, item: T) -> Result<(), Refused<T>>
+    pub fn add(&mut self, item: T) -> Result<(), Refused<T>>
         ensures ok { OnOk result (self.new.items ≡ self.old.items ++ item ∷ []) }
         ensures err { OnErr result (self.new.items ≡ self.old.items) }
         ensures back { IfErr result (IsHandedBack item) }
         ensures repeated { is_repeated result ≡ is_among (T.key_of item) (map T.key_of self.old.items) }
+        ensures room { IsTrue self.old.has_room → is_err result ≡ is_repeated result }
     {
-        let Some(seat) = self.index.seat_of(item.key()) else {
-            return Err(Refused::Repeated(item));
-        };
-        if self.index.reserve().is_err() {
+        if !is_free(self.items.as_slice(), &self.index, item.key().mark()) {
+            return self.add_by_tree(item);
+        }
+        if make_room(&mut self.items).is_err() {
             return Err(Refused::OutOfMemory(item));
         }
-        self.index.insert_at(seat, item);
+        self.items.push_reserved(item);
+        Ok(())
+    }
+
+    /// Adds an item as `add` does, where marks alone don't tell that it is new.
+    fn add_by_tree(&mut self, item: T) -> Result<(), Refused<T>>
+        ensures ok { OnOk result (self.new.items ≡ self.old.items ++ item ∷ []) }
+        ensures err { OnErr result (self.new.items ≡ self.old.items) }
+        ensures back { IfErr result (IsHandedBack item) }
+        ensures repeated { is_repeated result ≡ is_among (T.key_of item) (map T.key_of self.old.items) }
+        ensures room { IsTrue self.old.has_room → is_err result ≡ is_repeated result }
+    {
+        if self.index.len() == 0 {
+            return self.plant_and_add(item);
+        }
+        let Some(seat) = seat_of(self.items.as_slice(), &self.index, item.key()) else {
+            return Err(Refused::Repeated(item));
+        };
+        if make_room(&mut self.items).is_err() || self.index.reserve().is_err() {
+            return Err(Refused::OutOfMemory(item));
+        }
+        self.index.insert_at(seat);
+        self.items.push_reserved(item);
+        Ok(())
+    }
+
+    /// Adds an item as `add` does, in the tree, which is made where there is none.
+    fn plant_and_add(&mut self, item: T) -> Result<(), Refused<T>>
+        ensures ok { OnOk result (self.new.items ≡ self.old.items ++ item ∷ []) }
+        ensures err { OnErr result (self.new.items ≡ self.old.items) }
+        ensures back { IfErr result (IsHandedBack item) }
+        ensures repeated { is_repeated result ≡ is_among (T.key_of item) (map T.key_of self.old.items) }
+        ensures room { IsTrue self.old.has_room → is_err result ≡ is_repeated result }
+    {
+        if self.has(item.key().bytes()) {
+            return Err(Refused::Repeated(item));
+        }
+        if self.reserve().is_err() {
+            return Err(Refused::OutOfMemory(item));
+        }
+        self.push_by_tree(item);
         Ok(())
     }
 
@@ -213,7 +317,8 @@ impl<T: HasKey> KeyedBuilder<T> {
         ensures items { IsLastChanged C.changed self.old.items part self.new.items }
         ensures room { self.new.has_room ≡ self.old.has_room }
     {
-        self.index.change_last::<C>(part);
+        let last = self.items.len() - 1;
+        C::change(&mut self.items[last], part);
     }
 
     /// The items as a value. It takes no memory.
@@ -246,29 +351,49 @@ impl<T: HasKey> KeyedItems<T> {
         KeyedBuilder::new(alloc).finish()
     }
 
-    /// The items in order, each in its place.
-    pub fn placed(&self) -> &[Placed<T>]
-        ensures items { map (λ p. p.item) result.now ≡ self.now }
+    /// No items. It makes room for so many, where memory is left for them.
+    pub fn with_room(alloc: Global, count: usize) -> KeyedItems<T>
+        ensures { result ≡ [] }
+    {
+        let mut items = Vec::new(alloc);
+        let _ = items.try_reserve_exact(count);
+        KeyedItems {
+            built: KeyedBuilder {
+                items,
+                index: KeyIndex::new(alloc),
+            },
+        }
+    }
+
+    /// The items in order.
+    pub fn items(&self) -> &[T]
+        ensures items { result.now ≡ self.now }
         ensures distinct { AreDistinct (map T.key_of self.now) }
     {
-        self.built.placed()
+        self.built.items()
     }
 
     /// How many items there are.
     pub fn len(&self) -> usize
         ensures { result ≡ length self.now }
     {
-        self.placed().len()
+        self.items().len()
     }
 
     /// The item at a place, none from their number on.
     pub fn get(&self, place: usize) -> Option<&T>
         ensures { MatchOption result (length self.now ≤ place) (λ item. slice_get self.now place ≡ Some item.now) }
     {
-        match self.placed().get(place) {
-            Some(placed) => Some(placed.item()),
-            None => None,
-        }
+        self.items().get(place)
+    }
+
+    /// The place of the only item that can have the key, none where it is known that none has it. It compares no keys.
+    #[inline(always)]
+    pub fn nearest(&self, key: &[u8]) -> Option<usize>
+        ensures within { IfSome result (λ k. k < length self.now) }
+        ensures only { IsOnlyPlace (map T.key_of self.now) key.now result }
+    {
+        self.built.nearest(key)
     }
 
     /// The place of the item that has the key. At most one comparison of whole keys is made.
@@ -299,6 +424,6 @@ impl<T: HasKey + PartialEq> PartialEq for KeyedItems<T> {
     ghost laws = { lists_per T.laws };
 
     fn eq(&self, other: &KeyedItems<T>) -> bool {
-        are_same(self.placed(), other.placed())
+        are_same(self.items(), other.items())
     }
 }

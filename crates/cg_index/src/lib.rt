@@ -4,8 +4,8 @@
 mod fork;
 mod index;
 pub mod keyed;
+mod packed;
 mod position;
 
-pub use fork::Placed;
 pub use index::KeyIndex;
 pub use keyed::{Change, HasKey, KeyedBuilder, KeyedItems, Refused};

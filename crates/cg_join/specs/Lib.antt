@@ -34,6 +34,8 @@ pub mod Line
 pub mod LineLaws
 pub mod Lines
 pub mod LinesLaws
+pub mod LinesState
+pub mod LinesStateLaws
 pub mod Mapped
 pub mod MappedLaws
 pub mod MaxLaws

@@ -1,6 +1,6 @@
--- What was taken, among keys, and items in their places.
+-- What was taken, among keys, and items one by one.
 use Rattle.std.proofs.Common.{◌≡◌, ℕ, ◌<◌, ◌+◌, Bool, true, false, ◌&&◌, ◌||◌, nat_lt, nat_eq, lt-ltb, eqb-true, List, [], ◌∷◌, ◌++◌, map, length, take, get_or, refl, sym, ◌∙◌, ap, arith}
-use Rattle.std.proofs.lemmas.List.{map-append, map-id, take_more}
+use Rattle.std.proofs.lemmas.List.{map-id, take_more}
 use Rattle.std.specs.Cmp.Lexicographic.{pointwise}
 use Rattle.cg_text.specs.WordState.{is_taken}
 use Rattle.cg_index.specs.Keyed.{is_among}
@@ -24,9 +24,9 @@ pub taken_none : (taken : List ℕ) (keys : List (List ℕ)) → true ≡ nat_eq
 taken_none [] keys h = taken_is [] keys
 taken_none (b ∷ taken) keys h = absurd (omega (arith, eqb-true (length (b ∷ taken)) 0 (sym h)))
 
--- One more item in its place.
-pub one_more : {X V : Type 0} (item : X → V) (xs : List X) (i : ℕ) (x : X) → i < length xs → get_or xs i x ≡ x → map item (take (i + 1) xs) ≡ map item (take i xs) ++ item x ∷ []
-one_more item xs i x lt at = ap (map item) (take_more xs i x lt ∙ ap (λ y. take i xs ++ y ∷ []) at) ∙ map-append item (take i xs) (x ∷ [])
+-- One more item.
+pub one_more : {X : Type 0} (xs : List X) (i : ℕ) (x : X) → i < length xs → get_or xs i x ≡ x → take (i + 1) xs ≡ take i xs ++ x ∷ []
+one_more xs i x lt at = take_more xs i x lt ∙ ap (λ y. take i xs ++ y ∷ []) at
 
 -- Keys are their own keys.
 pub any_own : (f : List ℕ → Bool) (keys same : List (List ℕ)) → same ≡ keys → any_value f (map (λ k. k) same) ≡ any_value f keys

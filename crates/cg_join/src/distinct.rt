@@ -9,7 +9,7 @@ ghost use Rattle.cg_text.specs.WordState.{is_taken};
 
 use crate::start::Start;
 use crate::words::{WordStart, has};
-use cg_index::{KeyedBuilder, KeyedItems, Placed};
+use cg_index::{KeyedBuilder, KeyedItems};
 use cg_text::{Key, OutOfMemory, Token, WordText};
 use std::alloc::Global;
 use std::mem;
@@ -52,24 +52,24 @@ impl DistinctWords {
 }
 
 /// The sum of the lengths of words, and a place for each.
-fn held_in_words(words: &[Placed<Key>]) -> u64
-    ensures { result ≡ told (items_size ⟦<WordText as Token>⟧.value_size (map (λ p. p.item) words.now)) }
+fn held_in_words(words: &[Key]) -> u64
+    ensures { result ≡ told (items_size ⟦<WordText as Token>⟧.value_size words.now) }
 {
     let mut total: u64 = 0;
     for word in words {
         total = total
             .saturating_add(1)
-            .saturating_add(WordText::held_in(word.item()));
+            .saturating_add(WordText::held_in(word));
     }
     total
 }
 
 /// The same, but that the first has no place.
-fn held_in_joined_words(words: &[Placed<Key>]) -> u64
-    ensures { result ≡ told (out_size ⟦<WordText as Token>⟧.value_size (map (λ p. p.item) words.now)) }
+fn held_in_joined_words(words: &[Key]) -> u64
+    ensures { result ≡ told (out_size ⟦<WordText as Token>⟧.value_size words.now) }
 {
     match words.split_first() {
-        Some((first, rest)) => held_in_words(rest).saturating_add(WordText::held_in(first.item())),
+        Some((first, rest)) => held_in_words(rest).saturating_add(WordText::held_in(first)),
         None => 0,
     }
 }
@@ -157,7 +157,7 @@ impl Token for DistinctWords {
     }
 
     fn held_in(value: &KeyedItems<Key>) -> u64 {
-        held_in_joined_words(value.placed())
+        held_in_joined_words(value.items())
     }
 
     ghost completes = { λ s. distinct_completes (⟦<WordText as Token>⟧.means s.current)

@@ -1,9 +1,10 @@
 //! Lines: any number of a token, each with an ending byte.
-ghost use Rattle.std.specs.Prelude.{◌≡◌, ◌+◌, ◌<◌, true, false, not, IsFalse};
+ghost use Rattle.std.specs.Prelude.{◌≡◌, ◌+◌, ◌<◌, ◌↔◌, ℕ, List, true, false, not, IsFalse};
 ghost use Rattle.cg_text.specs.Token.{Spells, told};
 ghost use Rattle.cg_join.specs.Repeat.{items_size};
 ghost use Rattle.cg_join.specs.Line.{LacksByte};
 ghost use Rattle.cg_join.specs.Lines.{AreLines, AreLinesAfter};
+ghost use Rattle.cg_join.specs.LinesState.{at_hand};
 
 use crate::run::run_parts;
 use crate::start::Start;
@@ -13,7 +14,8 @@ use cg_text::{Items, OutOfMemory, Token, make_room};
 use std::alloc::Global;
 use std::mem;
 
-/// Any number of a token, also none, each with a byte after it that none of its texts has.
+/// Any number of a token, also none, each with a byte after it that none of its texts has. The token `current` counts only
+/// where a line is begun.
 #[derive(Drop)]
 pub struct Lines<T: Token, S: Start<T>> {
     start: S,
@@ -27,6 +29,17 @@ pub struct Lines<T: Token, S: Start<T>> {
     ghost starts: { LacksByte (S.texts start) end },
     ghost small: { end < 256 },
     ghost fresh: { IsFalse begun → T.size current ≡ 0 },
+}
+
+/// Makes the token at hand anew where no line is begun.
+fn renew<T: Token, S: Start<T>>(current: &mut T, start: &S, begun: bool)
+    requires { IsFalse begun → T.size current.old ≡ 0 }
+    ensures is { (rest : List ℕ) (v : T.Out) → T.means current.new rest v ↔ at_hand begun (T.means current.old) (S.texts start.now) rest v }
+    ensures size { T.size current.new ≡ T.size current.old }
+{
+    if !begun {
+        *current = start.start();
+    }
 }
 
 impl<T: Token, S: Start<T>> Lines<T, S> {
@@ -51,11 +64,11 @@ impl<T: Token, S: Start<T>> Lines<T, S> {
 impl<T: Token, S: Start<T>> Token for Lines<T, S> {
     type Out = Items<T::Out>;
 
-    ghost use Rattle.cg_join.specs.ByteLaws.{lines_bytes};
     ghost use Rattle.cg_join.specs.RepeatLaws.{true_not_false};
-    ghost use Rattle.cg_join.specs.LinesLaws.{lines_completes, lines_ends, lines_after_one};
+    ghost use Rattle.cg_join.specs.LinesLaws.{lines_ends};
+    ghost use Rattle.cg_join.specs.LinesStateLaws.{hand_completes, hand_after_one, hand_bytes};
 
-    ghost means = { λ s rest all. AreLinesAfter s.items.items s.begun (T.means s.current) (S.texts s.start) s.end rest all };
+    ghost means = { λ s rest all. AreLinesAfter s.items.items s.begun (at_hand s.begun (T.means s.current) (S.texts s.start)) (S.texts s.start) s.end rest all };
 
     ghost size = { λ s. items_size T.value_size s.items.items + T.size s.current };
 
@@ -66,6 +79,7 @@ impl<T: Token, S: Start<T>> Token for Lines<T, S> {
     ghost grows = { true };
 
     fn step(&mut self, byte: u8) -> Result<bool, OutOfMemory> {
+        renew(&mut self.current, &self.start, self.begun);
         if byte != self.end {
             return match self.current.step(byte) {
                 Ok(true) => {
@@ -94,6 +108,7 @@ impl<T: Token, S: Start<T>> Token for Lines<T, S> {
     }
 
     fn run(&mut self, bytes: &[u8]) -> usize {
+        renew(&mut self.current, &self.start, self.begun);
         let count = run_parts(&mut self.current, bytes);
         if count > 0 {
             self.begun = true;
@@ -102,6 +117,13 @@ impl<T: Token, S: Start<T>> Token for Lines<T, S> {
     }
 
     fn allows(&self, byte: u8) -> bool {
+        if !self.begun {
+            let token = self.start.start();
+            if byte == self.end {
+                return token.can_end();
+            }
+            return token.allows(byte);
+        }
         if byte == self.end {
             return self.current.can_end();
         }
@@ -124,23 +146,24 @@ impl<T: Token, S: Start<T>> Token for Lines<T, S> {
         held_in_all::<T>(value.as_slice())
     }
 
-    ghost completes = { λ s. lines_completes s.end (T.means s.current) (S.texts s.start) s.items.items s.begun (T.completes s.current) };
+    ghost completes = { λ s. hand_completes (T.means s.current) (S.texts s.start) s.end s.items.items s.begun (T.completes s.current) };
 
     ghost no_size = { λ e s. absurd (true_not_false e) };
 
-    ghost ends_is = { λ s. lines_ends s.end (T.means s.current) (S.texts s.start) s.items.items s.begun };
+    ghost ends_is = { λ s. lines_ends s.end (at_hand s.begun (T.means s.current) (S.texts s.start)) (S.texts s.start) s.items.items s.begun };
 
-    ghost one_value = { λ s. lines_after_one s.end (T.means s.current) (S.texts s.start) s.items.items s.begun s.lacks s.starts (T.one_value s.current) (S.one_text s.start) };
+    ghost one_value = { λ s. hand_after_one (T.means s.current) (S.texts s.start) s.end s.items.items s.begun s.lacks s.starts (T.one_value s.current) (S.one_text s.start) };
 
-    ghost holds_bytes = { λ s rest all h. lines_bytes (T.means s.current) (S.texts s.start) s.end s.small (T.holds_bytes s.current) (S.text_bytes s.start) s.begun rest h.0 h.2 };
+    ghost holds_bytes = { λ s rest all h. hand_bytes (T.means s.current) (S.texts s.start) s.end s.small (T.holds_bytes s.current) (S.text_bytes s.start) s.begun rest h.0 h.2 };
 }
 
 impl<T: Token, S: Start<T>> WholeLines for Lines<T, S> {
     fn take_line(&mut self, line: &[u8], end: u8) -> bool {
-        if end != self.end {
+        if end != self.end || self.begun {
             return false;
         }
-        let (value, count) = match self.current.whole(line) {
+        let token = self.start.start();
+        let (value, count) = match token.whole(line) {
             Some(found) => found,
             None => return false,
         };
@@ -150,8 +173,6 @@ impl<T: Token, S: Start<T>> WholeLines for Lines<T, S> {
         let new_size = T::held_in(&value);
         put(&mut self.items, value);
         self.items_held = self.items_held.saturating_add(1).saturating_add(new_size);
-        self.current = self.start.start();
-        self.begun = false;
         true
     }
 }

@@ -6,7 +6,7 @@ ghost use Rattle.cg_join.specs.Repeat.{items_size};
 
 use crate::collection::Collection;
 use crate::words::has;
-use cg_index::{HasKey, KeyedBuilder, KeyedItems, Placed};
+use cg_index::{HasKey, KeyedBuilder, KeyedItems};
 use cg_text::{Key, OutOfMemory, Token, WordText};
 use std::alloc::Global;
 use std::marker::PhantomData;
@@ -72,12 +72,11 @@ impl<V: Token, F: MakePair<V>> PairList<V, F> {
 }
 
 /// The sum of the lengths of the vectors in pairs, and a place for each.
-fn held_in_made<V: Token, F: MakePair<V>>(pairs: &[Placed<F::Pair>]) -> u64
-    ensures { result ≡ told (items_size (pair_size F.key_of F.value_of ⟦<WordText as Token>⟧.value_size V.value_size) (map (λ p. p.item) pairs.now)) }
+fn held_in_made<V: Token, F: MakePair<V>>(pairs: &[F::Pair]) -> u64
+    ensures { result ≡ told (items_size (pair_size F.key_of F.value_of ⟦<WordText as Token>⟧.value_size V.value_size) pairs.now) }
 {
     let mut total: u64 = 0;
-    for placed in pairs {
-        let pair = placed.item();
+    for pair in pairs {
         let new_size = WordText::held_in(pair.key()).saturating_add(V::held_in(F::value(pair)));
         total = total.saturating_add(1).saturating_add(new_size);
     }
@@ -138,7 +137,7 @@ impl<V: Token, F: MakePair<V>> Collection<V> for PairList<V, F> {
     }
 
     fn held_in(out: &KeyedItems<F::Pair>) -> u64 {
-        held_in_made::<V, F>(out.placed())
+        held_in_made::<V, F>(out.items())
     }
 
     ghost use Rattle.cg_join.specs.KeyedLaws.{one_few};

@@ -9,7 +9,7 @@ ghost use Rattle.cg_join.specs.PairsState.{IsCompleted};
 
 use crate::start::Start;
 use crate::words::has;
-use cg_index::{Change, HasKey, KeyedBuilder, Placed};
+use cg_index::{Change, HasKey, KeyedBuilder};
 use cg_text::{Key, Token, WordText};
 use std::marker::PhantomData;
 use std::mem;
@@ -97,12 +97,11 @@ pub(crate) fn complete_last<V: Token, F: Pairing<V>>(
 }
 
 /// The sum of the lengths of the vectors in pairs, and a place for each.
-pub(crate) fn held_in_pairs<V: Token, F: Pairing<V>>(items: &[Placed<F::Pair>]) -> u64
-    ensures { result ≡ told (items_size (pair_size F.word_of F.value_of ⟦<WordText as Token>⟧.value_size V.value_size) (map (λ p. p.item) items.now)) }
+pub(crate) fn held_in_pairs<V: Token, F: Pairing<V>>(items: &[F::Pair]) -> u64
+    ensures { result ≡ told (items_size (pair_size F.word_of F.value_of ⟦<WordText as Token>⟧.value_size V.value_size) items.now) }
 {
     let mut total: u64 = 0;
-    for placed in items {
-        let pair = placed.item();
+    for pair in items {
         let new_size = WordText::held_in(pair.key()).saturating_add(V::held_in(F::value(pair)));
         total = total.saturating_add(1).saturating_add(new_size);
     }

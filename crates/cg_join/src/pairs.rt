@@ -19,6 +19,12 @@ use cg_text::{OutOfMemory, Token, WordText};
 use std::alloc::Global;
 use std::marker::PhantomData;
 
+/// A pair with its separator mostly has this many bytes or more.
+const PAIR: usize = 10;
+
+/// For how many pairs there is room at most before they come.
+const ROOM: usize = 16;
+
 /// How far the pair at hand is.
 #[derive(Clone, Copy)]
 pub enum Stage {
@@ -185,7 +191,7 @@ impl<V: Token, B: Start<V>, F: Pairing<V>> DistinctPairs<V, B, F> {
     {
         match self.stage {
             Stage::Before => false,
-            Stage::InWord => self.items.placed().is_empty(),
+            Stage::InWord => self.items.items().is_empty(),
             Stage::InValue => false,
         }
     }
@@ -277,7 +283,9 @@ impl<V: Token, B: Start<V>, F: Pairing<V>> Token for DistinctPairs<V, B, F> {
             Some(found) => found,
             None => return None,
         };
-        let mut items = KeyedItems::new(self.words.alloc());
+        // Room for all pairs at once, where they are few.
+        let room = (bytes.len() / PAIR).min(ROOM);
+        let mut items = KeyedItems::with_room(self.words.alloc(), room);
         if items.push(pair).is_err() {
             return None;
         }
@@ -344,7 +352,7 @@ impl<V: Token, B: Start<V>, F: Pairing<V>> Token for DistinctPairs<V, B, F> {
     }
 
     fn held_in(value: &KeyedItems<F::Pair>) -> u64 {
-        held_in_pairs::<V, F>(value.placed())
+        held_in_pairs::<V, F>(value.items())
     }
 
     ghost completes = { λ s. state_completes F.word_of F.value_of F.paired F.has_word F.has_value s.items.items

@@ -9,7 +9,6 @@ ghost use Rattle.cg_json.specs.Json.{array_of, keyed};
 
 use crate::json::{Json, Member};
 use crate::text::append_key;
-use cg_index::Placed;
 use cg_text::OutOfMemory;
 use serde_json::Value;
 use std::alloc::Global;
@@ -20,6 +19,15 @@ pub(crate) fn append_bytes(out: &mut Vec<u8>, bytes: &[u8]) -> Result<(), OutOfM
     ensures kept { OnErr result (out.new.items ≡ out.old.items) }
 {
     out.extend_from_slice(bytes)?;
+    Ok(())
+}
+
+/// Adds a byte.
+#[inline]
+pub(crate) fn append_byte(out: &mut Vec<u8>, byte: u8) -> Result<(), OutOfMemory>
+    ensures { OnOk result (out.new.items ≡ out.old.items ++ byte ∷ []) }
+{
+    out.push(byte)?;
     Ok(())
 }
 
@@ -49,7 +57,8 @@ fn append_led<T: Json>(out: &mut Vec<u8>, values: &[T]) -> Result<(), OutOfMemor
     ensures { OnOk result (out.new.items ≡ out.old.items ++ led (λ x. compact_text (T.tree_of x)) values.now) }
 {
     for value in values {
-        append_labelled(out, b",", value)?;
+        append_byte(out, b',')?;
+        value.append_to(out)?;
     }
     Ok(())
 }
@@ -71,20 +80,9 @@ fn append_joined<T: Json>(out: &mut Vec<u8>, values: &[T]) -> Result<(), OutOfMe
 pub(crate) fn append_array<T: Json>(out: &mut Vec<u8>, items: &[T]) -> Result<(), OutOfMemory>
     ensures { OnOk result (out.new.items ≡ out.old.items ++ compact_text (array_of T.tree_of items.now)) }
 {
-    append_bytes(out, b"[")?;
+    append_byte(out, b'[')?;
     append_joined(out, items)?;
-    append_bytes(out, b"]")
-}
-
-/// Adds the array of items in their places.
-pub(crate) fn append_placed_array<T: Json>(
-    out: &mut Vec<u8>,
-    placed: &[Placed<T>],
-) -> Result<(), OutOfMemory>
-    ensures { OnOk result (out.new.items ≡ out.old.items
-        ++ compact_text (array_of T.tree_of (map (λ p. p.item) placed.now))) }
-{
-    append_array(out, placed)
+    append_byte(out, b']')
 }
 
 /// Adds a member: its key, a colon and its value.
@@ -92,7 +90,8 @@ fn append_member<T: Member>(out: &mut Vec<u8>, member: &T) -> Result<(), OutOfMe
     ensures { OnOk result (out.new.items ≡ out.old.items ++ member_text T.key_of T.tree_of member.now) }
 {
     append_key(out, member.key())?;
-    append_labelled(out, b":", member)
+    append_byte(out, b':')?;
+    member.append_to(out)
 }
 
 /// Adds members, each with a comma before it.
@@ -100,7 +99,7 @@ fn append_led_members<T: Member>(out: &mut Vec<u8>, members: &[T]) -> Result<(),
     ensures { OnOk result (out.new.items ≡ out.old.items ++ led (member_text T.key_of T.tree_of) members.now) }
 {
     for member in members {
-        append_bytes(out, b",")?;
+        append_byte(out, b',')?;
         append_member(out, member)?;
     }
     Ok(())
@@ -124,9 +123,9 @@ fn append_listed<T: Member>(out: &mut Vec<u8>, members: &[T]) -> Result<(), OutO
     ensures { OnOk result (out.new.items ≡ out.old.items
         ++ compact_text (object (listed T.key_of T.tree_of members.now))) }
 {
-    append_bytes(out, b"{")?;
+    append_byte(out, b'{')?;
     append_joined_members(out, members)?;
-    append_bytes(out, b"}")
+    append_byte(out, b'}')
 }
 
 /// Whether the keys are all different, and in the order of their bytes.
@@ -168,16 +167,4 @@ pub(crate) fn append_object<T: Member>(out: &mut Vec<u8>, members: &[T]) -> Resu
     }
     let order = sorted(*out.allocator(), members)?;
     append_listed(out, order.as_slice())
-}
-
-/// Adds the object of members in their places, whose keys are all different.
-pub(crate) fn append_placed_object<T: Member>(
-    out: &mut Vec<u8>,
-    placed: &[Placed<T>],
-) -> Result<(), OutOfMemory>
-    requires { AreDistinct (map T.key_of (map (λ p. p.item) placed.now)) }
-    ensures { OnOk result (out.new.items ≡ out.old.items
-        ++ compact_text (keyed T.key_of T.tree_of (map (λ p. p.item) placed.now))) }
-{
-    append_object(out, placed)
 }

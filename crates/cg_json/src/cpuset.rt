@@ -4,7 +4,7 @@ ghost use Rattle.serde_json.specs.View.{view};
 ghost use Rattle.serde_json.specs.Written.{compact_text};
 ghost use Rattle.cg_json.specs.Json.{range_data, partition_data, cpu_max_data};
 
-use crate::compact::{append_bytes, append_labelled};
+use crate::compact::{append_byte, append_bytes, append_labelled};
 use crate::json::Json;
 use cg_text::{Items, Limit, OutOfMemory};
 use cg_value::Role;
@@ -25,9 +25,11 @@ impl Json for (u32, u32) {
 
     fn append_to(&self, out: &mut Vec<u8>) -> Result<(), OutOfMemory> {
         let (first, last) = self;
-        append_labelled(out, b"[", first)?;
-        append_labelled(out, b",", last)?;
-        append_bytes(out, b"]")
+        append_byte(out, b'[')?;
+        first.append_to(out)?;
+        append_byte(out, b',')?;
+        last.append_to(out)?;
+        append_byte(out, b']')
     }
 }
 
@@ -86,5 +88,5 @@ pub(crate) fn append_cpu_max(
 {
     append_labelled(out, b"{\"period\":", &period)?;
     append_labelled(out, b",\"quota\":", &quota)?;
-    append_bytes(out, b"}")
+    append_byte(out, b'}')
 }

@@ -4,8 +4,8 @@ ghost use Rattle.serde_json.specs.View.{view};
 ghost use Rattle.serde_json.specs.Written.{compact_text};
 ghost use Rattle.cg_json.specs.Json.{stat_data, limits_data, weight_data, target_data, weights_data};
 
-use crate::compact::{append_array, append_bytes, append_labelled, append_placed_object};
-use crate::json::{Json, array, placed_object};
+use crate::compact::{append_array, append_byte, append_bytes, append_labelled, append_object};
+use crate::json::{Json, array, object};
 use cg_text::OutOfMemory;
 use cg_value::{LimitLine, StatLine, TargetLine, WeightLine};
 use serde_json::{Map, Value};
@@ -18,20 +18,15 @@ impl Json for StatLine {
     fn json(&self, alloc: Global) -> Result<Value, OutOfMemory> {
         let mut map = Map::new(alloc);
         serde_json::put(&mut map, alloc, "device", self.device.json(alloc)?)?;
-        serde_json::put(
-            &mut map,
-            alloc,
-            "stats",
-            placed_object(alloc, self.pairs.placed())?,
-        )?;
+        serde_json::put(&mut map, alloc, "stats", object(alloc, self.pairs.items())?)?;
         Ok(Value::Object(map))
     }
 
     fn append_to(&self, out: &mut Vec<u8>) -> Result<(), OutOfMemory> {
         append_labelled(out, b"{\"device\":", &self.device)?;
         append_bytes(out, b",\"stats\":")?;
-        append_placed_object(out, self.pairs.placed())?;
-        append_bytes(out, b"}")
+        append_object(out, self.pairs.items())?;
+        append_byte(out, b'}')
     }
 }
 
@@ -55,7 +50,7 @@ impl Json for LimitLine {
         append_labelled(out, b",\"riops\":", &self.riops)?;
         append_labelled(out, b",\"wbps\":", &self.wbps)?;
         append_labelled(out, b",\"wiops\":", &self.wiops)?;
-        append_bytes(out, b"}")
+        append_byte(out, b'}')
     }
 }
 
@@ -73,7 +68,7 @@ impl Json for WeightLine {
     fn append_to(&self, out: &mut Vec<u8>) -> Result<(), OutOfMemory> {
         append_labelled(out, b"{\"device\":", &self.device)?;
         append_labelled(out, b",\"weight\":", &self.weight)?;
-        append_bytes(out, b"}")
+        append_byte(out, b'}')
     }
 }
 
@@ -91,7 +86,7 @@ impl Json for TargetLine {
     fn append_to(&self, out: &mut Vec<u8>) -> Result<(), OutOfMemory> {
         append_labelled(out, b"{\"device\":", &self.device)?;
         append_labelled(out, b",\"target\":", &self.target)?;
-        append_bytes(out, b"}")
+        append_byte(out, b'}')
     }
 }
 
@@ -120,5 +115,5 @@ pub(crate) fn append_weights(
     append_labelled(out, b"{\"default\":", &default)?;
     append_bytes(out, b",\"devices\":")?;
     append_array(out, lines)?;
-    append_bytes(out, b"}")
+    append_byte(out, b'}')
 }

@@ -6,7 +6,6 @@ ghost use Rattle.serde_json.specs.Written.{compact_text};
 ghost use Rattle.cg_json.specs.Json.{array_of, keyed};
 
 use crate::text::key_text;
-use cg_index::Placed;
 use cg_text::{Key, OutOfMemory};
 use serde_json::{Map, Value};
 use std::alloc::Global;
@@ -33,27 +32,6 @@ pub(crate) trait Member: Json {
     /// The key.
     fn key(&self) -> &Key
         ensures { result.now ≡ key_of self.now };
-}
-
-/// The tree of what lies in the place.
-impl<T: Json> Json for Placed<T> {
-    ghost tree_of = { λ placed. T.tree_of placed.item };
-
-    fn json(&self, alloc: Global) -> Result<Value, OutOfMemory> {
-        self.item().json(alloc)
-    }
-
-    fn append_to(&self, out: &mut Vec<u8>) -> Result<(), OutOfMemory> {
-        self.item().append_to(out)
-    }
-}
-
-impl<T: Member> Member for Placed<T> {
-    ghost key_of = { λ placed. T.key_of placed.item };
-
-    fn key(&self) -> &Key {
-        self.item().key()
-    }
 }
 
 /// The tree of what is referred to.
@@ -98,24 +76,4 @@ pub(crate) fn object<T: Member>(alloc: Global, members: &[T]) -> Result<Value, O
         serde_json::put(&mut map, alloc, key, member.json(alloc)?)?;
     }
     Ok(Value::Object(map))
-}
-
-/// The array of the trees of items in their places.
-pub(crate) fn placed_array<T: Json>(
-    alloc: Global,
-    placed: &[Placed<T>],
-) -> Result<Value, OutOfMemory>
-    ensures { IfOk result (λ tree. view tree ≡ array_of T.tree_of (map (λ p. p.item) placed.now)) }
-{
-    array(alloc, placed)
-}
-
-/// The object of members in their places.
-pub(crate) fn placed_object<T: Member>(
-    alloc: Global,
-    placed: &[Placed<T>],
-) -> Result<Value, OutOfMemory>
-    ensures { IfOk result (λ tree. view tree ≡ keyed T.key_of T.tree_of (map (λ p. p.item) placed.now)) }
-{
-    object(alloc, placed)
 }

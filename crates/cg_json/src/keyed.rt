@@ -1,8 +1,8 @@
 //! Pairs of a key and a number, and lines of such pairs.
 ghost use Rattle.cg_json.specs.Json.{number_data, amount_data, nested_data};
 
-use crate::compact::append_placed_object;
-use crate::json::{Json, Member, placed_object};
+use crate::compact::append_object;
+use crate::json::{Json, Member, object};
 use cg_text::{Key, OutOfMemory};
 use cg_value::{FlatPair, NestedLine, NestedPair, StatPair};
 use serde_json::Value;
@@ -76,11 +76,11 @@ impl Json for NestedLine {
     ghost tree_of = { nested_data };
 
     fn json(&self, alloc: Global) -> Result<Value, OutOfMemory> {
-        placed_object(alloc, self.pairs.placed())
+        object(alloc, self.pairs.items())
     }
 
     fn append_to(&self, out: &mut Vec<u8>) -> Result<(), OutOfMemory> {
-        append_placed_object(out, self.pairs.placed())
+        append_object(out, self.pairs.items())
     }
 }
 

@@ -4,7 +4,7 @@ ghost use Rattle.serde_json.specs.View.{view};
 ghost use Rattle.serde_json.specs.Written.{compact_text};
 ghost use Rattle.cg_json.specs.Json.{averages_data, pressure_data};
 
-use crate::compact::{append_bytes, append_labelled};
+use crate::compact::{append_byte, append_labelled};
 use crate::json::Json;
 use cg_text::OutOfMemory;
 use cg_value::Averages;
@@ -29,7 +29,7 @@ impl Json for Averages {
         append_labelled(out, b",\"avg300\":", &self.avg300)?;
         append_labelled(out, b",\"avg60\":", &self.avg60)?;
         append_labelled(out, b",\"total\":", &self.total)?;
-        append_bytes(out, b"}")
+        append_byte(out, b'}')
     }
 }
 
@@ -57,5 +57,5 @@ pub(crate) fn append_pressure(
 {
     append_labelled(out, b"{\"full\":", &full)?;
     append_labelled(out, b",\"some\":", &some)?;
-    append_bytes(out, b"}")
+    append_byte(out, b'}')
 }

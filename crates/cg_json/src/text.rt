@@ -6,7 +6,7 @@ ghost use Rattle.serde_json.specs.Written.{compact_text};
 ghost use Rattle.cg_json.specs.Compact.{led, joined, ArePlain, IsPlainByte};
 ghost use Rattle.cg_json.specs.Json.{array_of, text_data};
 
-use crate::compact::{append_bytes, append_tree};
+use crate::compact::{append_byte, append_tree};
 use crate::json::{Json, array};
 use cg_text::{Items, Key, OutOfMemory};
 use cg_value::{LinesIn, RawLines};
@@ -62,12 +62,12 @@ fn is_plain_byte(byte: u8) -> bool
 fn is_plain(bytes: &[u8]) -> bool
     ensures { IsTrue result → ArePlain bytes.now }
 {
+    let mut plain = true;
     for byte in bytes {
-        if !is_plain_byte(*byte) {
-            return false;
-        }
+        // No byte ends the loop, so that many can be looked at in one step.
+        plain &= is_plain_byte(*byte);
     }
-    true
+    plain
 }
 
 /// Adds the string of bytes that stand for themselves.
@@ -75,9 +75,11 @@ fn append_plain(out: &mut Vec<u8>, bytes: &[u8]) -> Result<(), OutOfMemory>
     requires { ArePlain bytes.now }
     ensures { OnOk result (out.new.items ≡ out.old.items ++ compact_text (string bytes.now)) }
 {
-    append_bytes(out, b"\"")?;
-    append_bytes(out, bytes)?;
-    append_bytes(out, b"\"")
+    out.try_reserve(bytes.len() + 2)?;
+    out.push_reserved(b'"');
+    out.extend_from_slice(bytes)?;
+    out.push_reserved(b'"');
+    Ok(())
 }
 
 /// Adds the string of this text.
@@ -117,7 +119,7 @@ fn append_led_texts(out: &mut Vec<u8>, lines: LinesIn<'_>) -> Result<(), OutOfMe
     ensures { OnOk result (out.new.items ≡ out.old.items ++ led (λ x. compact_text (text_data x)) lines.entry) }
 {
     for line in lines {
-        append_bytes(out, b",")?;
+        append_byte(out, b',')?;
         append_text(out, line)?;
     }
     Ok(())
@@ -141,9 +143,9 @@ fn append_joined_texts(out: &mut Vec<u8>, lines: &RawLines) -> Result<(), OutOfM
 pub(crate) fn append_texts(out: &mut Vec<u8>, lines: &RawLines) -> Result<(), OutOfMemory>
     ensures { OnOk result (out.new.items ≡ out.old.items ++ compact_text (array_of text_data lines.now)) }
 {
-    append_bytes(out, b"[")?;
+    append_byte(out, b'[')?;
     append_joined_texts(out, lines)?;
-    append_bytes(out, b"]")
+    append_byte(out, b']')
 }
 
 impl Json for Key {

@@ -3,7 +3,7 @@ ghost use Rattle.serde_json.specs.Data.{string};
 ghost use Rattle.cg_value.specs.ReadLine.{mode_text, role_text};
 ghost use Rattle.cg_json.specs.Json.{number_data, signed_data, limit_data, hundredths_data, clamp_data, amount_data, device_data, given_data};
 
-use crate::compact::{append_bytes, append_labelled};
+use crate::compact::{append_byte, append_bytes, append_labelled};
 use crate::json::Json;
 use crate::text::{append_string, string};
 use cg_text::{Amount, Clamp, Device, Hundredths, Limit, OutOfMemory};
@@ -136,7 +136,7 @@ impl Json for Amount {
             Amount::Whole(number) => number.append_to(out),
             Amount::Decimal(hundredths) => {
                 append_labelled(out, b"{\"hundredths\":", hundredths)?;
-                append_bytes(out, b"}")
+                append_byte(out, b'}')
             }
             Amount::Max => append_string(out, "max"),
         }
@@ -153,9 +153,11 @@ impl Json for Device {
 
     fn append_to(&self, out: &mut Vec<u8>) -> Result<(), OutOfMemory> {
         let Device { major, minor } = *self;
-        append_labelled(out, b"\"", &major)?;
-        append_labelled(out, b":", &minor)?;
-        append_bytes(out, b"\"")
+        append_byte(out, b'"')?;
+        major.append_to(out)?;
+        append_byte(out, b':')?;
+        minor.append_to(out)?;
+        append_byte(out, b'"')
     }
 }
 

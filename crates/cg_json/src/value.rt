@@ -2,10 +2,10 @@
 ghost use Rattle.std.specs.Prelude.{◌≡◌};
 ghost use Rattle.cg_json.specs.Value.{kind_word, value_data};
 
-use crate::compact::{append_array, append_object, append_placed_array, append_placed_object};
+use crate::compact::{append_array, append_object};
 use crate::cpuset::{append_cpu_max, append_partition, cpu_max, partition};
 use crate::devices::{append_weights, weights};
-use crate::json::{Json, array, object, placed_array, placed_object};
+use crate::json::{Json, array, object};
 use crate::pressure::{append_pressure, pressure};
 use crate::text::{append_texts, texts};
 use cg_text::OutOfMemory;
@@ -51,7 +51,7 @@ impl Json for Value {
             Value::CpuMax { quota, period } => cpu_max(alloc, *quota, *period),
             Value::Clamp(clamp) => clamp.json(alloc),
             Value::Numbers(numbers) => array(alloc, numbers.as_slice()),
-            Value::Words(words) => placed_array(alloc, words.placed()),
+            Value::Words(words) => array(alloc, words.items()),
             Value::Flat(flat) => object(alloc, flat.pairs()),
             Value::DeviceStats(lines) => array(alloc, lines.as_slice()),
             Value::DeviceLimits(lines) => array(alloc, lines.as_slice()),
@@ -64,7 +64,7 @@ impl Json for Value {
                 reason,
             } => partition(alloc, *role, *valid, reason),
             Value::Pressure { some, full } => pressure(alloc, *some, *full),
-            Value::Nested(lines) => placed_object(alloc, lines.placed()),
+            Value::Nested(lines) => object(alloc, lines.items()),
             Value::Raw(lines) => texts(alloc, lines),
         }
     }
@@ -78,7 +78,7 @@ impl Json for Value {
             Value::CpuMax { quota, period } => append_cpu_max(out, *quota, *period),
             Value::Clamp(clamp) => clamp.append_to(out),
             Value::Numbers(numbers) => append_array(out, numbers.as_slice()),
-            Value::Words(words) => append_placed_array(out, words.placed()),
+            Value::Words(words) => append_array(out, words.items()),
             Value::Flat(flat) => append_object(out, flat.pairs()),
             Value::DeviceStats(lines) => append_array(out, lines.as_slice()),
             Value::DeviceLimits(lines) => append_array(out, lines.as_slice()),
@@ -95,7 +95,7 @@ impl Json for Value {
                 reason,
             } => append_partition(out, *role, *valid, reason),
             Value::Pressure { some, full } => append_pressure(out, *some, *full),
-            Value::Nested(lines) => append_placed_object(out, lines.placed()),
+            Value::Nested(lines) => append_object(out, lines.items()),
             Value::Raw(lines) => append_texts(out, lines),
         }
     }

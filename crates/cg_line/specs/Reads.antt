@@ -34,11 +34,6 @@ IsPushed r kind taken byte (Ok u) = Reads r kind (taken ++ byte ∷ [])
 IsPushed r kind taken byte (Err Refused) = Reads r kind taken × (Next (KindFile kind) taken byte → ⊥)
 IsPushed r kind taken byte (Err OutOfMemory) = Reads r kind taken × Next (KindFile kind) taken byte
 
--- What a pushed line and its newline leave: they were taken, or nothing was.
-abbrev pub IsPushedLine : ValueReader → ReadForm → List ℕ → List ℕ → Bool → Type 0
-IsPushedLine r kind taken line true = Reads r kind (taken ++ (line ++ 10 ∷ []))
-IsPushedLine r kind taken line false = Reads r kind taken
-
 pub reads_viable : (r : ValueReader) (kind : ReadForm) (taken : List ℕ) → Reads r kind taken → Viable (KindFile kind) taken
 unfolding Reads
 reads_viable r kind taken h = h.rests.viable

@@ -16,10 +16,6 @@ StopsAt L taken bytes used None = ((used ≡ length bytes) × Lacks 10 bytes) �
 StopsAt L taken bytes used (Some Refused) = (used < length bytes) × Lacks 10 (take used bytes) × (Next L (taken ++ take used bytes) (get_or bytes used 0) → ⊥)
 StopsAt L taken bytes used (Some OutOfMemory) = (used < length bytes) × Lacks 10 (take used bytes) × Next L (taken ++ take used bytes) (get_or bytes used 0)
 
--- The bytes begin with a line and its newline: so many bytes.
-abbrev pub IsLineFront : List ℕ → ℕ → Type 0
-IsLineFront bytes used = (line : List ℕ) × (take used bytes ≡ line ++ 10 ∷ []) × Lacks 10 line
-
 -- Where a run of bytes of a file of the kind ends.
 abbrev pub RunStops : ReadForm → List ℕ → List ℕ → ℕ → Option PushFault → Type 0
 RunStops kind = StopsAt (KindFile kind)

@@ -1,7 +1,8 @@
 //! Readers of one file.
-ghost use Rattle.std.specs.Prelude.{◌≡◌, ◌≤◌, ◌<◌, ◌+◌, ◌↔◌, ℕ, List, [], ◌++◌, length, take, MatchResult, IsTrue, IsFalse, IfNone, OnErr};
+ghost use Rattle.std.specs.Prelude.{◌≡◌, ◌≤◌, ◌<◌, ◌+◌, ◌↔◌, ℕ, List, [], ◌++◌, length, take, MatchResult, IsTrue, IfNone, OnErr};
 ghost use Rattle.cg_text.specs.Bytes.{HasByte};
-ghost use Rattle.cg_text.specs.Texts.{Next, Lacks};
+ghost use Rattle.cg_file.specs.Front.{IsLineFront};
+ghost use Rattle.cg_text.specs.Texts.{Lacks, Next};
 ghost use Rattle.cg_text.specs.Token.{told};
 ghost use Rattle.cg_value.specs.Files.{ReadLines, KindText, KindFile};
 ghost use Rattle.cg_value.specs.Lines.{unlines};
@@ -16,7 +17,6 @@ use crate::push::{PushFault, push_to};
 use cg_file::FileText;
 use cg_text::{ByteSet, Token};
 use cg_value::{ReadKind, Value};
-use memchr::memchr;
 use std::alloc::Global;
 
 /// A reader of the text of one file, which takes line bytes and newlines.
@@ -42,8 +42,8 @@ pub struct ReaderCut {
 }
 
 impl ValueReader {
-    ghost use Rattle.cg_line.specs.Reads.{Reads, IsPushed, IsPushedLine, held_by};
-    ghost use Rattle.cg_line.specs.Runs.{IsLineFront, IsPushedRun};
+    ghost use Rattle.cg_line.specs.Reads.{Reads, IsPushed, held_by};
+    ghost use Rattle.cg_line.specs.Runs.{IsPushedRun};
 
     /// A reader of a file of this kind, of which nothing was taken. It takes no memory.
     pub fn new(alloc: Global, kind: ReadKind) -> ValueReader
@@ -87,34 +87,20 @@ impl ValueReader {
         used
     }
 
-    /// Takes a line and the newline after it at once; or leaves the reader as it is, which it may do with any line. Answers
-    /// whether it took them.
-    pub fn push_line(&mut self, line: &[u8]) -> bool
-        ensures pushed { (kind : ReadForm) (taken : List ℕ) → Reads self.old kind taken → IsPushedLine self.new kind taken line.now result }
-        ensures held { held_by self.new ≤ held_by self.old + (length line.now + 1) }
-        ensures same_held { IsFalse result → held_by self.new ≡ held_by self.old }
-    {
-        if !self.text.take_line(line) {
-            return false;
-        }
-        self.place = Place::LineEnd;
-        true
-    }
-
-    /// Takes a whole line with its newline from the front of `bytes`, or nothing, and answers how many bytes it took.
-    fn push_front(&mut self, bytes: &[u8]) -> usize
+    /// Takes a whole line with its newline from the front of `bytes`, where no line is begun; or nothing, which it may do with any
+    /// line. Answers how many bytes it took.
+    pub fn push_front(&mut self, bytes: &[u8]) -> usize
         ensures within { result ≤ length bytes.now }
         ensures line { 0 < result → IsLineFront bytes.now result }
         ensures reads { (kind : ReadForm) (taken : List ℕ) → Reads self.old kind taken → Reads self.new kind (taken ++ take result bytes.now) }
         ensures held { held_by self.new ≤ held_by self.old + result }
         ensures same_held { result ≡ 0 → held_by self.new ≡ held_by self.old }
     {
-        let end = match memchr(b'\n', bytes) {
-            Some(end) => end,
-            None => return 0,
-        };
-        let (line, _) = bytes.split_at(end);
-        if self.push_line(line) { end + 1 } else { 0 }
+        let used = self.text.take_front(bytes);
+        if used > 0 {
+            self.place = Place::LineEnd;
+        }
+        used
     }
 
     /// Takes bytes from the front of `bytes` as `push` would take one after another: until a newline was taken, none is

@@ -32,16 +32,16 @@ pub headed_shown : (path : List ℕ) (lines : List (List ℕ)) → headed (path 
 headed_shown path [] = refl
 headed_shown path (line ∷ lines) = rw (headed_shown path lines, append_assoc path (58 ∷ 32 ∷ []) (line ++ 10 ∷ shown path lines)) refl
 
--- Items in their places, after a space each.
-pub led_is : {X Y : Type 0} (g : Y → X) (f : X → List ℕ) (ys : List Y) → led 32 (λ y. f (g y)) ys ≡ print_led f (map g ys)
-led_is g f [] = refl
-led_is g f (y ∷ ys) = ap (λ t. 32 ∷ (f (g y) ++ t)) (led_is g f ys)
+-- Items, after a space each.
+pub led_is : {X : Type 0} (f : X → List ℕ) (xs : List X) → led 32 f xs ≡ print_led f xs
+led_is f [] = refl
+led_is f (x ∷ xs) = ap (λ t. 32 ∷ (f x ++ t)) (led_is f xs)
 
--- Words in their places, with spaces between.
-pub words_is : {Y : Type 0} (g : Y → List ℕ) (ys : List Y) → joined 32 g ys ≡ words_line (map g ys)
-words_is g [] = refl
-words_is g (y ∷ []) = append-nil (g y)
-words_is g (y ∷ z ∷ ys) = ap (λ t. g y ++ 32 ∷ t) (words_is g (z ∷ ys))
+-- Words with spaces between.
+pub words_is : (ws : List (List ℕ)) → joined 32 (λ w. w) ws ≡ words_line ws
+words_is [] = refl
+words_is (w ∷ []) = append-nil w
+words_is (w ∷ v ∷ ws) = ap (λ t. w ++ 32 ∷ t) (words_is (v ∷ ws))
 
 -- Toggles with spaces between.
 pub toggles_is : (ts : List Toggle) → joined 32 (λ t. sign_of t.on ∷ t.name) ts ≡ toggles_line ts

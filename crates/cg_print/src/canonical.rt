@@ -4,7 +4,7 @@ ghost use Rattle.cg_value.specs.Print.{print_given, print_led};
 ghost use Rattle.cg_print.specs.Joined.{led, joined};
 ghost use Rattle.cg_print.specs.Headed.{headed};
 
-use cg_index::{HasKey, KeyedItems, Placed};
+use cg_index::{HasKey, KeyedItems};
 use cg_text::OutOfMemory;
 
 /// What has a canonical text.
@@ -15,15 +15,6 @@ pub(crate) trait Canonical {
     /// Adds the canonical text.
     fn append_to(&self, out: &mut Vec<u8>) -> Result<(), OutOfMemory>
         ensures { OnOk result (out.new.items ≡ out.old.items ++ printed self.now) };
-}
-
-/// The text of what lies in the place.
-impl<T: Canonical> Canonical for Placed<T> {
-    ghost printed = { λ placed. T.printed placed.item };
-
-    fn append_to(&self, out: &mut Vec<u8>) -> Result<(), OutOfMemory> {
-        self.item().append_to(out)
-    }
 }
 
 /// Adds bytes.
@@ -103,7 +94,7 @@ pub(crate) fn append_keyed_lines<T: Canonical + HasKey>(
 ) -> Result<(), OutOfMemory>
     ensures { OnOk result (out.new.items ≡ out.old.items ++ headed head.now (map T.printed lines.now)) }
 {
-    append_lines(out, head, lines.placed())
+    append_lines(out, head, lines.items())
 }
 
 /// Adds values, each with the mark before it.
@@ -124,7 +115,7 @@ pub(crate) fn append_spaced<T: Canonical + HasKey>(
 ) -> Result<(), OutOfMemory>
     ensures { OnOk result (out.new.items ≡ out.old.items ++ print_led T.printed items.now) }
 {
-    append_led(out, b' ', items.placed())
+    append_led(out, b' ', items.items())
 }
 
 /// Adds values, with the mark between them.

@@ -11,9 +11,12 @@ use Rattle.cg_snap.specs.declared.limits.Limits.{Limits}
 use Rattle.cg_snap.specs.declared.stop.Stop.{Stop}
 use Rattle.cg_snap.specs.declared.stop.Stop.TheVariants as stops
 use Rattle.cg_tree.specs.Find.{find}
+use Rattle.cg_tree.specs.Finding.{rule_word}
+use Rattle.cg_tree.specs.Ruled.{ruled}
+use Rattle.cg_tree.specs.RuledLaws.{told_of_ruled}
 use Rattle.cg_tree.specs.declared.finding.Finding.{Finding}
-use Rattle.cg_run.specs.Check.{HasNoParts, IsCheckRight, PartsOfAll, finding_line, finding_lines}
-use Rattle.cg_run.specs.Checked.{AreLinesRight, HasWrittenLines, IsKeptFault}
+use Rattle.cg_run.specs.Check.{HasNoParts, IsCheckRight, PartsOfAll, control_text, finding_line, finding_lines}
+use Rattle.cg_run.specs.Checked.{AreKept, AreLinesRight, HasWrittenLines, IsKeptFault}
 use Rattle.cg_run.specs.Input.{Reading}
 use Rattle.cg_run.specs.Outcome.{last_line}
 use Rattle.cg_run.specs.Run.{IsCheckedRight, Wrote, joined}
@@ -47,6 +50,10 @@ module _ (Whole Closes : List ℕ → List (List ℕ) → Type 0) (Unstopped : L
   lines_checked lines d out.OutOfMemory parts h = inr (h.0, subst (λ (ps : List (List ℕ)). IsStreamDone Whole Closes Unstopped StopsBy r ps) (sym h.1) d)
 
 -- ---- The lines
+
+-- The entries that the rules speak of have the lines of all entries.
+lines_of_ruled : (es : List EntryData) → finding_lines (ruled es) ≡ finding_lines es
+lines_of_ruled es = told_of_ruled (λ rule entry word. rule_word rule ++ 32 ∷ (control_text entry word ++ 10 ∷ [])) es
 
 -- All lines but those that were written.
 pub lines_left : {X : Type 0} (f : X → List ℕ) (xs : List X) (i : ℕ) → map f (take i xs) ++ map f (drop i xs) ≡ map f xs
@@ -87,14 +94,12 @@ module _ (profile : Profile) (limits : Limits) (read : List ℕ) (left : Option 
   }
 
   -- The lines of the findings were written.
-  pub lines_end : (es seen shown : List EntryData) (found told : List Finding) (o : Outcome) → SnapText profile es read → seen ≡ es → shown ≡ es → found ≡ find seen → told ≡ found →
+  pub lines_end : (kept seen shown : List EntryData) (found told : List Finding) (o : Outcome) → AreKept profile read kept → seen ≡ kept → shown ≡ kept → found ≡ find seen → told ≡ found →
       HasWrittenLines (map (finding_line shown) told) first now write_failed o → EndsSo (IsCheckedRight profile limits) read left failed first now write_failed o
-  lines_end es seen shown found told o t e f g k h =
-      let all : told ≡ find es = k ∙ g ∙ ap find e in
-      lines_are es o t (
-      subst (λ (fs : List Finding). HasWrittenLines (map (finding_line es) fs) first now write_failed o) all
-      (subst (λ (xs : List EntryData). HasWrittenLines (map (finding_line xs) told) first now write_failed o) f h)
-      )
+  lines_end kept seen shown found told o t e f g k h =
+      let all : map (finding_line shown) told ≡ finding_lines t.given =
+      ap (map (finding_line shown)) (k ∙ g) ∙ ap (λ xs. map (finding_line xs) (find seen)) f ∙ ap (λ xs. map (finding_line kept) (find xs)) e ∙ ap finding_lines t.kept_are ∙ lines_of_ruled t.given in
+      lines_are t.given o t.whole (subst (λ (lines : List (List ℕ)). HasWrittenLines lines first now write_failed o) all h)
 
   -- No memory was left for the entries of a snapshot, or for what they break.
   pub memory_end : (o : Outcome) → Snap profile read → Wrote first now write_failed (last_line out.OutOfMemory) out.OutOfMemory o →

@@ -1,15 +1,17 @@
-//! The entries of a snapshot, which are kept until its end.
-ghost use Rattle.std.specs.Prelude.{◌≡◌, ℕ, List, [], ◌∷◌, ◌++◌, MatchResult, OnOk};
-ghost use Rattle.cg_snap.specs.Snap.{SnapText};
-ghost use Rattle.cg_run.specs.Checked.{IsKeptFault};
+//! The entries of a snapshot that the rules speak of, which are kept until its end.
+ghost use Rattle.std.specs.Prelude.{◌≡◌, ℕ, true, List, [], ◌∷◌, ◌++◌, MatchResult, OnErr, OnOk};
+ghost use Rattle.cg_tree.specs.Directory.{name_of};
+ghost use Rattle.cg_tree.specs.Ruled.{is_ruled, ruled};
+ghost use Rattle.cg_run.specs.Checked.{AreKept, IsKeptFault};
 
 use crate::stream_reader::{Found, Next, StreamReader};
 use cg_snap::{Limits, SnapshotDecoder, StreamFault, What};
 use cg_text::OutOfMemory;
+use cg_tree::is_ruled;
 use cg_value::{Entry, Profile};
 use std::alloc::Global;
 
-/// A reader of a snapshot, of which the entries are kept.
+/// A reader of a snapshot, of which the entries are kept that the rules speak of.
 #[derive(Drop)]
 pub(crate) struct KeptReader {
     decoder: SnapshotDecoder,
@@ -29,15 +31,15 @@ impl KeptReader {
         }
     }
 
-    /// All entries of the snapshot, once its input has ended.
+    /// The entries that the rules speak of, once the input of the snapshot has ended.
     pub(crate) fn finish(self) -> Result<Vec<Entry>, StreamFault>
         ensures { (form : Profile × Limits) (p : List ℕ) (parts : List (List ℕ)) → HasKept self form p parts →
-            MatchResult result (λ entries. SnapText (form.0) entries.items p) (IsKeptFault (form.0) p) }
+            MatchResult result (λ entries. AreKept (form.0) p entries.items) (IsKeptFault (form.0) p) }
     {
         let mut entries = self.entries;
         match self.decoder.finish() {
             Ok(None) => Ok(entries),
-            Ok(Some(entry)) => match entries.push(entry) {
+            Ok(Some(entry)) => match keep(&mut entries, entry) {
                 Ok(()) => Ok(entries),
                 Err(_) => Err(StreamFault::OutOfMemory),
             },
@@ -46,11 +48,14 @@ impl KeptReader {
     }
 }
 
-/// Keeps an entry behind the others.
+/// Keeps an entry behind the others, if the rules speak of it. Another takes no memory.
 fn keep(entries: &mut Vec<Entry>, entry: Entry) -> Result<(), OutOfMemory>
-    ensures { OnOk result (entries.new.items ≡ entries.old.items ++ entry ∷ []) }
+    ensures kept { OnOk result (entries.new.items ≡ entries.old.items ++ ruled (entry ∷ [])) }
+    ensures wanted { OnErr result (is_ruled (name_of entry.path) ≡ true) }
 {
-    entries.push(entry)?;
+    if is_ruled(&entry) {
+        entries.push(entry)?;
+    }
     Ok(())
 }
 

@@ -10,7 +10,7 @@ use cg_snap::Stop;
 pub(crate) enum Found {
     /// Nothing yet: the whole piece was consumed.
     NeedMore,
-    /// What the reader keeps: no part.
+    /// What the reader keeps, or doesn't need: no part.
     Kept,
     /// The text of a part.
     Part(Vec<u8>),

@@ -1,7 +1,7 @@
 -- The front of a path, as it is searched.
 use Rattle.std.proofs.Common.{◌≡◌, ◌≢◌, ℕ, zero, suc, ◌+◌, ◌<◌, ◌≤◌, List, [], ◌∷◌, ◌++◌, take, drop, length, get_or, refl, sym, ap, ◌∙◌, append_assoc, arith}
 use Rattle.std.proofs.lemmas.List.{get_or-take, length-drop, length-take-le, take-append-drop, take_more}
-use Rattle.memchr.specs.Find.{Nowhere, Passes, is_byte}
+use Rattle.memchr.specs.Find.{Nowhere, Passes, is_byte, is_byte2}
 use Rattle.cg_value.specs.Entry.{IsPathByte}
 use Rattle.cg_snap.specs.PathBytes.{ArePathBytes}
 use Rattle.cg_snap.specs.PlanFront.{IsRecordFront}
@@ -11,14 +11,12 @@ path_at bytes zero is = tt
 path_at [] (suc k) is = tt
 path_at (b ∷ bytes) (suc k) is = (is 0 (omega arith) (omega arith), path_at bytes k (λ i low high. is (suc i) (omega (arith, low)) (omega (arith, high))))
 
--- Bytes before the first NUL, and before the first newline of those.
-pub path_searched : (bytes front : List ℕ) (m n k : ℕ) → ((i : ℕ) → get_or bytes i 0 < 256) → front ≡ take m bytes →
-    Nowhere (Passes (is_byte 0) bytes) 0 m → Nowhere (Passes (is_byte 10) front) 0 n → n ≤ m → k ≤ n → ArePathBytes (take k bytes)
-path_searched bytes front m n k small is no_nul no_newline within few = path_at bytes k (λ i low high. (
+-- Bytes before the first NUL or newline.
+pub path_searched : (bytes : List ℕ) (n k : ℕ) → ((i : ℕ) → get_or bytes i 0 < 256) → Nowhere (Passes (is_byte2 0 10) bytes) 0 n → k ≤ n → ArePathBytes (take k bytes)
+path_searched bytes n k small none few = path_at bytes k (λ i low high. (
     let below : i < n = omega (arith, low, few) in
-    let before : i < m = omega (arith, below, within) in
-    let other : get_or bytes i 0 ≢ 0 = λ e. no_nul i (omega arith) before (rw e refl) in
-    let plain : get_or bytes i 0 ≢ 10 = λ e. no_newline i (omega arith) below (rw (is, get_or-take m bytes i 0 before, e) refl) in
+    let other : get_or bytes i 0 ≢ 0 = λ e. none i (omega arith) below (rw e refl) in
+    let plain : get_or bytes i 0 ≢ 10 = λ e. none i (omega arith) below (rw e refl) in
     (omega (arith, other), small i, plain)))
 
 -- A text cut at a NUL.

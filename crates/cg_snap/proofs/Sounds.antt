@@ -1,12 +1,12 @@
 -- What is known of the entry whose records come, after each step of its reader and where it ends.
-use Rattle.std.proofs.Common.{◌≡◌, ℕ, Bool, true, false, List, [], ◌∷◌, ◌++◌, length, Result, Ok, Err, ◌∙◌, ap}
+use Rattle.std.proofs.Common.{◌≡◌, ℕ, List, [], ◌∷◌, ◌++◌, length, Result, Ok, Err, ◌∙◌, ap}
 use Rattle.std.proofs.Math.Logic.{∥∥₁_map}
 use Rattle.cg_value.specs.Entry.{IsPathByte, IsSomeEntry}
 use Rattle.cg_value.specs.Files.{KindText}
 use Rattle.cg_value.specs.Print.{print_lines}
 use Rattle.cg_value.specs.declared.kind.ReadForm.{ReadForm}
 use Rattle.cg_value.specs.declared.value.Value.{Value}
-use Rattle.cg_line.specs.Reads.{IsPushed, IsPushedLine, Reads}
+use Rattle.cg_line.specs.Reads.{IsPushed, Reads}
 use Rattle.cg_line.specs.declared.push.PushFault.{PushFault}
 use Rattle.cg_line.specs.declared.push.PushFault.TheVariants.{OutOfMemory, Refused}
 use Rattle.cg_line.specs.declared.reader.ValueReader.{ValueReader}
@@ -31,15 +31,6 @@ pushed_on new kind taken byte (Err OutOfMemory) h = (taken, h.0)
 pub sound_pushed : (path : List ℕ) (old new : ValueReader) (byte : ℕ) (result : Result Unit PushFault) → IsSound path old →
     ((kind : ReadForm) (taken : List ℕ) → Reads old kind taken → IsPushed new kind taken byte result) → IsSound path new
 sound_pushed path old new byte result h pushed = sound_after path old new h (λ kind taken r. pushed_on new kind taken byte result (pushed kind taken r))
-
--- After a line that was pushed, taken or not.
-line_on : (new : ValueReader) (kind : ReadForm) (taken line : List ℕ) (result : Bool) → IsPushedLine new kind taken line result → (now : List ℕ) × Reads new kind now
-line_on new kind taken line true h = (taken ++ (line ++ 10 ∷ []), h)
-line_on new kind taken line false h = (taken, h)
-
-pub sound_line : (path : List ℕ) (old new : ValueReader) (line : List ℕ) (result : Bool) → IsSound path old →
-    ((kind : ReadForm) (taken : List ℕ) → Reads old kind taken → IsPushedLine new kind taken line result) → IsSound path new
-sound_line path old new line result h pushed = sound_after path old new h (λ kind taken r. line_on new kind taken line result (pushed kind taken r))
 
 -- The value of the reader, which has some line, makes an entry.
 pub sound_entry : (path : List ℕ) (reader : ValueReader) (v : Value) (count : ℕ) → IsSound path reader →

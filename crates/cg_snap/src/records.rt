@@ -1,7 +1,7 @@
 //! What takes the records of a stream, byte by byte.
 ghost use Rattle.std.specs.Prelude.{◌≡◌, ◌<◌, ◌≤◌, ◌++◌, ℕ, List, length, take};
+ghost use Rattle.cg_file.specs.Front.{IsLineFront};
 ghost use Rattle.cg_text.specs.Texts.{Lacks, Viable};
-ghost use Rattle.cg_line.specs.Runs.{IsLineFront};
 ghost use Rattle.cg_value.specs.declared.profile.Profile.{Profile};
 ghost use Rattle.cg_snap.specs.Course.{AreFew, DidStep, FullIs, OffersAre, RefusedBy};
 ghost use Rattle.cg_snap.specs.declared.stop.Why.{Why};

@@ -1,15 +1,14 @@
 //! Runs of bytes, which are taken at once.
 ghost use Rattle.std.specs.Prelude.{◌≡◌, ◌<◌, ◌≤◌, ◌++◌, ℕ, List, length, take, Some, true};
-ghost use Rattle.memchr.specs.Find.{Nowhere, Passes, is_byte};
+ghost use Rattle.cg_file.specs.Front.{IsLineFront};
 ghost use Rattle.cg_text.specs.Texts.{Lacks};
-ghost use Rattle.cg_line.specs.Runs.{IsLineFront};
 ghost use Rattle.cg_value.specs.Entry.{EntryData};
 ghost use Rattle.cg_value.specs.declared.profile.Profile.{Profile};
 ghost use Rattle.cg_snap.specs.DecoderState.{At, IsInLine, IsRun};
 ghost use Rattle.cg_snap.specs.PathBytes.{ArePathBytes};
 
 use crate::present::Present;
-use memchr::memchr;
+use memchr::{memchr, memchr2};
 
 /// So many of the bytes as there is room for.
 pub(crate) fn at_most(run: usize, room: u64) -> usize
@@ -23,24 +22,17 @@ pub(crate) fn at_most(run: usize, room: u64) -> usize
     }
 }
 
-/// How many bytes stand before the first one that is this byte, or all where there is none.
-fn count_before(byte: u8, bytes: &[u8]) -> usize
-    ensures within { result ≤ length bytes.now }
-    ensures none { Nowhere (Passes (is_byte byte) bytes.now) 0 result }
-{
-    match memchr(byte, bytes) {
-        Some(place) => place,
-        None => bytes.len(),
-    }
-}
-
 /// How many bytes of a line the piece begins with, at most so many as there is room for.
 pub(crate) fn line_length(piece: &[u8], room: u64) -> usize
     ensures within { result ≤ length piece.now }
     ensures room { result ≤ room }
     ensures plain { Lacks 10 (take result piece.now) }
 {
-    at_most(count_before(b'\n', piece), room)
+    let end = match memchr(b'\n', piece) {
+        Some(end) => end,
+        None => piece.len(),
+    };
+    at_most(end, room)
 }
 
 /// How many bytes of a path the piece begins with, at most so many as there is room for.
@@ -49,8 +41,11 @@ fn path_length(piece: &[u8], room: u64) -> usize
     ensures room { result ≤ room }
     ensures plain { ArePathBytes (take result piece.now) }
 {
-    let (front, _) = piece.split_at(count_before(0, piece));
-    at_most(count_before(b'\n', front), room)
+    let end = match memchr2(0, b'\n', piece) {
+        Some(end) => end,
+        None => piece.len(),
+    };
+    at_most(end, room)
 }
 
 /// Takes what comes of a line, and answers how many bytes.
@@ -73,20 +68,14 @@ fn take_rest(begun: &Vec<u8>, present: &mut Present, piece: &[u8], room: u64) ->
     ensures within { result ≤ length piece.now }
     ensures room { result ≤ room }
 {
-    let end = match memchr(b'\n', piece) {
-        Some(end) => end,
-        None => return 0,
-    };
-    let (line, _) = piece.split_at(end);
-    if end as u64 >= room {
-        return 0;
-    }
-    if !present.reader.push_line(line) {
+    let (front, _) = piece.split_at(at_most(piece.len(), room));
+    let used = present.reader.push_front(front);
+    if used == 0 {
         return 0;
     }
     present.in_line = false;
     present.lines = present.lines.saturating_add(1);
-    end + 1
+    used
 }
 
 /// Takes what comes of a line with its newline, where one is begun, the piece has its end and there is room for it; or takes

@@ -29,6 +29,8 @@ pub mod ListState
 pub mod LooseLaws
 pub mod LooseSound
 pub mod LooseState
+pub mod Mark
+pub mod MarkLaws
 pub mod NewlineLaws
 pub mod NumberRest
 pub mod NumberRestLaws

@@ -3,22 +3,24 @@ ghost use Rattle.std.specs.Prelude.{◌≡◌, IsTrue, ◌↔◌, ◌≤◌, IfO
 ghost use Rattle.cg_text.specs.Word.{IsWord, IsWordByte, AreWordBytes};
 ghost use Rattle.cg_text.specs.Key.{IsKeyMade};
 ghost use Rattle.cg_text.specs.KeyState.{stored, IsStored};
+ghost use Rattle.cg_text.specs.Mark.{mark_of};
 
+use crate::mark::{mark_after, mark_of};
 use crate::memory::OutOfMemory;
 use std::alloc::Global;
 use std::marker::Model;
 use thiserror::Error;
 
-/// Where the bytes of a key lie.
+/// Where the bytes of a key lie, and their mark.
 #[derive(Drop, Debug)]
 enum Store {
     /// In the key itself, so many of these.
-    Short { len: usize, bytes: [u8; 22] },
-    Long(Vec<u8>),
+    Short { mark: u32, len: u8, bytes: [u8; 23] },
+    Long { mark: u32, bytes: Vec<u8> },
 }
 
 /// How many bytes a key has at most that take no memory of their own.
-const SHORT: usize = 22;
+const SHORT: usize = 23;
 
 /// One or more bytes 33 to 126 without `=`.
 #[derive(Drop, Debug)]
@@ -56,17 +58,20 @@ pub(crate) fn is_word_byte(byte: u8) -> bool
     33 <= byte && byte <= 126 && byte != b'='
 }
 
-/// How many bytes in front are those of words.
-pub(crate) fn count_word_bytes(bytes: &[u8]) -> usize
-    ensures within { result ≤ length bytes.now }
-    ensures words { AreWordBytes (take result bytes.now) }
+/// How many bytes in front are those of words, and their mark.
+pub(crate) fn word_front(bytes: &[u8]) -> (usize, u32)
+    ensures within { result.0 ≤ length bytes.now }
+    ensures words { AreWordBytes (take result.0 bytes.now) }
+    ensures mark { result.1 ≡ mark_of (take result.0 bytes.now) }
 {
+    let mut mark = 0;
     for (i, byte) in bytes.iter().enumerate() {
         if !is_word_byte(*byte) {
-            return i;
+            return (i, mark);
         }
+        mark = mark_after(mark, *byte);
     }
-    bytes.len()
+    (bytes.len(), mark)
 }
 
 /// Whether the bytes are a word.
@@ -81,18 +86,40 @@ fn is_word(bytes: &[u8]) -> bool
     !bytes.is_empty()
 }
 
-/// Bytes, in a vector only where they are too many for the key itself.
-fn stored(alloc: Global, bytes: &[u8]) -> Result<Store, OutOfMemory>
-    ensures { IfOk result (λ store. (stored store ≡ bytes.now) × IsStored store) }
+/// Bytes of which the first `len` are those of `bytes`. The others count for nothing.
+fn short_bytes(bytes: &[u8], len: usize) -> [u8; SHORT]
+    requires within { len ≤ length bytes.now }
+    requires short { len ≤ 23 }
+    ensures { take len result ≡ take len bytes.now }
 {
-    if bytes.len() > SHORT {
-        return Ok(Store::Long(Vec::from_slice(alloc, bytes)?));
-    }
     let mut short = [0; SHORT];
-    short[..bytes.len()].copy_from_slice(bytes);
+    // Where enough bytes follow, a fixed number is copied: it takes no call.
+    if len <= 8 && bytes.len() >= 8 {
+        short[..8].copy_from_slice(&bytes[..8]);
+    } else if len <= 16 && bytes.len() >= 16 {
+        short[..16].copy_from_slice(&bytes[..16]);
+    } else {
+        short[..len].copy_from_slice(&bytes[..len]);
+    }
+    short
+}
+
+/// The first `len` of the bytes with their mark, in a vector only where they are too many for the key itself.
+fn stored(alloc: Global, bytes: &[u8], len: usize, mark: u32) -> Result<Store, OutOfMemory>
+    requires within { len ≤ length bytes.now }
+    requires mark { mark ≡ mark_of (take len bytes.now) }
+    ensures { IfOk result (λ store. (stored store ≡ take len bytes.now) × IsStored store) }
+{
+    if len > SHORT {
+        return Ok(Store::Long {
+            mark,
+            bytes: Vec::from_slice(alloc, &bytes[..len])?,
+        });
+    }
     Ok(Store::Short {
-        len: bytes.len(),
-        bytes: short,
+        mark,
+        len: len as u8,
+        bytes: short_bytes(bytes, len),
     })
 }
 
@@ -104,7 +131,7 @@ impl Key {
         if !is_word(bytes) {
             return Err(KeyFault::BadKey);
         }
-        match stored(alloc, bytes) {
+        match stored(alloc, bytes, bytes.len(), mark_of(bytes)) {
             Ok(store) => Ok(Key { store }),
             Err(_) => Err(KeyFault::OutOfMemory),
         }
@@ -116,17 +143,27 @@ impl Key {
         ensures { result ≡ bytes.items }
     {
         Key {
-            store: Store::Long(bytes),
+            store: Store::Long {
+                mark: mark_of(bytes.as_slice()),
+                bytes,
+            },
         }
     }
 
-    /// The key of these bytes, which are a word.
-    pub(crate) fn of_word(alloc: Global, bytes: &[u8]) -> Result<Key, OutOfMemory>
-        requires { IsWord bytes.now }
-        ensures { IfOk result (λ key. key ≡ bytes.now) }
+    /// The key of the first `len` of the bytes, which are a word and have this mark.
+    pub(crate) fn of_word(
+        alloc: Global,
+        bytes: &[u8],
+        len: usize,
+        mark: u32,
+    ) -> Result<Key, OutOfMemory>
+        requires within { len ≤ length bytes.now }
+        requires word { IsWord (take len bytes.now) }
+        requires mark { mark ≡ mark_of (take len bytes.now) }
+        ensures { IfOk result (λ key. key ≡ take len bytes.now) }
     {
         Ok(Key {
-            store: stored(alloc, bytes)?,
+            store: stored(alloc, bytes, len, mark)?,
         })
     }
 
@@ -136,8 +173,18 @@ impl Key {
         ensures word { IsWord self.now }
     {
         match &self.store {
-            Store::Short { len, bytes } => &bytes[..*len],
-            Store::Long(bytes) => bytes.as_slice(),
+            Store::Short { len, bytes, .. } => &bytes[..*len as usize],
+            Store::Long { bytes, .. } => bytes.as_slice(),
+        }
+    }
+
+    /// The mark of its bytes, which it carries.
+    pub fn mark(&self) -> u32
+        ensures { result ≡ mark_of self.now }
+    {
+        match &self.store {
+            Store::Short { mark, .. } => *mark,
+            Store::Long { mark, .. } => *mark,
         }
     }
 }

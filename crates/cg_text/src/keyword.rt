@@ -138,6 +138,10 @@ impl Token for KeywordText {
 
     fn whole(&self, bytes: &[u8]) -> Option<((), usize)> {
         let (_, left) = self.keyword.text().split_at(self.at);
+        // Mostly the first byte tells.
+        if left.is_empty() || bytes.is_empty() || bytes[0] != left[0] {
+            return None;
+        }
         if bytes.starts_with(left) {
             Some(((), left.len()))
         } else {

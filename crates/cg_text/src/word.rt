@@ -5,7 +5,7 @@ ghost use Rattle.cg_text.specs.WordState.{IsWordFront, IsWordRest, is_taken};
 ghost use Rattle.cg_text.specs.WordLaws.{IsWordFront_prop};
 ghost use Rattle.cg_text.specs.Token.{Spells};
 
-use crate::key::{Key, count_word_bytes, is_word_byte};
+use crate::key::{Key, is_word_byte, word_front};
 use crate::memory::OutOfMemory;
 use crate::token::Token;
 use std::alloc::Global;
@@ -87,7 +87,7 @@ impl Token for WordText {
         if self.controller && self.bytes.is_empty() {
             return 0;
         }
-        let count = count_word_bytes(bytes);
+        let (count, _) = word_front(bytes);
         let (run, _) = bytes.split_at(count);
         match self.bytes.extend_from_slice(run) {
             Ok(()) => count,
@@ -103,12 +103,11 @@ impl Token for WordText {
         {
             return None;
         }
-        let count = count_word_bytes(bytes);
+        let (count, mark) = word_front(bytes);
         if count == 0 {
             return None;
         }
-        let (front, _) = bytes.split_at(count);
-        match Key::of_word(self.alloc, front) {
+        match Key::of_word(self.alloc, bytes, count, mark) {
             Ok(key) => Some((key, count)),
             Err(_) => None,
         }

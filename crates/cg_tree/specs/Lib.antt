@@ -10,3 +10,5 @@ pub mod Picked
 pub mod PickedLaws
 pub mod RowLaws
 pub mod Rows
+pub mod Ruled
+pub mod RuledLaws

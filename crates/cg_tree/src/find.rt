@@ -1,22 +1,23 @@
 //! The findings of a hierarchy.
-ghost use Rattle.std.specs.Prelude.{◌≡◌, ◌++◌, IfOk, OnOk, map};
+ghost use Rattle.std.specs.Prelude.{◌≡◌, ◌++◌, IfOk, OnOk};
 ghost use Rattle.std.specs.List.{flat_map, list_any};
 ghost use Rattle.cg_tree.specs.Find.{words_of, is_among, threaded, allows, lacking, is_domain, find};
+ghost use Rattle.cg_tree.specs.Directory.{name_of};
 ghost use Rattle.cg_tree.specs.FindLaws.{IsHierarchyOf, looked_up};
+ghost use Rattle.cg_tree.specs.Ruled.{is_ruled};
 
 use crate::files::{File, Index, named};
 use crate::finding::{Finding, Rule};
-use cg_index::Placed;
 use cg_text::{Key, OutOfMemory};
 use cg_value::{Entry, GroupMode, Value};
 use std::alloc::Global;
 
-/// The words of a value of words, each in its place. Another value has none.
-fn words_of(value: &Value) -> &[Placed<Key>]
-    ensures { map (λ p. p.item) result.now ≡ words_of value.now }
+/// The words of a value of words. Another value has none.
+fn words_of(value: &Value) -> &[Key]
+    ensures { result.now ≡ words_of value.now }
 {
     match value {
-        Value::Words(words) => words.placed(),
+        Value::Words(words) => words.items(),
         _ => &[],
     }
 }
@@ -60,8 +61,8 @@ fn report(
 ) -> Result<(), OutOfMemory>
     ensures { OnOk result (found.new.items ≡ found.old.items ++ lacking rule control.now other.now) }
 {
-    for (word, placed) in words_of(control.value).iter().enumerate() {
-        if !allows(rule, other, placed.item().bytes()) {
+    for (word, name) in words_of(control.value).iter().enumerate() {
+        if !allows(rule, other, name.bytes()) {
             found.push(Finding {
                 rule,
                 at: control.place,
@@ -149,4 +150,22 @@ pub fn findings(alloc: Global, entries: &[Entry]) -> Result<Vec<Finding>, OutOfM
         hierarchy.check(&mut found, control)?;
     }
     Ok(found)
+}
+
+/// Whether the name is one of those that the rules speak of.
+fn is_ruled_name(name: &[u8]) -> bool
+    ensures { result ≡ is_ruled name.now }
+{
+    name == b"cgroup.controllers".as_slice()
+        || name == b"cgroup.subtree_control".as_slice()
+        || name == b"cgroup.procs".as_slice()
+        || name == b"cgroup.type".as_slice()
+}
+
+/// Whether the rules speak of files of the entry's name. Other entries break nothing, and change nothing in what these break.
+/// It takes no memory.
+pub fn is_ruled(entry: &Entry) -> bool
+    ensures { result ≡ is_ruled (name_of entry.now.path) }
+{
+    is_ruled_name(entry.name())
 }

@@ -7,5 +7,5 @@ pub mod find;
 pub mod finding;
 pub mod rows;
 
-pub use find::findings;
+pub use find::{findings, is_ruled};
 pub use finding::{Finding, Rule};

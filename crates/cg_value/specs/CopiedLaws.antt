@@ -14,20 +14,14 @@ distinct_before [] k d a h = absurd (omega (arith, h))
 distinct_before (v ∷ vs) zero d a h = tt
 distinct_before (v ∷ vs) (suc k) d a h = (lacks_at v vs k d a.0 (omega (arith, h)), distinct_before vs k d a.1 (omega (arith, h)))
 
-module _ {X T : Type 0} (item : X → T) (xs : List X) (k : ℕ) (x : X) (t : T) (done : List T) (within : k < length xs) (at : x ≡ get_or xs k x) (is : t ≡ item x) (so_far : done ≡ take k (map item xs)) where
-  read : get_or (map item xs) k (item x) ≡ t
-  read = get_or-map item xs k x (item x) within ∙ ap item (sym at) ∙ sym is
-
+module _ {T : Type 0} (xs : List T) (k : ℕ) (x t : T) (done : List T) (within : k < length xs) (at : x ≡ get_or xs k x) (is : t ≡ x) (so_far : done ≡ take k xs) where
   -- The items up to the next.
-  pub one_copied : done ++ t ∷ [] ≡ take (k + 1) (map item xs)
-  one_copied =
-      ap (λ ts. ts ++ t ∷ []) so_far ∙ ap (λ u. take k (map item xs) ++ u ∷ []) (sym read)
-      ∙ sym (take_more (map item xs) k (item x) (rw length-map within))
+  pub one_copied : done ++ t ∷ [] ≡ take (k + 1) xs
+  one_copied = ap (λ ts. ts ++ t ∷ []) so_far ∙ ap (λ u. take k xs ++ u ∷ []) (is ∙ at) ∙ sym (take_more xs k x within)
 
   -- The next has another key than those before it.
-  pub key_is_new : (key : T → List ℕ) → AreDistinct (map key (map item xs)) → LacksValue (key t) (map key done)
+  pub key_is_new : (key : T → List ℕ) → AreDistinct (map key xs) → LacksValue (key t) (map key done)
   key_is_new key different =
-      let inside : k < length (map item xs) = rw length-map within in
-      let keys = distinct_before (map key (map item xs)) k (key (item x)) different (rw length-map inside) in
-      let here : get_or (map key (map item xs)) k (key (item x)) ≡ key t = get_or-map key (map item xs) k (item x) (key (item x)) inside ∙ ap key read in
-      rw so_far (rw (here, take-map key k (map item xs)) at keys)
+      let keys = distinct_before (map key xs) k (key x) different (rw length-map within) in
+      let here : get_or (map key xs) k (key x) ≡ key t = get_or-map key xs k x (key x) within ∙ ap key (sym at ∙ sym is) in
+      rw so_far (rw (here, take-map key k xs) at keys)

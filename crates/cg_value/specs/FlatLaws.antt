@@ -1,20 +1,18 @@
--- What follows from the definitions of flat keyed files, and what the index of their keys is.
-use Rattle.std.proofs.Common.{◌≡◌, ℕ, zero, suc, ◌+◌, ◌<◌, ◌⊎◌, inl, inr, List, [], ◌∷◌, ◌++◌, length, get_or, map, Option, Some, None, Bool, true, false, cond, option_map, is_some, is_none, IfSome, ◌==◌}
+-- What follows from the definitions of flat keyed files.
+use Rattle.std.proofs.Common.{◌≡◌, ℕ, zero, suc, ◌+◌, ◌<◌, ◌⊎◌, inl, inr, List, [], ◌∷◌, length, get_or, map, Option, Some, None, Bool, true, false, cond, option_map, is_some, nat_eq}
 use Rattle.std.proofs.Common.{refl, sym, ap, ◌∙◌, arith}
 use Rattle.std.proofs.lemmas.Bool.{cond-true, cond-false, false_from_ne_true}
+use Rattle.std.proofs.lemmas.Bool.Decides.{Decides-eqb, same_from_decides}
 use Rattle.std.proofs.lemmas.Cmp.{nat_list_eq_equiv, nat_eq_equiv, on_equiv, and_equiv}
-use Rattle.std.proofs.lemmas.List.{length-map, map-append}
-use Rattle.std.proofs.lemmas.List.Sums.{sum_by-cons, sum_by_push}
-use Rattle.std.proofs.lemmas.Slice.Eq.{bytes_eq-Decides}
-use Rattle.std.proofs.Props.{props}
-use Rattle.std.specs.Bool.{then_some}
-use Rattle.std.specs.Coded.{×_prop, Unit-prop}
+use Rattle.std.proofs.lemmas.List.Sums.{sum_by-cons}
+use Rattle.std.proofs.lemmas.Slice.Eq.{bytes_eq-Decides, slice_eq-Decides}
 use Rattle.std.specs.Cmp.{IsPartialEquivalence, partial_equiv_from_equiv}
-use Rattle.std.specs.Cmp.Lexicographic.{lists_per}
+use Rattle.std.specs.Cmp.Lexicographic.{lists_per, pointwise}
 use Rattle.std.specs.List.{sum_by}
 use Rattle.std.specs.Str.{bytes_eq}
-use Rattle.cg_index.specs.IndexLaws.{IsKeyThere, near_has, near_lacks}
-use Rattle.cg_index.specs.Tree.{Indexed, Indexes, IsOnlyFor}
+use Rattle.cg_text.specs.Distinct.{AreDistinct, LacksValue}
+use Rattle.cg_index.specs.Keyed.{is_among, place_among}
+use Rattle.cg_index.specs.KeyedLaws.{some_place}
 use Rattle.cg_value.specs.declared.flat.FlatPair.{FlatPair}
 use Rattle.cg_value.specs.Flat.{has_key, number_of, place_of, HasDistinctKeys, flat_size, are_same}
 
@@ -32,17 +30,7 @@ key_at [] place = []
 key_at (p ∷ ps) zero = p.key
 key_at (p ∷ ps) (suc place) = key_at ps place
 
-pub key_read : (ps : List FlatPair) (i : ℕ) (d : FlatPair) → i < length ps → key_at ps i ≡ (get_or ps i d).key
-key_read [] i d h = absurd (omega (arith, h))
-key_read (p ∷ ps) zero d h = refl
-key_read (p ∷ ps) (suc i) d h = key_read ps i d (omega arith)
-
 -- Look-ups.
-
-pub no_place : (key : List ℕ) (ps : List FlatPair) → ((i : ℕ) → i < length ps → key_at ps i ≡ key → ⊥) → place_of key ps ≡ None
-no_place key [] f = refl
-no_place key (p ∷ ps) f =
-    cond-false _ _ _ (has_key_not key p (f 0 (omega arith))) ∙ ap (option_map (λ n. n + 1)) (no_place key ps (λ i h. f (suc i) (omega arith)))
 
 -- What has no place has no number, and the other way round.
 pub place_as_number : (key : List ℕ) (ps : List FlatPair) → is_some (place_of key ps) ≡ is_some (number_of key ps)
@@ -68,14 +56,6 @@ no_number_apart key (p ∷ ps) (suc i) e h f =
     let rest : (b : Bool) (n : ℕ) (w : Option ℕ) → cond b (Some n) w ≡ None → w ≡ None =
     λ b n w. elim b as (λ v. cond v (Some n) w ≡ None → w ≡ None) [ true ↦ λ h. cc | false ↦ λ h. h ] in
     no_number_apart key ps i (rest (has_key key p) p.number (number_of key ps) e) (omega arith) f
-
-pub one_place : (key : List ℕ) (ps : List FlatPair) (i : ℕ) → HasDistinctKeys ps → i < length ps → key_at ps i ≡ key → place_of key ps ≡ Some i
-one_place key [] i d h e = absurd (omega (arith, h))
-one_place key (p ∷ ps) zero d h e = cond-true _ _ _ (has_key_is key p e)
-one_place key (p ∷ ps) (suc i) d h e =
-    let apart : p.key ≡ key → ⊥ = λ f. no_number_apart p.key ps i d.0 (omega arith) (e ∙ sym f) in
-    let more : i + 1 ≡ suc i = omega arith in
-    cond-false _ _ _ (has_key_not key p apart) ∙ ap (option_map (λ n. n + 1)) (one_place key ps i d.1 (omega arith) e) ∙ ap (λ n. Some n) more
 
 pub place_cases : (first : Bool) (later : Option ℕ) (i : ℕ) → cond first (Some 0) (option_map (λ n. n + 1) later) ≡ Some i → ((first ≡ true) × (i ≡ 0)) ⊎ ((first ≡ false) × (k : ℕ) × (i ≡ suc k) × (later ≡ Some k))
 place_cases true later i e =
@@ -104,31 +84,7 @@ number_there key (p ∷ ps) i d e =
       | inr there ↦ rw (there.2) (cond-false (has_key key p) (Some p.number) (number_of key ps) there.0 ∙ number_there key ps there.1 d there.3)
     ]
 
--- Pairs that are added.
-
-none_push : (key : List ℕ) (ps : List FlatPair) (p : FlatPair) → number_of key ps ≡ None → (p.key ≡ key → ⊥) → number_of key (ps ++ p ∷ []) ≡ None
-none_push key [] p e apart = cond-false _ _ _ (has_key_not key p apart)
-none_push key (q ∷ qs) p e apart =
-    let parts : (b : Bool) (n : ℕ) (w v : Option ℕ) → cond b (Some n) w ≡ None → (w ≡ None → v ≡ None) → cond b (Some n) v ≡ None =
-    λ b n w v. elim b as (λ u. cond u (Some n) w ≡ None → (w ≡ None → v ≡ None) → cond u (Some n) v ≡ None) [ true ↦ λ h f. h | false ↦ λ h f. f h ] in
-    parts (has_key key q) q.number (number_of key qs) (number_of key (qs ++ p ∷ [])) e (λ f. none_push key qs p f apart)
-
-pub distinct_push : (ps : List FlatPair) (p : FlatPair) → HasDistinctKeys ps → number_of p.key ps ≡ None → HasDistinctKeys (ps ++ p ∷ [])
-distinct_push [] p h e = (refl, tt)
-distinct_push (q ∷ qs) p h e =
-    let apart : p.key ≡ q.key → ⊥ = λ f. no_number_apart p.key (q ∷ qs) 0 e (omega arith) (sym f) in
-    let rest : (b : Bool) (n : ℕ) (w : Option ℕ) → cond b (Some n) w ≡ None → w ≡ None =
-    λ b n w. elim b as (λ v. cond v (Some n) w ≡ None → w ≡ None) [ true ↦ λ h. cc | false ↦ λ h. h ] in
-    (none_push q.key qs p h.0 apart, distinct_push qs p h.1 (rest (has_key p.key q) q.number (number_of p.key qs) e))
-
-pub HasDistinctKeys_prop : (ps : List FlatPair) → IsProp (HasDistinctKeys ps)
-HasDistinctKeys_prop [] = Unit-prop
-HasDistinctKeys_prop (p ∷ ps) = ×_prop (hlevel props) (HasDistinctKeys_prop ps)
-
 -- What the pairs hold.
-
-pub size_push : (ps : List FlatPair) (p : FlatPair) → flat_size (ps ++ p ∷ []) ≡ flat_size ps + (length p.key + 2)
-size_push ps p = sum_by_push (λ (q : FlatPair). length q.key + 2) ps p
 
 pub parts_size : (ps : List FlatPair) → length ps + length ps + sum_by (λ p. length p.key) ps ≡ flat_size ps
 parts_size [] = refl
@@ -140,65 +96,30 @@ parts_size (p ∷ ps) =
 pub are_same_laws : IsPartialEquivalence are_same
 are_same_laws = lists_per (partial_equiv_from_equiv (and_equiv (on_equiv (λ (p : FlatPair). p.key) nat_list_eq_equiv) (on_equiv (λ (p : FlatPair). p.number) nat_eq_equiv)))
 
--- The index of the keys.
+-- Their keys.
 
 abbrev pub keys_of : List FlatPair → List (List ℕ)
 keys_of pairs = map (λ p. p.key) pairs
 
--- No key comes twice, and the index is that of the keys.
-pub record IsFlatIndex {P : Type 0} (pairs : List FlatPair) (index : Indexed P) : Type 0 where
-  pub distinct : HasDistinctKeys pairs
-  pub indexed : Indexes index (keys_of pairs)
+-- The test of two keys is the same either way round.
+pub swapped : (a b : List ℕ) → bytes_eq a b ≡ pointwise nat_eq b a
+swapped a b =
+    let other = slice_eq-Decides Decides-eqb b a (pointwise nat_eq b a) refl in
+    same_from_decides (bytes_eq a b) (pointwise nat_eq b a) (bytes_eq-Decides a b) (λ e. sym (other.0 e), λ e. other.1 (sym e))
 
-pub keys_read : (pairs : List FlatPair) (i : ℕ) → i < length pairs → get_or (keys_of pairs) i [] ≡ key_at pairs i
-keys_read [] i h = absurd (omega (arith, h))
-keys_read (p ∷ ps) zero h = refl
-keys_read (p ∷ ps) (suc i) h = keys_read ps i (omega (arith, h))
+-- The place of a key is that of a pair.
+pub place_of_keys : (key : List ℕ) (ps : List FlatPair) → place_among key (keys_of ps) ≡ place_of key ps
+place_of_keys key [] = refl
+place_of_keys key (p ∷ ps) = rw (swapped p.key key) (ap (λ o. cond (pointwise nat_eq key p.key) (Some 0) (option_map (λ n. n + 1) o)) (place_of_keys key ps))
 
--- What a comparison says of the key that was compared.
-pub compared_same : (a b key : List ℕ) (test : Bool) → test ≡ bytes_eq a b → test ≡ true → b ≡ key → a ≡ key
-compared_same a b key test is holds e = (bytes_eq-Decides a b).0 (sym is ∙ holds) ∙ e
+-- A pair has the key exactly where it is among theirs.
+pub number_of_keys : (key : List ℕ) (ps : List FlatPair) → is_among key (keys_of ps) ≡ is_some (number_of key ps)
+number_of_keys key ps = sym (some_place key (keys_of ps)) ∙ ap is_some (place_of_keys key ps) ∙ place_as_number key ps
 
-pub compared_other : (a b key : List ℕ) (test : Bool) → test ≡ bytes_eq a b → test ≡ false → b ≡ key → a ≡ key → ⊥
-compared_other a b key test is fails e same =
-    let would = (bytes_eq-Decides a b).1 (same ∙ sym e) in
-    cc
+lacks_number : (key : List ℕ) (ps : List FlatPair) → LacksValue key (keys_of ps) → number_of key ps ≡ None
+lacks_number key [] h = refl
+lacks_number key (p ∷ ps) h = cond-false _ _ _ (has_key_not key p (λ e. h.0 (sym e))) ∙ lacks_number key ps h.1
 
-module _ {P : Type 0} {pairs : List FlatPair} {index : Indexed P} (flat : IsFlatIndex pairs index) where
-  pub index_length : length index.besides ≡ length pairs
-  index_length = flat.indexed.count ∙ length-map pairs (λ p. p.key)
-
-  -- Where the nearest pair doesn't have the key, none has it.
-  pub none_near : (key : List ℕ) (place : ℕ) → IsOnlyFor index key place → (key_at pairs place ≡ key → ⊥) → place_of key pairs ≡ None
-  none_near key place only apart =
-      no_place key pairs (λ i h e.
-      let same : i ≡ place = only (keys_of pairs) flat.indexed i (rw length-map h) (keys_read pairs i h ∙ e) in
-      apart (rw same at e))
-
-  -- The key there is the one that is looked for: a pair has it.
-  pub near_number : (near : Option ℕ) (there key : List ℕ) → IfSome near (λ place. place < length index.besides) →
-      IsKeyThere (keys_of pairs) near there → there ≡ key → 0 < length key → is_some (number_of key pairs) ≡ true
-  near_number near there key within is same some =
-      let has = near_has flat.indexed near there key within is same some in
-      let within : has.0 < length pairs = omega (arith, has.1, length-map pairs (λ (p : FlatPair). p.key)) in
-      sym (place_as_number key pairs) ∙ ap is_some (one_place key pairs has.0 flat.distinct within (sym (keys_read pairs has.0 within) ∙ has.2))
-
-  -- It is another: no pair has it.
-  pub near_none : (near : Option ℕ) (there key : List ℕ) → is_none near ≡ (length index.besides == 0) → IfSome near (IsOnlyFor index key) →
-      IsKeyThere (keys_of pairs) near there → (there ≡ key → ⊥) → place_of key pairs ≡ None
-  near_none near there key none only is apart =
-      no_place key pairs (λ i h e. near_lacks flat.indexed near there key none only is apart i (rw length-map h) (keys_read pairs i h ∙ e))
-
-  -- The place that is found, where the key there is compared.
-  pub near_found : (place : ℕ) (seen key : List ℕ) (test : Bool) → place < length index.besides → IsOnlyFor index key place →
-      seen ≡ key_at pairs place → test ≡ bytes_eq seen key → then_some test place ≡ place_of key pairs
-  near_found place seen key true within only is holds =
-      sym (one_place key pairs place flat.distinct (omega (arith, index_length, within)) (sym is ∙ compared_same seen key key true holds refl refl))
-  near_found place seen key false within only is fails =
-      sym (none_near key place only (λ e. compared_other seen key key false fails refl refl (is ∙ e)))
-
-  pub index_push : {new : Indexed P} (p : FlatPair) → place_of p.key pairs ≡ None → Indexes new (keys_of pairs ++ p.key ∷ []) → IsFlatIndex (pairs ++ p ∷ []) new
-  index_push p none of = record {
-    distinct = distinct_push pairs p flat.distinct (no_number p.key pairs none);
-    indexed = rw map-append of;
-  }
+pub distinct_keys : (ps : List FlatPair) → AreDistinct (keys_of ps) → HasDistinctKeys ps
+distinct_keys [] h = tt
+distinct_keys (p ∷ ps) h = (lacks_number p.key ps h.0, distinct_keys ps h.1)

@@ -1,21 +1,12 @@
 -- What is looked up by the place of a key.
 use Rattle.std.proofs.Common.{◌≡◌, ℕ, suc, ◌+◌, ◌<◌, inl, inr, List, [], ◌∷◌, length, get_or, map, Option, Some, None, Bool, true, false, cond, option_map, nat_eq, slice_get, refl, sym, ap, ◌∙◌, arith}
-use Rattle.std.proofs.lemmas.Bool.Decides.{Decides-eqb, same_from_decides}
 use Rattle.std.proofs.lemmas.Option.{get_or_from_slice_get}
-use Rattle.std.proofs.lemmas.Slice.Eq.{bytes_eq-Decides, slice_eq-Decides}
 use Rattle.std.specs.Cmp.Lexicographic.{pointwise}
-use Rattle.std.specs.Str.{bytes_eq}
 use Rattle.cg_text.specs.declared.values.Amount.{Amount}
 use Rattle.cg_index.specs.Keyed.{place_among}
-use Rattle.cg_value.specs.FlatLaws.{place_cases}
+use Rattle.cg_value.specs.FlatLaws.{place_cases, swapped}
 use Rattle.cg_value.specs.LookUp.{pair_amount}
 use Rattle.cg_value.specs.declared.value.StatPair.{StatPair}
-
--- The test of two keys is the same either way round.
-swapped : (a b : List ℕ) → bytes_eq a b ≡ pointwise nat_eq b a
-swapped a b =
-    let other = slice_eq-Decides Decides-eqb b a (pointwise nat_eq b a) refl in
-    same_from_decides (bytes_eq a b) (pointwise nat_eq b a) (bytes_eq-Decides a b) (λ e. sym (other.0 e), λ e. other.1 (sym e))
 
 -- The place of a key is that of a pair.
 pub place_within : (key : List ℕ) (ps : List StatPair) (k : ℕ) → place_among key (map (λ p. p.key) ps) ≡ Some k → k < length ps

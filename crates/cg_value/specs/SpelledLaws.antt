@@ -361,23 +361,12 @@ same_words : (words : List (List ℕ)) → map (λ w. w) words ≡ words
 same_words [] = refl
 same_words (w ∷ ws) = ap (λ x. w ∷ x) (same_words ws)
 
-words_text : (words : List (List ℕ)) → (All IsControllerWord words × AreDistinct (map (λ w. w) words)) ↔ HasLines (AreWords words)
+-- Different words have lines exactly where each is a controller's.
+pub words_text : (words : List (List ℕ)) → (All IsControllerWord words × AreDistinct (map (λ w. w) words)) ↔ HasLines (AreWords words)
 words_text words = rw same_words (
   λ h. record { lines = words_line words ∷ []; spelled = record { each = h.0; distinct = h.1; lines_are = inl refl } },
   λ h. (h.spelled.each, h.spelled.distinct),
 )
-
-words_back : {X : Type 0} (f : X → List ℕ) (xs : List X) → All IsControllerWord (map f xs) → All (λ x. IsControllerWord (f x)) xs
-words_back f [] h = All-nil (λ x. IsControllerWord (f x))
-words_back f (x ∷ xs) h =
-    let first = All-head IsControllerWord (f x) (map f xs) h in
-    All-cons (λ y. IsControllerWord (f y)) x xs first (words_back f xs (All-tail IsControllerWord (f x) (map f xs) h))
-
--- Different words that lie in places have lines exactly where each is a controller's.
-pub placed_words : {X : Type 0} (f : X → List ℕ) (xs : List X) → AreDistinct (map (λ w. w) (map f xs)) → All (λ x. IsControllerWord (f x)) xs ↔ HasLines (AreWords (map f xs))
-placed_words f xs d =
-    let text = words_text (map f xs) in
-    (λ h. text.0 (All-map IsControllerWord f xs h, d), λ h. words_back f xs (text.1 h).0)
 
 pressure_line : (word : List ℕ) (a : Averages) → HasText (AreAverages a) ↔ HasText (IsPressureLine word a)
 pressure_line word a = (

@@ -1,5 +1,6 @@
 //! Copies of values.
-ghost use Rattle.std.specs.Prelude.{◌≡◌, IfOk};
+ghost use Rattle.std.specs.Prelude.{◌≡◌, IfOk, map};
+ghost use Rattle.cg_text.specs.Distinct.{AreDistinct};
 
 use crate::flat::Flat;
 use crate::raw_lines::RawLines;
@@ -49,15 +50,26 @@ impl<T: Copied> Copied for Items<T> {
     }
 }
 
+/// Copies of items whose keys are all different.
+pub(crate) fn copy_all<T: Copied + HasKey>(
+    alloc: Global,
+    items: &[T],
+) -> Result<KeyedBuilder<T>, OutOfMemory>
+    requires { AreDistinct (map T.key_of items.now) }
+    ensures { IfOk result (λ copies. copies.items ≡ items.now) }
+{
+    let mut copies = KeyedBuilder::new(alloc);
+    for item in items {
+        let copy = item.copy(alloc)?;
+        copies.reserve()?;
+        copies.push(copy);
+    }
+    Ok(copies)
+}
+
 impl<T: Copied + HasKey> Copied for KeyedItems<T> {
     fn copy(&self, alloc: Global) -> Result<KeyedItems<T>, OutOfMemory> {
-        let mut copies = KeyedBuilder::new(alloc);
-        for placed in self.placed() {
-            let copy = placed.item().copy(alloc)?;
-            copies.reserve()?;
-            copies.push(copy);
-        }
-        Ok(copies.finish())
+        Ok(copy_all(alloc, self.items())?.finish())
     }
 }
 

@@ -24,10 +24,7 @@ fn is_controller(word: &Key) -> bool
 fn are_words(words: &KeyedItems<Key>) -> bool
     ensures { IsTrue result ↔ HasLines (AreWords words.now) }
 {
-    words
-        .placed()
-        .iter()
-        .all(|placed| is_controller(placed.item()))
+    words.items().iter().all(|word| is_controller(word))
 }
 
 /// Whether no number of the set is greater than `most`.

@@ -1,13 +1,11 @@
 //! The pairs of flat keyed files.
-ghost use Rattle.std.specs.Prelude.{◌≡◌, ◌+◌, ◌≤◌, ◌<◌, ◌++◌, ◌∷◌, [], IsTrue, IfOk, IfSome, OnOk, OnErr, IfErr, length, is_some, is_err};
+ghost use Rattle.std.specs.Prelude.{◌≡◌, ◌≤◌, ◌++◌, ◌∷◌, [], IsTrue, IfOk, IfErr, OnOk, OnErr, length, is_some, is_err};
 ghost use Rattle.cg_text.specs.Token.{told};
 ghost use Rattle.cg_value.specs.Flat.{number_of, place_of, HasDistinctKeys, flat_size, IsWithinDigits, IsHandedBack, is_repeated};
-ghost use Rattle.cg_index.specs.IndexLaws.{IsKeyThere};
-ghost use Rattle.cg_index.specs.Position.{HasNoZero};
-ghost use Rattle.cg_value.specs.FlatLaws.{keys_of};
 
-use cg_index::KeyIndex;
-use cg_text::{Key, KeyFault, OutOfMemory, make_room};
+use crate::copied::{Copied, copy_all};
+use cg_index::{HasKey, KeyedBuilder, Refused};
+use cg_text::{Key, OutOfMemory};
 use std::alloc::Global;
 use std::marker::Model;
 use thiserror::Error;
@@ -17,6 +15,23 @@ use thiserror::Error;
 pub struct FlatPair {
     pub key: Key,
     pub number: u64,
+}
+
+impl HasKey for FlatPair {
+    ghost key_of = { λ pair. pair.key };
+
+    fn key(&self) -> &Key {
+        &self.key
+    }
+}
+
+impl Copied for FlatPair {
+    fn copy(&self, alloc: Global) -> Result<FlatPair, OutOfMemory> {
+        Ok(FlatPair {
+            key: self.key.copy(alloc)?,
+            number: self.number,
+        })
+    }
 }
 
 /// Why a pair isn't added. It hands the key back.
@@ -39,57 +54,19 @@ pub struct Found {
     pub compares: u64,
 }
 
-/// The key of the pair at a place, and no bytes of no place.
-fn key_near(pairs: &[FlatPair], place: Option<usize>) -> &[u8]
-    requires { IfSome place (λ i. i < length pairs.now) }
-    ensures key { IsKeyThere (keys_of pairs.now) place result.now }
-    ensures bytes { HasNoZero result.now }
-{
-    match place {
-        Some(place) => pairs[place].key.bytes(),
-        None => &[],
-    }
-}
-
-/// A vector of the same pairs.
-fn copy_pairs(alloc: Global, pairs: &[FlatPair]) -> Result<Vec<FlatPair>, OutOfMemory>
-    ensures { IfOk result (λ copy. copy.items ≡ pairs.now) }
-{
-    let mut copy = Vec::new(alloc);
-    copy.try_reserve_exact(pairs.len())?;
-    for pair in pairs {
-        let key = match Key::new(alloc, pair.key.bytes()) {
-            Ok(key) => key,
-            Err(KeyFault::OutOfMemory) => return Err(OutOfMemory),
-            Err(KeyFault::BadKey) => unreachable!(),
-        };
-        copy.push(FlatPair {
-            key,
-            number: pair.number,
-        })?;
-    }
-    Ok(copy)
-}
-
 /// The pairs of a flat keyed file that is being read. It can make room for a pair before the pair is there.
 /// Contracts see the pairs and whether there is room.
 #[derive(Debug, Drop)]
 pub struct FlatBuilder {
-    pairs: Vec<FlatPair>,
-    /// The index of their keys.
-    index: KeyIndex<()>,
+    built: KeyedBuilder<FlatPair>,
 }
 
 impl Model for FlatBuilder {
-    ghost use Rattle.std.specs.Prelude.{◌≡◌, ◌&&◌, nat_lt, vec_len, vec_capacity};
     ghost use Rattle.cg_value.specs.Flat.{Building};
-    ghost use Rattle.cg_value.specs.FlatLaws.{IsFlatIndex};
 
     ghost Value = { Building };
 
-    ghost view = { λ s. record { pairs = s.pairs.items; has_room = nat_lt (vec_len s.pairs) (vec_capacity s.pairs) && s.index.has_room } };
-
-    ghost invariant = { λ s. IsFlatIndex s.pairs.items s.index };
+    ghost view = { λ s. record { pairs = s.built.items; has_room = s.built.has_room } };
 }
 
 impl FlatBuilder {
@@ -98,8 +75,7 @@ impl FlatBuilder {
         ensures { result.pairs ≡ [] }
     {
         FlatBuilder {
-            pairs: Vec::new(alloc),
-            index: KeyIndex::new(alloc),
+            built: KeyedBuilder::new(alloc),
         }
     }
 
@@ -108,9 +84,7 @@ impl FlatBuilder {
         ensures pairs { self.new.pairs ≡ self.old.pairs }
         ensures room { OnOk result (IsTrue self.new.has_room) }
     {
-        self.pairs.try_reserve(1)?;
-        self.index.reserve()?;
-        Ok(())
+        self.built.reserve()
     }
 
     /// Adds a pair at the end. Where a pair has the key it answers `Repeated`, and where memory is wanting
@@ -122,32 +96,26 @@ impl FlatBuilder {
         ensures repeated { is_repeated result ≡ is_some (number_of key self.old.pairs) }
         ensures room { IsTrue self.old.has_room → is_err result ≡ is_repeated result }
     {
-        let near = self.index.nearest(key.bytes());
-        if key_near(self.pairs.as_slice(), near) == key.bytes() {
-            return Err(FlatRefused::Repeated(key));
+        match self.built.add(FlatPair { key, number }) {
+            Ok(()) => Ok(()),
+            Err(Refused::Repeated(pair)) => Err(FlatRefused::Repeated(pair.key)),
+            Err(Refused::OutOfMemory(pair)) => Err(FlatRefused::OutOfMemory(pair.key)),
         }
-        if make_room(&mut self.pairs).is_err() || self.index.reserve().is_err() {
-            return Err(FlatRefused::OutOfMemory(key));
-        }
-        self.index
-            .insert(key.bytes(), key_near(self.pairs.as_slice(), near), ());
-        self.pairs.push_reserved(FlatPair { key, number });
-        Ok(())
     }
 
-    /// Looks for the pair that has the key, by the index of the keys: it compares at most as many keys as the
-    /// number of pairs has binary digits.
+    /// Looks for the pair that has the key, by the marks of the keys or by their tree: it compares at most one key, and
+    /// never more than the number of pairs has binary digits.
     pub fn find(&self, key: &[u8]) -> Found
         ensures place { result.place ≡ place_of key.now self.now.pairs }
         ensures compares { IsWithinDigits result.compares (length self.now.pairs) }
     {
-        match self.index.nearest(key) {
+        match self.built.nearest(key) {
             None => Found {
                 place: None,
                 compares: 0,
             },
             Some(place) => Found {
-                place: (self.pairs[place].key.bytes() == key).then_some(place),
+                place: (self.built.items()[place].key.bytes() == key).then_some(place),
                 compares: 1,
             },
         }
@@ -158,15 +126,16 @@ impl FlatBuilder {
         ensures pairs { result.now ≡ self.now.pairs }
         ensures distinct { HasDistinctKeys self.now.pairs }
     {
-        self.pairs.as_slice()
+        self.built.items()
     }
 
-    /// The sum of the lengths of its vectors, each key's among them, or `u64::MAX` where it is more.
+    /// The sum of each key's length, with a place in each of two vectors for each pair, or `u64::MAX` where it is more.
     pub fn held(&self) -> u64
         ensures { result ≡ told (flat_size self.now.pairs) }
     {
-        let mut held = (self.pairs.len() as u64).saturating_add(self.index.len() as u64);
-        for pair in &self.pairs {
+        let places = self.built.items().len() as u64;
+        let mut held = places.saturating_add(places);
+        for pair in self.built.items() {
             held = held.saturating_add(pair.key.bytes().len() as u64);
         }
         held
@@ -177,8 +146,7 @@ impl FlatBuilder {
         ensures { IfOk result (λ copy. copy.pairs ≡ self.now.pairs) }
     {
         Ok(FlatBuilder {
-            pairs: copy_pairs(alloc, self.pairs.as_slice())?,
-            index: self.index.copy(alloc)?,
+            built: copy_all(alloc, self.built.items())?,
         })
     }
 
@@ -224,8 +192,8 @@ impl Flat {
         self.built.push(key, number)
     }
 
-    /// Looks for the pair that has the key, by the index of the keys: it compares at most as many keys as the
-    /// number of pairs has binary digits.
+    /// Looks for the pair that has the key, by the marks of the keys or by their tree: it compares at most one key, and
+    /// never more than the number of pairs has binary digits.
     pub fn find(&self, key: &[u8]) -> Found
         ensures place { result.place ≡ place_of key.now self.now }
         ensures compares { IsWithinDigits result.compares (length self.now) }

@@ -20,7 +20,7 @@ use crate::flat::FlatPair;
 use crate::value::{
     Averages, LimitLine, NestedLine, NestedPair, StatLine, StatPair, TargetLine, WeightLine,
 };
-use cg_index::{HasKey, KeyedItems, Placed};
+use cg_index::{HasKey, KeyedItems};
 use cg_text::{Amount, Clamp, Device, Hundredths, Key, Limit};
 
 /// A part of a value, which some text may spell.
@@ -229,17 +229,9 @@ pub(crate) fn is_raw(bytes: &[u8]) -> bool
     bytes.iter().all(|byte| *byte != 0 && *byte != b'\n')
 }
 
-impl<T: Spelled> Spelled for Placed<T> {
-    ghost spells = { λ placed. T.spells placed.item };
-
-    fn is_spelled(&self) -> bool {
-        self.item().is_spelled()
-    }
-}
-
 /// Whether some text spells each. No two have one key.
 pub(crate) fn are_keyed<T: Spelled + HasKey>(items: &KeyedItems<T>) -> bool
     ensures { IsTrue result ↔ (HasLines (AllZip T.spells items.now) × AreDistinct (map T.key_of items.now)) }
 {
-    are_spelled(items.placed())
+    are_spelled(items.items())
 }

@@ -102,7 +102,7 @@ fn decodes_setting(alloc: Global) -> Option<bool> {
 
 /// Whether a key is made that is too long to lie in itself.
 fn makes_key(alloc: Global) -> Option<bool> {
-    let long: &[u8] = b"a_key_that_has_a_vector";
+    let long: &[u8] = b"a_key_that_has_its_vector";
     match Key::new(alloc, long) {
         Ok(key) => Some(key.bytes() == long),
         Err(KeyFault::OutOfMemory) => None,
@@ -244,7 +244,7 @@ fn three_to_five_and_nine(alloc: Global) -> Result<NumberSet, OutOfMemory> {
 /// One pair, whose key is too long to lie in itself.
 fn one_pair(alloc: Global) -> Result<Flat, Fail> {
     let mut flat = Flat::new(alloc);
-    let key = Key::new(alloc, b"a_key_that_has_a_vector")?;
+    let key = Key::new(alloc, b"a_key_that_has_its_vector")?;
     flat.push(key, 1)?;
     Ok(flat)
 }

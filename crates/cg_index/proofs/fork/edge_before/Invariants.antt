@@ -1,10 +1,9 @@
-use Rattle.std.proofs.Common.{map}
 use Rattle.cg_index.specs.Position.{number}
 use Rattle.cg_index.specs.TreeLaws.{left, IsWalk}
 use Rattle.cg_index.proofs.fork.edge_before.Given as goal
 
 abbrev pub invariant-loop-edge : goal.invariant-loop-edge
-invariant-loop-edge g l = IsWalk (map (λ n. n.fork) l.nodes) l.fn.root l.key (number l.at) l.edge
+invariant-loop-edge l = IsWalk l.forks l.fn.root l.key (number l.at) l.edge
 
 abbrev pub decreases-loop-edge : goal.decreases-loop-edge
-decreases-loop-edge g l = left (map (λ n. n.fork) l.nodes) l.edge.to
+decreases-loop-edge l = left l.forks l.edge.to

@@ -1,13 +1,7 @@
-use Rattle.std.proofs.Common.{ap}
-use Rattle.std.proofs.Math.Seq.{map-set_same}
-use Rattle.cg_index.specs.GrownLaws.{turned_forks_of}
+use Rattle.cg_index.specs.GrownLaws.{turned_at_place}
 use Rattle.cg_index.proofs.fork.redirect.Goals as goal
 
 pub returns-in-Some-clause-forks : goal.returns-in-Some-clause-forks
-returns-in-Some-clause-forks g c =
-    let here = rw c.in-Some.is at c.requires in
-    rw c.in-Some.is (turned_forks_of (λ n. n.fork) c.args.nodes.now.items c.in-Some.place c.index_mut.result.now _ c.args.seat.digit c.args.seat.link here c.index_mut.ensures.value c.turn.ensures)
-
-pub returns-in-Some-clause-items : goal.returns-in-Some-clause-items
-returns-in-Some-clause-items g c =
-    map-set_same (λ n. n.item) c.args.nodes.now.items c.in-Some.place _ c.index_mut.result.now (ap (λ n. n.item) c.index_mut.ensures.value)
+returns-in-Some-clause-forks c =
+    let here = rw c.in-Some.is at c.requires.from in
+    rw c.in-Some.is (turned_at_place c.args.forks.now.items c.in-Some.place c.index_mut.result.now _ c.args.seat.digit c.args.seat.link here c.index_mut.ensures.value c.turn.ensures)

@@ -1,4 +1,4 @@
-use Rattle.std.proofs.Common.{◌≡◌, ◌<◌, ◌+◌, length, take, get_or, map, sym, ◌∙◌, ap, arith}
+use Rattle.std.proofs.Common.{◌≡◌, ◌<◌, ◌+◌, length, take, get_or, sym, arith}
 use Rattle.cg_text.specs.Token.{told}
 use Rattle.cg_join.specs.Repeat.{items_size}
 use Rattle.cg_join.specs.RepeatLaws.{told_more, size_pushed}
@@ -14,9 +14,9 @@ loop-word-preserved c =
     let v = c.word-item.result in
     let lt : i < length xs = omega arith in
     let at : get_or xs i v ≡ v = sym c.word-item.is in
-    let front = map (λ p. p.item) (take i xs) in
-    let more = map (λ p. p.item) (take (i + 1) xs) in
-    let size : c.held_in.result ≡ told (f v.item) = c.held_in.ensures ∙ ap (λ x. told (f x)) c.item.ensures in
-    told_more (items_size f front) (f v.item) (items_size f more) c.loop-word.total c.saturating_add.result c.held_in.result c.saturating_add-total.result
+    let front = take i xs in
+    let more = take (i + 1) xs in
+    let size : c.held_in.result ≡ told (f v) = c.held_in.ensures in
+    told_more (items_size f front) (f v) (items_size f more) c.loop-word.total c.saturating_add.result c.held_in.result c.saturating_add-total.result
     c.loop-word.invariant c.saturating_add.ensures size c.saturating_add-total.ensures
-    (size_pushed f more front v.item (one_more (λ p. p.item) xs i v lt at))
+    (size_pushed f more front v (one_more xs i v lt at))

@@ -5,5 +5,5 @@ use Rattle.cg_json.proofs.pressure.append_pressure.Goals as goal
 
 pub returns : goal.returns
 returns c =
-    rw (pressure_text c.args.some c.args.full) (IfOk-weaker c.append_bytes.result _ _
-    (λ u h. h ∙ rw (c.in_ok-append_labelled-2.ensures, c.in_ok-append_labelled.ensures) (simp append_assoc)) c.append_bytes.ensures.added)
+    rw (pressure_text c.args.some c.args.full) (IfOk-weaker c.append_byte.result _ _
+    (λ u h. h ∙ rw (c.in_ok-append_labelled-2.ensures, c.in_ok-append_labelled.ensures) (simp append_assoc)) c.append_byte.ensures)

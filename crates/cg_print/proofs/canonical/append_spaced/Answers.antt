@@ -3,4 +3,4 @@ use Rattle.cg_print.specs.JoinedLaws.{led_is}
 use Rattle.cg_print.proofs.canonical.append_spaced.Goals as goal
 
 pub returns : goal.returns
-returns g c = rw (← c.placed.ensures.items, ← led_is (λ p. p.item) g.T.Canonical.printed c.placed.result.now) (search rules)
+returns g c = rw (← c.items.ensures.items, ← led_is g.T.Canonical.printed c.items.result.now) (search rules)

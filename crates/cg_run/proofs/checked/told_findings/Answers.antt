@@ -39,5 +39,5 @@ pub returns-clause-ended : goal.returns-clause-ended
 returns-clause-ended g c form first read written b left failed ended works =
     let after = c.told_after-in-Err in
     memory_end (form.0) (form.1) read left failed first (g.W.Sink.taken after.new.writer) (g.W.Sink.has_failed after.new.writer) ended works
-    (kept_passed c.args.kept form read b.parts b.took) after.result (c.in-Ok.entries.items, c.in-Ok.ensures form read b.parts b.took)
+    (kept_passed c.args.kept form read b.parts b.took) after.result ((c.in-Ok.ensures form read b.parts b.took).given, (c.in-Ok.ensures form read b.parts b.took).whole)
     (after.ensures.wrote first [] (nothing_written first (g.W.Sink.taken c.args.writer.now) b.parts written b.took.none b.wrote))

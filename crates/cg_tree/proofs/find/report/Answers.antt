@@ -1,7 +1,4 @@
-use Rattle.std.proofs.Common.{◌≡◌, ℕ, ◌<◌, ◌++◌, ◌∷◌, [], Bool, not, List, get_or, length, map, take, ap, sym, ◌∙◌, append_assoc}
-use Rattle.std.proofs.lemmas.List.{get_or-map, length-map}
-use Rattle.cg_text.specs.declared.key.Key.{Key}
-use Rattle.cg_index.specs.declared.fork.Placed.{Placed}
+use Rattle.std.proofs.Common.{◌≡◌, ℕ, ◌<◌, ◌++◌, ◌∷◌, [], Bool, not, List, get_or, length, take, ap, sym, ◌∙◌, append_assoc}
 use Rattle.cg_tree.specs.File.{FileData}
 use Rattle.cg_tree.specs.Find.{allows, finding}
 use Rattle.cg_tree.specs.FindLaws.{lacked}
@@ -15,21 +12,16 @@ use Rattle.cg_tree.proofs.find.report.Goals.{then-not-allows+in_ok-push, else-no
 one_more : (all old done : List Finding) (rule : Rule) (a b e f : FileData) (p : ℕ × List ℕ) → all ≡ old ++ done → a ≡ e → b ≡ f → all ++ finding rule a b p ∷ [] ≡ old ++ (done ++ finding rule e f p ∷ [])
 one_more all old done rule a b e f p i g h = rw (i, g, h) (append_assoc old done (finding rule e f p ∷ []))
 
--- The word in its place.
-placed_read : (ps : List (Placed Key)) (k : ℕ) (p : Placed Key) → k < length ps → p ≡ get_or ps k p → p.item ≡ get_or (map (λ q. q.item) ps) k p.item
-placed_read ps k p h e = ap (λ (q : Placed Key). q.item) e ∙ sym (get_or-map (λ (q : Placed Key). q.item) ps k p p.item h)
-
 pub loop-word-preserved : goal.loop-word-preserved
 loop-word-preserved c =
-    let placed = c.words_of-placed-items.result.now in
-    let words = map (λ p. p.item) placed in
-    let key = c.placed-item.result.item in
+    let words = c.words_of-name-items.result.now in
+    let key = c.name-item.result in
     let old = c.args.found.now.items in
     let fails : ℕ × List ℕ → Bool = λ p. not (allows c.args.rule c.args.other.now p.1) in
     let make = finding c.args.rule c.args.control.now c.args.other.now in
-    let inside : c.loop-word.word < length words = rw length-map c.loop-word-test.true in
-    let is : key ≡ get_or words c.loop-word.word key = placed_read placed c.loop-word.word c.placed-item.result c.loop-word-test.true c.placed-item.is in
-    let same = c.bytes.ensures.bytes ∙ c.item.ensures in
+    let inside : c.loop-word.word < length words = c.loop-word-test.true in
+    let is : key ≡ get_or words c.loop-word.word key = c.name-item.is in
+    let same = c.bytes.ensures.bytes in
     let tested : fails (c.loop-word.word, key) ≡ not c.allows.result = ap (λ k. not (allows c.args.rule c.args.other.now k)) (sym same) ∙ ap not (sym c.allows.ensures) in
     elim c.if-not-allows.branch [
       | then-not-allows+in_ok-push w ↦ ap (λ f. f.items) w.found-is ∙ w.in_ok-push.ensures.items

@@ -35,9 +35,3 @@ returns-in-Nested-clause-taken c = rw c.in-Nested.is c.take_line-in-Nested.ensur
 
 pub returns-in-Nested-clause-left : goal.returns-in-Nested-clause-left
 returns-in-Nested-clause-left c = rw c.in-Nested.is c.take_line-in-Nested.ensures.left
-
-pub returns-in-Raw-clause-taken : goal.returns-in-Raw-clause-taken
-returns-in-Raw-clause-taken c = rw c.in-Raw.is c.take_line-in-Raw.ensures.taken
-
-pub returns-in-Raw-clause-left : goal.returns-in-Raw-clause-left
-returns-in-Raw-clause-left c = rw c.in-Raw.is c.take_line-in-Raw.ensures.left

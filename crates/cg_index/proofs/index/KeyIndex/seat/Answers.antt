@@ -1,18 +1,17 @@
-use Rattle.std.proofs.Common.{◌≡◌, ◌<◌, length, map, arith}
-use Rattle.std.proofs.lemmas.List.{length-map}
+use Rattle.std.proofs.Common.{◌≡◌, ◌<◌, length, arith}
 use Rattle.cg_index.specs.GrownLaws.{edge_seat, first_seat}
 use Rattle.cg_index.proofs.index.KeyIndex.seat.Goals as goal
 
 pub returns-then-place-eq0 : goal.returns-then-place-eq0
-returns-then-place-eq0 g c = λ keys of near.
-    let count : length (map (λ n. n.fork) c.self.inside.nodes.items) ≡ 0 = rw length-map (omega (arith, c.self.inside.nodes.ok.0)) in
+returns-then-place-eq0 c = λ keys of near.
+    let count : length c.self.inside.forks.items ≡ 0 = omega (arith, c.self.inside.forks.ok.0) in
     let within = rw (← c.self.view_is) at of in
     rw (← c.self.view_is) (first_seat _ keys c.args.key.now c.none.result within count c.none.ensures)
 
 pub returns : goal.returns
-returns g c = λ keys of near.
-    let forks = map (λ n. n.fork) c.self.inside.nodes.items in
-    let count : c.len-place.result ≡ length forks = rw length-map (omega (arith, c.self.inside.nodes.ok.0)) in
+returns c = λ keys of near.
+    let forks = c.self.inside.forks.items in
+    let count : c.len-place.result ≡ length forks = omega (arith, c.self.inside.forks.ok.0) in
     let some : 0 < length forks = omega (arith, count) in
     let within = rw (← c.self.view_is) at of in
     let is_near = rw (← c.self.view_is) at near in

@@ -1,14 +1,23 @@
-use Rattle.std.proofs.Common.{map, sym}
-use Rattle.cg_index.specs.IndexLaws.{same_indexes, same_seat}
-use Rattle.cg_index.specs.KeyedLaws.{not_among}
-use Rattle.cg_index.specs.SeatLaws.{keyed_push}
+use Rattle.std.proofs.Common.{refl, ap, ◌∙◌}
+use Rattle.std.proofs.lemmas.List.{map-append}
+use Rattle.cg_text.specs.Mark.{mark_of}
+use Rattle.cg_index.specs.MarkedLaws.{keyed_free, free_new}
 use Rattle.cg_index.proofs.keyed.KeyedBuilder.add.Goals as goal
+
+pub returns-then-is_err-clause-repeated : goal.returns-then-is_err-clause-repeated
+returns-then-is_err-clause-repeated g c =
+    let key = g.T.HasKey.key_of in
+    let free = rw (c.as_slice.ensures.value, c.mark.ensures ∙ ap mark_of c.key.ensures) at (c.if-not-is_free.ensures refl) in
+    rw (← c.self.view_is) (free_new (key c.args.item) free)
 
 pub invariant_of-self-2 : goal.invariant_of-self-2
 invariant_of-self-2 g c =
-    let keys = map g.T.HasKey.key_of c.self.inside.index.besides in
-    let lacks = not_among c.key.result.now keys (sym c.in-Some.ensures.there) in
-    let seat = same_seat c.reserve.ensures.same c.in-Some.ensures.seat in
-    let grown = c.insert_at.ensures.index keys c.key.result.now (same_indexes c.reserve.ensures.same c.self.invariant.indexed) seat in
-    let items = rw (c.reserve.ensures.same.besides) at c.insert_at.ensures.besides in
-    keyed_push g.T.HasKey.key_of c.args.item c.self.invariant (rw (c.key.ensures) at lacks) items (rw (c.key.ensures) at grown)
+    let key = g.T.HasKey.key_of in
+    let free = rw (c.as_slice.ensures.value, c.mark.ensures ∙ ap mark_of c.key.ensures) at (c.if-not-is_free.ensures refl) in
+    rw (c.push_reserved.ensures.items, c.make_room.ensures.items, map-append) (keyed_free (key c.args.item) c.self.invariant free)
+
+pub returns-clause-repeated : goal.returns-clause-repeated
+returns-clause-repeated g c =
+    let key = g.T.HasKey.key_of in
+    let free = rw (c.as_slice.ensures.value, c.mark.ensures ∙ ap mark_of c.key.ensures) at (c.if-not-is_free.ensures refl) in
+    rw (← c.self.view_is) (free_new (key c.args.item) free)

@@ -1,23 +1,52 @@
-use Rattle.std.proofs.Common.{◌≡◌, ◌<◌, length, take, arith}
-use Rattle.cg_join.specs.LinesLaws.{lines_same}
+use Rattle.std.proofs.Common.{◌≡◌, ◌<◌, ◌++◌, ◌∙◌, length, take, arith}
+use Rattle.cg_join.specs.LinesLaws.{lacks_same, lines_same}
+use Rattle.cg_join.specs.LinesState.{at_hand}
+use Rattle.cg_join.specs.LinesStateLaws.{hand_lacks, hand_same, through}
 use Rattle.cg_join.specs.ScanLaws.{lacks_run, lines_scanned, some_taken}
 use Rattle.cg_join.proofs.lines.LinesToken.run.Goals as goal
 
 pub invariant_of-self-clause-lacks : goal.invariant_of-self-clause-lacks
 invariant_of-self-clause-lacks g c =
     let old = c.args.self.now in
-    lacks_run old.end (g.T.Token.means old.current) (g.T.Token.means c.run_parts-count.new.token) (take c.run_parts-count.result c.args.bytes.now) c.run_parts-count.ensures.follows old.lacks
+    let P = g.T.Token.means old.current in
+    let R = g.S.Start.texts old.start in
+    let renewed = g.T.Token.means c.renew.new.current in
+    lacks_run old.end renewed (g.T.Token.means c.run_parts-count.new.token) (take c.run_parts-count.result c.args.bytes.now) c.run_parts-count.ensures.follows
+    (lacks_same old.end (at_hand old.begun P R) renewed c.renew.ensures.is (hand_lacks P R old.end old.begun old.lacks old.starts))
 
 pub returns-then-count-gt0-clause-follows : goal.returns-then-count-gt0-clause-follows
 returns-then-count-gt0-clause-follows g c =
     let old = c.args.self.now in
+    let P = g.T.Token.means old.current in
+    let R = g.S.Start.texts old.start in
     let some : 0 < length (take c.run_parts-count.result c.args.bytes.now) = some_taken c.run_parts-count.result c.args.bytes.now (omega (arith, c.if-count-gt0.true)) c.run_parts-count.ensures.within in
     let new = c.run_parts-count.new.token in
     let run = take c.run_parts-count.result c.args.bytes.now in
-    lines_scanned old.end (g.T.Token.means old.current) (g.T.Token.means new) (g.S.Start.texts old.start) run some old.lacks (g.T.Token.completes new) c.run_parts-count.ensures.follows old.begun old.items.items
+    lines_scanned old.end (at_hand old.begun P R) (g.T.Token.means new) R run some (hand_lacks P R old.end old.begun old.lacks old.starts) (g.T.Token.completes new)
+    (λ rest v. through (c.run_parts-count.ensures.follows rest v) (c.renew.ensures.is (run ++ rest) v)) old.begun old.items.items
 
 pub returns-else-count-gt0-clause-follows : goal.returns-else-count-gt0-clause-follows
 returns-else-count-gt0-clause-follows g c =
     let old = c.args.self.now in
+    let P = g.T.Token.means old.current in
+    let R = g.S.Start.texts old.start in
+    let new = g.T.Token.means c.run_parts-count.new.token in
     let none : c.run_parts-count.result ≡ 0 = omega (arith, c.if-count-gt0.false) in
-    rw none (lines_same old.end (g.T.Token.means old.current) (g.T.Token.means c.run_parts-count.new.token) (g.S.Start.texts old.start) (rw none at c.run_parts-count.ensures.follows) old.begun old.items.items)
+    let same = rw none at c.run_parts-count.ensures.follows in
+    rw none (lines_same old.end (at_hand old.begun P R) (at_hand old.begun new R) R (hand_same P R old.begun new (λ rest v. through (same rest v) (c.renew.ensures.is rest v))) old.begun old.items.items)
+
+pub invariant_of-self-else-count-gt0 : goal.invariant_of-self-else-count-gt0
+invariant_of-self-else-count-gt0 g c =
+    let old = c.args.self.now in
+    let P = g.T.Token.means old.current in
+    let R = g.S.Start.texts old.start in
+    let renewed = g.T.Token.means c.renew.new.current in
+    let none : c.run_parts-count.result ≡ 0 = omega (arith, c.if-count-gt0.false) in
+    record {
+      counted = old.counted;
+      lacks = lacks_run old.end renewed (g.T.Token.means c.run_parts-count.new.token) (take c.run_parts-count.result c.args.bytes.now) c.run_parts-count.ensures.follows
+          (lacks_same old.end (at_hand old.begun P R) renewed c.renew.ensures.is (hand_lacks P R old.end old.begun old.lacks old.starts));
+      starts = old.starts;
+      small = old.small;
+      fresh = λ h. c.run_parts-count.ensures.same_size none ∙ c.renew.ensures.size ∙ old.fresh h;
+    }

@@ -1,6 +1,5 @@
-use Rattle.std.proofs.Common.{◌≡◌, ◌≤◌, [], ◌∷◌, ◌++◌, length, ◌∙◌, ap, arith}
+use Rattle.std.proofs.Common.{◌≡◌, ◌≤◌, false, [], ◌∷◌, ◌++◌, length, ◌∙◌, ap, arith}
 use Rattle.std.proofs.lemmas.List.{take_all}
-use Rattle.cg_join.specs.LinesLaws.{lacks_same}
 use Rattle.cg_join.specs.Repeat.{items_size}
 use Rattle.cg_join.specs.RepeatLaws.{told_more, size_pushed}
 use Rattle.cg_join.specs.WholeLineLaws.{lines_whole}
@@ -15,23 +14,25 @@ invariant_of-self-2 g c =
     record {
       counted = told_more (items_size f old.items.items) (f v) (items_size f c.put.new.items.items) old.items_held c.saturating_add.result c.held_in-new_size.result c.saturating_add-self.result
           old.counted c.saturating_add.ensures c.held_in-new_size.ensures c.saturating_add-self.ensures (size_pushed f c.put.new.items.items old.items.items v items);
-      lacks = lacks_same old.end (g.S.Start.texts old.start) (g.T.Token.means c.start.result) c.start.ensures.spells.is old.starts;
+      lacks = old.lacks;
       starts = old.starts;
       small = old.small;
-      fresh = λ _. c.start.ensures.size;
+      fresh = old.fresh;
     }
 
 pub returns-clause-taken : goal.returns-clause-taken
 returns-clause-taken g c _ =
     let old = c.args.self.now in
+    let R = g.S.Start.texts old.start in
     let line = c.args.line.now in
     let v = c.in-Some.found.0 in
     let items : c.put.new.items.items ≡ old.items.items ++ v ∷ [] = c.put.ensures ∙ ap (λ x. x ++ v ∷ []) c.make_room.ensures.items in
     let far : length line ≤ c.in-Some.found.1 = omega (arith, c.if-count-line.false) in
     let front = c.in-Some.ensures.front in
     let whole = rw (take_all c.in-Some.found.1 line far) at front.1 in
-    rw (items, c.if-end-self.false)
-    (lines_whole old.end (g.T.Token.means old.current) (g.T.Token.means c.start.result) (g.S.Start.texts old.start) c.start.ensures.spells.is old.lacks (g.T.Token.one_value old.current) line v whole old.begun old.items.items)
+    let text = (c.start-token.ensures.spells.is line v).0 whole in
+    rw (items, c.if-self.false, c.if-end-self.false)
+    (lines_whole old.end R R R (λ rest u. (λ h. h, λ h. h)) old.starts (g.S.Start.one_text old.start) line v text false old.items.items)
 
 pub returns-clause-size : goal.returns-clause-size
 returns-clause-size g c =
@@ -39,4 +40,4 @@ returns-clause-size g c =
     let v = c.in-Some.found.0 in
     let f = g.T.Token.value_size in
     let items : c.put.new.items.items ≡ old.items.items ++ v ∷ [] = c.put.ensures ∙ ap (λ x. x ++ v ∷ []) c.make_room.ensures.items in
-    omega (arith, size_pushed f c.put.new.items.items old.items.items v items, c.start.ensures.size, c.in-Some.ensures.size, c.in-Some.ensures.front.0)
+    omega (arith, size_pushed f c.put.new.items.items old.items.items v items, c.start-token.ensures.size, c.in-Some.ensures.size, c.in-Some.ensures.front.0)

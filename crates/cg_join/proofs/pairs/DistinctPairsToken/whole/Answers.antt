@@ -14,7 +14,7 @@ pub loop-used-init : goal.loop-used-init
 loop-used-init g c =
     let p = c.in-Some.found.0 in
     let f = pair_size g.F.Pairing.word_of g.F.Pairing.value_of word_text.ghosts.value_size g.V.Token.value_size in
-    let items : c.push.new.self ≡ p ∷ [] = pushed_last c.push.result c.if-is_err.ensures.value c.push.ensures.ok ∙ ap (λ xs. xs ++ p ∷ []) c.new-items.ensures in
+    let items : c.push.new.self ≡ p ∷ [] = pushed_last c.push.result c.if-is_err.ensures.value c.push.ensures.ok ∙ ap (λ xs. xs ++ p ∷ []) c.with_room-items.ensures in
     record {
       within = c.in-Some.ensures.front.0;
       list = rw items c.in-Some.ensures.front.1;

@@ -5,5 +5,5 @@ use Rattle.cg_json.proofs.devices.LimitLineJson.append_to.Goals as goal
 
 pub returns : goal.returns
 returns c =
-    rw (limits_text c.args.self.now) (IfOk-weaker c.append_bytes.result _ _
-    (λ u h. h ∙ rw (c.in_ok-append_labelled-5.ensures, c.in_ok-append_labelled-4.ensures, c.in_ok-append_labelled-3.ensures, c.in_ok-append_labelled-2.ensures, c.in_ok-append_labelled.ensures) (simp append_assoc)) c.append_bytes.ensures.added)
+    rw (limits_text c.args.self.now) (IfOk-weaker c.append_byte.result _ _
+    (λ u h. h ∙ rw (c.in_ok-append_labelled-5.ensures, c.in_ok-append_labelled-4.ensures, c.in_ok-append_labelled-3.ensures, c.in_ok-append_labelled-2.ensures, c.in_ok-append_labelled.ensures) (simp append_assoc)) c.append_byte.ensures)

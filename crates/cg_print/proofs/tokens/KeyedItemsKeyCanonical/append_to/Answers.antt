@@ -3,4 +3,4 @@ use Rattle.cg_print.specs.JoinedLaws.{words_is}
 use Rattle.cg_print.proofs.tokens.KeyedItemsKeyCanonical.append_to.Goals as goal
 
 pub returns : goal.returns
-returns c = rw (← c.placed.ensures.items, ← words_is (λ p. p.item) c.placed.result.now) (search rules)
+returns c = rw (← c.items.ensures.items, ← words_is c.items.result.now) (search rules)

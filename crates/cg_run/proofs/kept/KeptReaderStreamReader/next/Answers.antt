@@ -1,8 +1,8 @@
-use Rattle.std.proofs.Common.{List, ◌∷◌, ◌++◌, [], take, inl, sym, subst, ap, ◌∙◌}
+use Rattle.std.proofs.Common.{◌∷◌, ◌++◌, [], inl, ap, ◌∙◌}
 use Rattle.cg_value.specs.Entry.{EntryData}
-use Rattle.cg_snap.specs.Decode.{HasTaken}
+use Rattle.cg_tree.specs.Ruled.{ruled}
 use Rattle.cg_snap.specs.declared.decoder.What.TheVariants as whats
-use Rattle.cg_run.proofs.Keeping.{keep_starved}
+use Rattle.cg_run.proofs.Keeping.{keep_starved, kept_more}
 use Rattle.cg_run.proofs.Pulled.{pulled_is}
 use Rattle.cg_run.proofs.kept.KeptReaderStreamReader.next.Goals as goal
 
@@ -11,12 +11,14 @@ returns-in-Ok-clause-found c form p parts h =
     let was = c.args.self.now in
     let now = c.next-pulled.new.self in
     let used = c.next-pulled.result.used in
-    let what = rw c.in-Entry.is at (c.next-pulled.ensures.pulled p was.entries.items h.taken.stop h.taken.stands) in
-    let pulled = pulled_is was.decoder now (form.0) (form.1) p was.entries.items c.args.piece.now used h.taken
+    let what = rw c.in-Entry.is at (c.next-pulled.ensures.pulled p h.given h.taken.stop h.taken.stands) in
+    let pulled = pulled_is was.decoder now (form.0) (form.1) p h.given c.args.piece.now used h.taken
     c.next-pulled.ensures.profile c.next-pulled.ensures.limits (whats.Entry c.in-Entry.entry) what in
-    let kept = c.in-Ok.ensures ∙ ap (λ (e : EntryData). was.entries.items ++ e ∷ []) c.in-Entry.entry-is in
+    let more = c.in-Ok.ensures.kept ∙ ap (λ (e : EntryData). was.entries.items ++ ruled (e ∷ [])) c.in-Entry.entry-is in
     record {
-      taken = subst (λ (es : List EntryData). HasTaken now (form.0) (form.1) (p ++ take used c.args.piece.now) es) (sym kept) pulled.1;
+      given = h.given ++ c.in-Entry.entry ∷ [];
+      taken = pulled.1;
+      kept = kept_more was.entries.items c.keep.new.entries.items h.given c.in-Entry.entry h.kept more;
       none = h.none;
     }
 
@@ -25,15 +27,15 @@ returns-in-Err-clause-found c form p parts h =
     let was = c.args.self.now in
     let now = c.next-pulled.new.self in
     let used = c.next-pulled.result.used in
-    let what = rw c.in-Entry.is at (c.next-pulled.ensures.pulled p was.entries.items h.taken.stop h.taken.stands) in
-    let pulled = pulled_is was.decoder now (form.0) (form.1) p was.entries.items c.args.piece.now used h.taken
+    let what = rw c.in-Entry.is at (c.next-pulled.ensures.pulled p h.given h.taken.stop h.taken.stands) in
+    let pulled = pulled_is was.decoder now (form.0) (form.1) p h.given c.args.piece.now used h.taken
     c.next-pulled.ensures.profile c.next-pulled.ensures.limits (whats.Entry c.in-Entry.entry) what in
-    keep_starved now (form.0) (form.1) p c.args.piece.now used (was.entries.items ++ c.in-Entry.entry ∷ []) parts pulled.0 c.next-pulled.ensures.used pulled.1 h.none
+    keep_starved now (form.0) (form.1) p c.args.piece.now used (h.given ++ c.in-Entry.entry ∷ []) parts pulled.0 c.next-pulled.ensures.used pulled.1 h.none
 
 pub returns-in-OutOfMemory-clause-found : goal.returns-in-OutOfMemory-clause-found
 returns-in-OutOfMemory-clause-found c form p parts h =
     let was = c.args.self.now in
-    let what = rw c.in-OutOfMemory.is at (c.next-pulled.ensures.pulled p was.entries.items h.taken.stop h.taken.stands) in
-    let pulled = pulled_is was.decoder c.next-pulled.new.self (form.0) (form.1) p was.entries.items c.args.piece.now c.next-pulled.result.used h.taken
+    let what = rw c.in-OutOfMemory.is at (c.next-pulled.ensures.pulled p h.given h.taken.stop h.taken.stands) in
+    let pulled = pulled_is was.decoder c.next-pulled.new.self (form.0) (form.1) p h.given c.args.piece.now c.next-pulled.result.used h.taken
     c.next-pulled.ensures.profile c.next-pulled.ensures.limits whats.OutOfMemory what in
     inl (pulled.0, pulled.1, pulled.2, h.none)

@@ -7,6 +7,6 @@ use Rattle.cg_value.proofs.flat.FlatBuilder.held.Goals as goal
 
 pub returns : goal.returns
 returns c =
-    let pairs = c.deref-pair-items.result.now in
+    let pairs = c.items-pair-items.result.now in
     let whole = c.loop-pair.invariant ∙ rw (take_all c.loop-pair.pair-index pairs c.loop-pair-test.false) (ap told (parts_size pairs)) in
-    whole ∙ ap (λ ps. told (flat_size ps)) (c.deref-pair-items.ensures.value ∙ ap (λ (b : Building). b.pairs) c.self.view_is)
+    whole ∙ ap (λ ps. told (flat_size ps)) (c.items-pair-items.ensures.items ∙ ap (λ (b : Building). b.pairs) c.self.view_is)

@@ -1,5 +1,0 @@
-use Rattle.std.proofs.lemmas.Simd.{map-map}
-use Rattle.cg_json.proofs.json.placed_array.Goals as goal
-
-pub returns : goal.returns
-returns g c = rw (map-map g.T.Json.tree_of (λ p. p.item) c.args.placed.now) c.array.ensures
