@@ -11,7 +11,8 @@ invariant_of-self c =
       | else-self-via-then-self+else-is_empty w ↦ λ e. some_held s.bytes.items (vec_len s.bytes) w.is_empty.result count w.is_empty.ensures w.if-is_empty.false
       | else-self-via-else-self w ↦ λ e. absurd (let f = w.if-self.false in cc)
     ] in
-    record { sound = front_extended s.controller _ s.bytes.items (take (c.word_front-count.result.0) c.args.bytes.now) c.split_at.result.0.now _ c.extend_from_slice.ensures.items c.split_at.ensures.front s.sound c.word_front-count.ensures.words some }
+    let run = take (c.word_front-count.result.0) c.args.bytes.now in
+    record { sound = front_extended s.controller _ s.bytes.items run c.split_at.result.0.now _ c.extend_from_slice.ensures.items c.split_at.ensures.front s.sound c.word_front-count.ensures.words some }
 
 pub returns-in-Ok-clause-follows : goal.returns-in-Ok-clause-follows
 returns-in-Ok-clause-follows c =
