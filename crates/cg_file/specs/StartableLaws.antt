@@ -95,7 +95,7 @@ decimal_startable {lo} {hi} le = record { some = some_decimal lo hi le; one = on
 
 pub limit_startable : (lo hi : ℕ) → lo ≤ hi → Startable (λ text v. IsLimit lo hi v text)
 limit_startable lo hi le =
-    startable_as (limit_is lo hi) (turned_startable limit_of (either_startable (λ text u n h k. max_not_decimal lo hi n text h k) (fixed_startable (codes "max") (keyword_bytes Max)) (decimal_startable le)))
+    startable_as (limit_is lo hi) (turned_startable limit_of (either_startable (λ text n u h k. max_not_decimal lo hi n text k h) (decimal_startable le) (fixed_startable (codes "max") (keyword_bytes Max))))
 
 pub hundredths_startable : (most : ℕ) → Startable (λ text h. IsHundredths Read most h text)
 hundredths_startable most = startable_as (hundredths_new Read most (WholePart most Start) (λ x n. (λ h. h, λ h. h)))
@@ -106,8 +106,9 @@ hundredths_startable most = startable_as (hundredths_new Read most (WholePart mo
     }
 
 pub amount_startable : Startable (λ text v. IsAmount v text)
-amount_startable = startable_as amount_is (turned_startable amount_of (either_startable max_apart (fixed_startable (codes "max") (keyword_bytes Max))
-    (either_startable whole_not_fraction (decimal_startable (omega arith)) (hundredths_startable 99999999999))))
+amount_startable = startable_as amount_is (turned_startable amount_of (either_startable max_apart
+    (either_startable whole_not_fraction (decimal_startable (omega arith)) (hundredths_startable 99999999999))
+    (fixed_startable (codes "max") (keyword_bytes Max))))
 
 pub device_startable : Startable (λ text device. IsDevice device text)
 device_startable =

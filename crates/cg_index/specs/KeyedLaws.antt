@@ -50,7 +50,7 @@ changed_keys key changed same {old} {new} {part} is =
     ap (map key) is.after ∙ map-append key is.front (changed is.last part ∷ []) ∙ ap (λ v. map key is.front ++ v ∷ []) (same is.last part)
     ∙ sym (map-append key is.front (is.last ∷ [])) ∙ sym (ap (map key) is.before)
 
-true_not_false : true ≡ false → ⊥
+pub true_not_false : true ≡ false → ⊥
 true_not_false e = cc
 
 -- What isn't among the keys differs from each.

@@ -8,5 +8,7 @@ pub mod Packed
 pub mod PlaceLaws
 pub mod Position
 pub mod PositionLaws
+pub mod Table
+pub mod TableLaws
 pub mod Tree
 pub mod TreeLaws

@@ -1,14 +1,17 @@
 -- What holders of items with keys cite of marks and trees.
-use Rattle.std.proofs.Common.{◌≡◌, ℕ, zero, suc, ◌+◌, ◌<◌, inl, inr, List, [], ◌∷◌, ◌++◌, length, get_or, take, map, Option, Some, None, is_none, is_some, IfSome, ◌==◌, true, false}
+use Rattle.std.proofs.Common.{◌≡◌, ℕ, zero, suc, ◌+◌, ◌<◌, ◌≤◌, inl, inr, List, [], ◌∷◌, ◌++◌, length, get_or, take, map, Option, Some, None, is_none, is_some, IfSome, Bool, IsTrue, IsFalse, ◌==◌, true, false}
 use Rattle.std.proofs.Common.{refl, sym, ap, ◌∙◌, arith}
 use Rattle.std.proofs.lemmas.Bool.{cases_lt}
-use Rattle.std.proofs.lemmas.List.{length_push, map-append}
+use Rattle.std.proofs.lemmas.List.{length_push, length-map, map-append}
 use Rattle.cg_text.specs.Distinct.{AreDistinct, LacksValue}
 use Rattle.cg_text.specs.Mark.{mark_of}
 use Rattle.cg_index.specs.IndexLaws.{IsKeyThere, no_length, same_indexes, near_has, near_lacks, near_is}
-use Rattle.cg_index.specs.KeyedLaws.{some_place, distinct_push}
+use Rattle.cg_index.specs.KeyedLaws.{some_place, distinct_push, true_not_false}
 use Rattle.cg_index.specs.Keyed.{is_among}
-use Rattle.cg_index.specs.Marked.{IsMarked, IsOnlyPlace, IsFree, IsKeyed}
+use Rattle.cg_index.specs.declared.table.Slot.{Slot}
+use Rattle.cg_index.specs.Marked.{IsMarked, IsOnlyPlace, IsFree, IsTold, IsTaken, IsKeyed, most}
+use Rattle.cg_index.specs.Table.{Tells}
+use Rattle.cg_index.specs.TableLaws.{tells_before}
 use Rattle.cg_index.specs.PlaceLaws.{lacks_at, no_place, one_place, keys_read}
 use Rattle.cg_index.specs.Tree.{Indexed, Indexes, IsNear, IsNearest, IsOnlyFor, IsSameBut, key_at}
 
@@ -62,33 +65,102 @@ no_keys index none = record {
 }
 
 -- Of no items.
-pub keyed_none : (index : Indexed) → Indexes index [] → IsKeyed [] index
-keyed_none index of = record { distinct = tt; few = λ _. (omega arith, tt); many = λ _. of }
+pub keyed_none : (index : Indexed) (slots : List Slot) → Indexes index [] → length slots ≡ 0 → IsKeyed [] index slots
+keyed_none index slots of none = record { distinct = tt; untreed = λ _. (tt, inl (omega arith, none)); many = λ _. of }
 
 -- Room has been made.
-pub keyed_same : {old new : Indexed} {keys : List (List ℕ)} → IsSameBut old new → IsKeyed keys old → IsKeyed keys new
+pub keyed_same : {old new : Indexed} {keys : List (List ℕ)} {slots : List Slot} → IsSameBut old new → IsKeyed keys old slots → IsKeyed keys new slots
 keyed_same same keyed = record {
   distinct = keyed.distinct;
-  few = rw (same.forks) keyed.few;
+  untreed = rw (same.forks) keyed.untreed;
   many = λ some. same_indexes same (keyed.many (rw (same.forks) at some));
 }
 
--- A key has been added without a tree.
-pub keyed_free : {index : Indexed} {keys : List (List ℕ)} (key : List ℕ) → IsKeyed keys index → IsFree keys index (mark_of key) → IsKeyed (keys ++ key ∷ []) index
-keyed_free {index} {keys} key keyed free = record {
+-- The table has been changed.
+pub keyed_told : {index : Indexed} {keys : List (List ℕ)} {old new : List Slot} → IsKeyed keys index old → IsTold keys new → IsKeyed keys index new
+keyed_told keyed told = record {
+  distinct = keyed.distinct;
+  untreed = λ none. ((keyed.untreed none).0, told);
+  many = keyed.many;
+}
+
+-- The tree has been made of the keys, and the table was let go of.
+pub keyed_planted : {index : Indexed} (keys : List (List ℕ)) (slots : List Slot) → AreDistinct keys → Indexes index keys → length slots ≡ 0 → IsKeyed keys index slots
+keyed_planted {index} [] slots distinct of none = keyed_none index slots of none
+keyed_planted {index} (k ∷ ks) slots distinct of none = record {
+  distinct = distinct;
+  untreed = λ empty. absurd (omega (arith, empty, of.tree.count));
+  many = λ _. of;
+}
+
+-- The marks are different where one that none of them is has been added.
+marks_push : (keys : List (List ℕ)) (key : List ℕ) → AreDistinct (map mark_of keys) → IsMarked keys (mark_of key) None → AreDistinct (map mark_of (keys ++ key ∷ []))
+marks_push keys key distinct unmarked = rw map-append (distinct_push (map mark_of keys) (mark_of key) distinct (lacks_each mark_of [] (mark_of key) keys unmarked))
+
+-- There is no table for fewer keys than the most.
+told_few : (keys : List (List ℕ)) (slots : List Slot) → IsTold keys slots → length keys < most → length slots ≡ 0
+told_few keys slots (inl few) less = few.1
+told_few keys slots (inr many) less = absurd (omega (arith, many.0, less))
+
+-- Where there are slots the table tells the places.
+pub told_some : (keys : List (List ℕ)) (slots : List Slot) → IsTold keys slots → 0 < length slots → (most ≤ length keys) × Tells slots (map mark_of keys)
+told_some keys slots (inl few) some = absurd (omega (arith, few.1, some))
+told_some keys slots (inr many) some = many
+
+-- No key has a mark for which no place is found.
+pub none_marked : (keys : List (List ℕ)) (mark : ℕ) (place : Option ℕ) → IsMarked keys mark place → is_some place ≡ false → IsMarked keys mark None
+none_marked keys mark None is none = is
+none_marked keys mark (Some k) is none = absurd (true_not_false none)
+
+-- The mark of the next key has been put into the table, or no slot was left for it.
+module _ (keys : List (List ℕ)) (old new : List Slot) (mark place : ℕ) (told : IsTold keys old) (count : length keys ≡ place) where
+  put_tells : (0 < length old) → ((marks : List ℕ) → length marks ≡ place → Tells old marks → Tells new (marks ++ mark ∷ [])) → (most ≤ length keys) × Tells new (map mark_of keys ++ mark ∷ [])
+  put_tells some put =
+      let many = told_some keys old told some in
+      (many.0, put (map mark_of keys) (length-map keys mark_of ∙ count) many.1)
+
+  pub told_put : (is : Bool) → (IsTrue is → 0 < length old) → (IsTrue is → (marks : List ℕ) → length marks ≡ place → Tells old marks → Tells new (marks ++ mark ∷ [])) →
+      (IsFalse is → new ≡ old) → IsTold keys new
+  told_put true some put same =
+      let many = put_tells (some refl) (put refl) in
+      inr (many.0, tells_before new (map mark_of keys) mark many.1)
+  told_put false some put same = rw (same refl) told
+
+  pub taken_put : IsMarked keys mark None → (is : Bool) → (IsTrue is → 0 < length old) → (IsTrue is → (marks : List ℕ) → length marks ≡ place → Tells old marks → Tells new (marks ++ mark ∷ [])) →
+      IsTrue is → IsTaken keys new mark
+  taken_put unmarked is some put holds =
+      let many = put_tells (some holds) (put holds) in
+      record { unmarked = unmarked; many = many.0; tells = many.1 }
+
+-- A key has been added without a table or a tree.
+pub keyed_free : {index : Indexed} {keys : List (List ℕ)} {slots : List Slot} (key : List ℕ) → IsKeyed keys index slots → IsFree keys index (mark_of key) → IsKeyed (keys ++ key ∷ []) index slots
+keyed_free {index} {keys} {slots} key keyed free = record {
   distinct = distinct_push keys key keyed.distinct (unmarked_new key keys free.unmarked);
-  few = λ none. (
-    omega (arith, length_push keys key, free.less),
-    rw map-append (distinct_push (map mark_of keys) (mark_of key) (keyed.few none).1 (lacks_each mark_of [] (mark_of key) keys free.unmarked)),
+  untreed = λ none. (
+    marks_push keys key (keyed.untreed none).0 free.unmarked,
+    inl (omega (arith, length_push keys key, free.less), told_few keys slots (keyed.untreed none).1 free.less),
   );
   many = λ some. absurd (omega (arith, some, free.none));
 }
 
+-- A key has been added whose mark the table has taken.
+pub keyed_taken : {index : Indexed} {keys : List (List ℕ)} {old new : List Slot} (key : List ℕ) → IsKeyed keys index old → length index.forks ≡ 0 → IsTaken keys new (mark_of key) →
+    IsKeyed (keys ++ key ∷ []) index new
+keyed_taken {index} {keys} {old} {new} key keyed untreed taken = record {
+  distinct = distinct_push keys key keyed.distinct (unmarked_new key keys taken.unmarked);
+  untreed = λ none. (
+    marks_push keys key (keyed.untreed none).0 taken.unmarked,
+    inr (omega (arith, length_push keys key, taken.many), rw map-append taken.tells),
+  );
+  many = λ some. absurd (omega (arith, some, untreed));
+}
+
 -- A key has been added to the tree.
-pub keyed_in_tree : {index : Indexed} (keys : List (List ℕ)) (key : List ℕ) → AreDistinct keys → LacksValue key keys → Indexes index (keys ++ key ∷ []) → IsKeyed (keys ++ key ∷ []) index
-keyed_in_tree {index} keys key distinct lacks of = record {
+pub keyed_in_tree : {index : Indexed} {slots : List Slot} (keys : List (List ℕ)) (key : List ℕ) → AreDistinct keys → LacksValue key keys → Indexes index (keys ++ key ∷ []) →
+    IsKeyed (keys ++ key ∷ []) index slots
+keyed_in_tree {index} {slots} keys key distinct lacks of = record {
   distinct = distinct_push keys key distinct lacks;
-  few = λ none. absurd (omega (arith, none, of.tree.count, length_push keys key));
+  untreed = λ none. absurd (omega (arith, none, of.tree.count, length_push keys key));
   many = λ _. of;
 }
 
@@ -159,10 +231,10 @@ module _ {T : Type 0} (key : T → List ℕ) where
         let one : k ≡ i = one_at key item items k i distinct (omega (arith, earlier, within)) within (sym (keys_read key items k item (omega (arith, earlier, within))) ∙ sym is ∙ same) in
         omega (arith, earlier, one)
 
--- A key that can do without a tree isn't there.
-pub free_new : {index : Indexed} {keys : List (List ℕ)} (key : List ℕ) → IsFree keys index (mark_of key) → false ≡ is_among key keys
-free_new {index} {keys} key free =
-    ap is_some (sym (no_place key keys (λ k h e. free.unmarked k h (ap mark_of e)))) ∙ some_place key keys
+-- A key whose mark none has isn't there.
+pub unmarked_among : (key : List ℕ) (keys : List (List ℕ)) → IsMarked keys (mark_of key) None → false ≡ is_among key keys
+unmarked_among key keys unmarked =
+    ap is_some (sym (no_place key keys (λ k h e. unmarked k h (ap mark_of e)))) ∙ some_place key keys
 
 -- The key that is found near is the one that is sought.
 pub near_among : {index : Indexed} {keys : List (List ℕ)} → AreDistinct keys → Indexes index keys → (near : Option ℕ) (there key : List ℕ) →

@@ -5,17 +5,19 @@ ghost use Rattle.cg_text.specs.Distinct.{AreDistinct, LacksValue};
 ghost use Rattle.cg_index.specs.IndexLaws.{IsKeyThere};
 ghost use Rattle.cg_index.specs.Position.{HasNoZero};
 ghost use Rattle.cg_index.specs.Tree.{Indexes, IsSeat};
-ghost use Rattle.cg_index.specs.Marked.{IsMarked, IsOnlyPlace, IsFree, IsKeyed};
+ghost use Rattle.cg_index.specs.Marked.{IsMarked, IsOnlyPlace, IsFree, IsTold, IsTaken};
 ghost use Rattle.cg_index.specs.Keyed.{IsLastChanged, IsHandedBack, is_repeated, is_among, place_among};
 
 use crate::fork::Seat;
 use crate::index::KeyIndex;
+use crate::table::MarkTable;
 use cg_text::{Key, OutOfMemory, make_room, mark_of};
 use std::alloc::Global;
 use std::marker::Model;
 use thiserror::Error;
 
-/// How many items are found by the marks of their keys at most. More are found by a tree.
+/// How many items are found by going over the marks of their keys. More are found by a table of marks, and by a tree where
+/// marks don't tell them apart.
 const MOST: usize = 64;
 
 /// What has a key.
@@ -76,7 +78,52 @@ fn marked<T: HasKey>(items: &[T], mark: u32) -> Option<usize>
     None
 }
 
-/// Whether a key with this mark is new and needs no tree.
+/// The place of an item whose key has the mark, by the table if there is one.
+#[inline(always)]
+fn place_marked<T: HasKey>(items: &[T], table: &MarkTable, mark: u32) -> Option<usize>
+    requires { IsTold (map T.key_of items.now) table.now }
+    ensures { IsMarked (map T.key_of items.now) mark result }
+{
+    if table.is_empty() {
+        return marked(items, mark);
+    }
+    table.find(items, mark)
+}
+
+/// Makes a table for many items, or a larger one where it has few slots. It answers whether there is one, or none is needed.
+#[inline(always)]
+fn grow<T: HasKey>(items: &[T], table: &mut MarkTable) -> bool
+    requires { IsTold (map T.key_of items.now) table.old }
+    ensures { IsTold (map T.key_of items.now) table.new }
+{
+    items.len() < MOST || table.grow(items)
+}
+
+/// Whether the table takes a mark as that of the next item, in the slots that it has. It takes no memory.
+fn takes_mark<T: HasKey>(items: &[T], table: &mut MarkTable, mark: u32) -> bool
+    requires { IsTold (map T.key_of items.now) table.old }
+    ensures told { IsTold (map T.key_of items.now) table.new }
+    ensures taken { IsTrue result → IsTaken (map T.key_of items.now) table.new mark }
+{
+    if place_marked(items, table, mark).is_some() {
+        return false;
+    }
+    table.put(mark, items.len())
+}
+
+/// Whether the table takes a mark as that of the next item. It may grow.
+fn takes_mark_growing<T: HasKey>(items: &[T], table: &mut MarkTable, mark: u32) -> bool
+    requires { IsTold (map T.key_of items.now) table.old }
+    ensures told { IsTold (map T.key_of items.now) table.new }
+    ensures taken { IsTrue result → IsTaken (map T.key_of items.now) table.new mark }
+{
+    if place_marked(items, table, mark).is_some() || !grow(items, table) {
+        return false;
+    }
+    table.put(mark, items.len())
+}
+
+/// Whether a key with this mark is new and needs neither a table nor a tree.
 #[inline(always)]
 fn is_free<T: HasKey>(items: &[T], index: &KeyIndex, mark: u32) -> bool
     ensures { IsTrue result → IsFree (map T.key_of items.now) index.now mark }
@@ -97,8 +144,10 @@ fn key_near<T: HasKey>(items: &[T], place: Option<usize>) -> &[u8]
 }
 
 /// Makes the tree of the items' keys, where there is none. It takes no memory.
+#[inline(never)]
 fn plant<T: HasKey>(items: &[T], index: &mut KeyIndex)
-    requires keyed { IsKeyed (map T.key_of items.now) index.old }
+    requires distinct { AreDistinct (map T.key_of items.now) }
+    requires tree { 0 < length index.old.forks → Indexes index.old (map T.key_of items.now) }
     requires room { length items.now ≤ index.old.room }
     ensures tree { Indexes index.new (map T.key_of items.now) }
     ensures room { index.new.room ≡ index.old.room }
@@ -150,7 +199,9 @@ fn are_same<T: HasKey + PartialEq>(items: &[T], others: &[T]) -> bool
 #[derive(Debug, Drop)]
 pub struct KeyedBuilder<T: HasKey> {
     items: Vec<T>,
-    /// The tree of their keys, none where few items have all different marks.
+    /// Of the marks of their keys, none where items are few or there is a tree.
+    marks: MarkTable,
+    /// The tree of their keys, none where the marks tell them apart.
     index: KeyIndex,
 }
 
@@ -163,7 +214,7 @@ impl<T: HasKey> Model for KeyedBuilder<T> {
 
     ghost view = { λ s. record { items = s.items.items; has_room = nat_lt (vec_len s.items) (vec_capacity s.items) && nat_lt (vec_len s.items) s.index.room } };
 
-    ghost invariant = { λ s. IsKeyed (map T.key_of s.items.items) s.index };
+    ghost invariant = { λ s. IsKeyed (map T.key_of s.items.items) s.index s.marks };
 }
 
 impl<T: HasKey> KeyedBuilder<T> {
@@ -173,6 +224,7 @@ impl<T: HasKey> KeyedBuilder<T> {
     {
         KeyedBuilder {
             items: Vec::new(alloc),
+            marks: MarkTable::new(alloc),
             index: KeyIndex::new(alloc),
         }
     }
@@ -192,7 +244,7 @@ impl<T: HasKey> KeyedBuilder<T> {
         ensures only { IsOnlyPlace (map T.key_of self.now.items) key.now result }
     {
         if self.index.len() == 0 {
-            return marked(self.items.as_slice(), mark_of(key));
+            return place_marked(self.items.as_slice(), &self.marks, mark_of(key));
         }
         self.index.nearest(key)
     }
@@ -220,6 +272,10 @@ impl<T: HasKey> KeyedBuilder<T> {
     {
         make_room(&mut self.items)?;
         self.index.reserve_for(self.items.len() + 1)?;
+        if self.index.len() == 0 && !grow(self.items.as_slice(), &mut self.marks) {
+            plant(self.items.as_slice(), &mut self.index);
+            self.marks.let_go();
+        }
         Ok(())
     }
 
@@ -234,6 +290,20 @@ impl<T: HasKey> KeyedBuilder<T> {
             self.items.push_reserved(item);
             return;
         }
+        self.push_by_table(item);
+    }
+
+    /// Adds an item with a new key at the end as `push` does, where its mark stands in the table or it comes into the tree.
+    fn push_by_table(&mut self, item: T)
+        requires room { IsTrue self.old.has_room }
+        requires new { LacksValue (T.key_of item) (map T.key_of self.old.items) }
+        ensures { self.new.items ≡ self.old.items ++ item ∷ [] }
+    {
+        let mark = item.key().mark();
+        if self.index.len() == 0 && takes_mark(self.items.as_slice(), &mut self.marks, mark) {
+            self.items.push_reserved(item);
+            return;
+        }
         self.push_by_tree(item);
     }
 
@@ -244,6 +314,7 @@ impl<T: HasKey> KeyedBuilder<T> {
         ensures { self.new.items ≡ self.old.items ++ item ∷ [] }
     {
         plant(self.items.as_slice(), &mut self.index);
+        self.marks.let_go();
         let key = item.key().bytes();
         let near = self.index.nearest(key);
         self.index
@@ -262,13 +333,34 @@ impl<T: HasKey> KeyedBuilder<T> {
         ensures room { IsTrue self.old.has_room → is_err result ≡ is_repeated result }
     {
         if !is_free(self.items.as_slice(), &self.index, item.key().mark()) {
-            return self.add_by_tree(item);
+            return self.add_by_table(item);
         }
         if make_room(&mut self.items).is_err() {
             return Err(Refused::OutOfMemory(item));
         }
         self.items.push_reserved(item);
         Ok(())
+    }
+
+    /// Adds an item as `add` does, where its mark stands in the table or it comes into the tree.
+    fn add_by_table(&mut self, item: T) -> Result<(), Refused<T>>
+        ensures ok { OnOk result (self.new.items ≡ self.old.items ++ item ∷ []) }
+        ensures err { OnErr result (self.new.items ≡ self.old.items) }
+        ensures back { IfErr result (IsHandedBack item) }
+        ensures repeated { is_repeated result ≡ is_among (T.key_of item) (map T.key_of self.old.items) }
+        ensures room { IsTrue self.old.has_room → is_err result ≡ is_repeated result }
+    {
+        let mark = item.key().mark();
+        if self.index.len() == 0
+            && takes_mark_growing(self.items.as_slice(), &mut self.marks, mark)
+        {
+            if make_room(&mut self.items).is_err() {
+                return Err(Refused::OutOfMemory(item));
+            }
+            self.items.push_reserved(item);
+            return Ok(());
+        }
+        self.add_by_tree(item)
     }
 
     /// Adds an item as `add` does, where marks alone don't tell that it is new.
@@ -360,6 +452,7 @@ impl<T: HasKey> KeyedItems<T> {
         KeyedItems {
             built: KeyedBuilder {
                 items,
+                marks: MarkTable::new(alloc),
                 index: KeyIndex::new(alloc),
             },
         }

@@ -6,6 +6,7 @@ mod index;
 pub mod keyed;
 mod packed;
 mod position;
+mod table;
 
 pub use index::KeyIndex;
 pub use keyed::{Change, HasKey, KeyedBuilder, KeyedItems, Refused};

@@ -36,19 +36,19 @@ max_not_number : (text : List ℕ) (x : Either ℕ Hundredths) → text ≡ code
 max_not_number text (Left n) e h = max_not_decimal 0 18446744073709551615 n text e h
 max_not_number text (Right h) e k = max_not_hundredths Read 99999999999 h text e k
 
-pub max_apart : Disjoint IsMax (IsEither IsWhole IsFraction)
-max_apart text u x e h = max_not_number text x e h
+pub max_apart : Disjoint (IsEither IsWhole IsFraction) IsMax
+max_apart text x u h e = max_not_number text x e h
 
-amount_from : (text : List ℕ) (x : Either (Unit {0}) (Either ℕ Hundredths)) → IsEither IsMax (IsEither IsWhole IsFraction) text x → IsAmount (amount_of x) text
-amount_from text (Left u) h = h
-amount_from text (Right (Left n)) h = h
-amount_from text (Right (Right n)) h = h
+amount_from : (text : List ℕ) (x : Either (Either ℕ Hundredths) (Unit {0})) → IsEither (IsEither IsWhole IsFraction) IsMax text x → IsAmount (amount_of x) text
+amount_from text (Left (Left n)) h = h
+amount_from text (Left (Right n)) h = h
+amount_from text (Right u) h = h
 
-amount_to : (text : List ℕ) (v : Amount) → IsAmount v text → IsTurned (IsEither IsMax (IsEither IsWhole IsFraction)) amount_of text v
-amount_to text Max h = (Left tt, h, refl)
-amount_to text (Whole n) h = (Right (Left n), h, refl)
-amount_to text (Decimal n) h = (Right (Right n), h, refl)
+amount_to : (text : List ℕ) (v : Amount) → IsAmount v text → IsTurned (IsEither (IsEither IsWhole IsFraction) IsMax) amount_of text v
+amount_to text Max h = (Right tt, h, refl)
+amount_to text (Whole n) h = (Left (Left n), h, refl)
+amount_to text (Decimal n) h = (Left (Right n), h, refl)
 
 -- The three alternatives of an amount, turned into its values.
-pub amount_is : (text : List ℕ) (v : Amount) → IsTurned (IsEither IsMax (IsEither IsWhole IsFraction)) amount_of text v ↔ IsAmount v text
+pub amount_is : (text : List ℕ) (v : Amount) → IsTurned (IsEither (IsEither IsWhole IsFraction) IsMax) amount_of text v ↔ IsAmount v text
 amount_is text v = (λ h. (let k = amount_from text h.0 h.1 in rw h.2 at k), λ h. amount_to text v h)

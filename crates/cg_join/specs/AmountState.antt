@@ -6,7 +6,7 @@ use Rattle.cg_text.specs.declared.values.Hundredths.{Hundredths}
 use Rattle.cg_join.specs.declared.choice.Either.{Either}
 use Rattle.cg_join.specs.declared.choice.Either.TheVariants.{Left, Right}
 
-abbrev pub amount_of : Either (Unit {0}) (Either ℕ Hundredths) → Amount
-amount_of (Left _) = Max
-amount_of (Right (Left n)) = Whole n
-amount_of (Right (Right h)) = Decimal h
+abbrev pub amount_of : Either (Either ℕ Hundredths) (Unit {0}) → Amount
+amount_of (Left (Left n)) = Whole n
+amount_of (Left (Right h)) = Decimal h
+amount_of (Right _) = Max

@@ -5,6 +5,6 @@ use Rattle.cg_text.specs.declared.values.Limit.TheVariants.{Max, At}
 use Rattle.cg_join.specs.declared.choice.Either.{Either}
 use Rattle.cg_join.specs.declared.choice.Either.TheVariants.{Left, Right}
 
-abbrev pub limit_of : Either (Unit {0}) ℕ → Limit
-limit_of (Left _) = Max
-limit_of (Right n) = At n
+abbrev pub limit_of : Either ℕ (Unit {0}) → Limit
+limit_of (Left n) = At n
+limit_of (Right _) = Max

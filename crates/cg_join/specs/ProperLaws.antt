@@ -112,7 +112,7 @@ module _ {V : Type 0} {R : List ℕ → V → Type 0} where
 
 pub limit_proper : (lo hi : ℕ) → lo ≤ hi → IsProper (IsLimitIn lo hi)
 limit_proper lo hi le =
-    proper_as (limit_is lo hi) (turned_proper limit_of (either_proper (keyword_proper keyword.Max) (decimal_proper lo hi le) (λ text u n h k. max_not_decimal lo hi n text h k)))
+    proper_as (limit_is lo hi) (turned_proper limit_of (either_proper (decimal_proper lo hi le) (keyword_proper keyword.Max) (λ text n u h k. max_not_decimal lo hi n text k h)))
 
 numbers_proper : IsProper (IsConcat IsMajor (IsConcat IsColon IsMinor))
 numbers_proper = concat_proper (decimal_proper 0 4095 (omega arith)) (concat_proper (fixed_proper (58 ∷ []) (omega arith, tt)) (decimal_proper 0 1048575 (omega arith)) colon_apart) major_apart

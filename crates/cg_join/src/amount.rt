@@ -13,7 +13,7 @@ use cg_text::{
 #[derive(Clone, Copy)]
 struct ToAmount;
 
-impl Turn<Choice<KeywordText, Choice<DecimalText, HundredthsText>>> for ToAmount {
+impl Turn<Choice<Choice<DecimalText, HundredthsText>, KeywordText>> for ToAmount {
     type To = Amount;
 
     ghost use Rattle.cg_join.specs.AmountState.{amount_of};
@@ -22,11 +22,11 @@ impl Turn<Choice<KeywordText, Choice<DecimalText, HundredthsText>>> for ToAmount
 
     ghost value_size = { λ _. 0 };
 
-    fn turn(value: Either<(), Either<u64, Hundredths>>) -> Amount {
+    fn turn(value: Either<Either<u64, Hundredths>, ()>) -> Amount {
         match value {
-            Either::Left(_) => Amount::Max,
-            Either::Right(Either::Left(n)) => Amount::Whole(n),
-            Either::Right(Either::Right(hundredths)) => Amount::Decimal(hundredths),
+            Either::Left(Either::Left(n)) => Amount::Whole(n),
+            Either::Left(Either::Right(hundredths)) => Amount::Decimal(hundredths),
+            Either::Right(_) => Amount::Max,
         }
     }
 
@@ -39,7 +39,8 @@ impl Turn<Choice<KeywordText, Choice<DecimalText, HundredthsText>>> for ToAmount
     ghost no_more = { λ v. Prim.omega arith };
 }
 
-type Parts = Mapped<Choice<KeywordText, Choice<DecimalText, HundredthsText>>, ToAmount>;
+// Most amounts are numbers, so these come first.
+type Parts = Mapped<Choice<Choice<DecimalText, HundredthsText>, KeywordText>, ToAmount>;
 
 /// The word `max`, a whole number, or a number with two digits after the dot, whose whole part is at most 999999999.
 #[derive(Drop)]
@@ -59,7 +60,7 @@ impl AmountText {
         };
         let number = Choice::new(whole, HundredthsText::new(Form::Read, 99999999999));
         AmountText {
-            parts: Mapped::new(Choice::new(KeywordText::new(Keyword::Max), number)),
+            parts: Mapped::new(Choice::new(number, KeywordText::new(Keyword::Max))),
         }
     }
 }

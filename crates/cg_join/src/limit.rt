@@ -11,7 +11,7 @@ use cg_text::{DecimalText, Keyword, KeywordText, Limit, OutOfMemory, Token};
 #[derive(Clone, Copy)]
 struct ToLimit;
 
-impl Turn<Choice<KeywordText, DecimalText>> for ToLimit {
+impl Turn<Choice<DecimalText, KeywordText>> for ToLimit {
     type To = Limit;
 
     ghost use Rattle.cg_join.specs.LimitState.{limit_of};
@@ -20,10 +20,10 @@ impl Turn<Choice<KeywordText, DecimalText>> for ToLimit {
 
     ghost value_size = { λ _. 0 };
 
-    fn turn(value: Either<(), u64>) -> Limit {
+    fn turn(value: Either<u64, ()>) -> Limit {
         match value {
-            Either::Left(_) => Limit::Max,
-            Either::Right(n) => Limit::At(n),
+            Either::Left(n) => Limit::At(n),
+            Either::Right(_) => Limit::Max,
         }
     }
 
@@ -36,7 +36,7 @@ impl Turn<Choice<KeywordText, DecimalText>> for ToLimit {
     ghost no_more = { λ v. Prim.omega arith };
 }
 
-type Parts = Mapped<Choice<KeywordText, DecimalText>, ToLimit>;
+type Parts = Mapped<Choice<DecimalText, KeywordText>, ToLimit>;
 
 /// The word `max`, or a decimal number of a range.
 #[derive(Drop)]
@@ -52,7 +52,7 @@ impl LimitText {
     {
         match DecimalText::new(lo, hi) {
             Some(number) => Some(LimitText {
-                parts: Mapped::new(Choice::new(KeywordText::new(Keyword::Max), number)),
+                parts: Mapped::new(Choice::new(number, KeywordText::new(Keyword::Max))),
             }),
             None => None,
         }

@@ -158,8 +158,8 @@ impl ValueReader {
     fn goes_on(&self) -> bool
         ensures { (kind : ReadForm) (taken : List ℕ) → Reads self.now kind taken → (IsTrue result ↔ SomeNext kind taken) }
     {
-        // Nearly every line begins with a letter or a digit, and the second line of pressure with an f.
-        for likely in b"a0f" {
+        // Nearly every line can begin with a 0, and others begin with a letter; the second line of pressure begins with an f.
+        for likely in b"0af" {
             if self.text.allows(*likely) {
                 return true;
             }

@@ -3,6 +3,7 @@ pub mod Builds
 pub mod Checking
 pub mod Commands
 pub mod Entered
+pub mod FileText
 pub mod Flags
 pub mod Keeping
 pub mod KindsLemmas

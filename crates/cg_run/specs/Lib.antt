@@ -3,6 +3,7 @@ pub mod Checked
 pub mod CommandLine
 pub mod Ended
 pub mod Entries
+pub mod FileReader
 pub mod Input
 pub mod Kept
 pub mod Kinds
@@ -11,6 +12,7 @@ pub mod Planned
 pub mod Reading
 pub mod Rows
 pub mod Run
+pub mod Seen
 pub mod Shown
 pub mod ShownBytes
 pub mod ShownText

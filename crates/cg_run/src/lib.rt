@@ -5,6 +5,7 @@ mod checked;
 mod command_line;
 pub mod cut;
 mod entries;
+mod file_reader;
 mod help;
 mod kept;
 mod kinds;

@@ -7,6 +7,7 @@ ghost use Rattle.cg_run.specs.Ended.{HasEnded};
 
 use crate::checked::run_check;
 use crate::entries::EntryReader;
+use crate::file_reader::FileReader;
 use crate::kinds::told_kinds;
 use crate::line::last_line_of;
 use crate::outcome::Outcome;
@@ -18,7 +19,7 @@ use crate::streaming::run_stream;
 use crate::text_reader::TextReader;
 use crate::told::{told, told_line};
 use crate::words::Command;
-use cg_line::{SettingReader, ValueReader};
+use cg_line::SettingReader;
 use cg_print::Sink;
 use cg_snap::{Limits, Stop};
 use cg_value::{Profile, read_kind, write_kind};
@@ -27,23 +28,6 @@ use std::alloc::Global;
 /// How many bytes are read at once.
 pub(crate) const PIECE: usize = 65536;
 
-/// What is written of what a whole text spells.
-#[tactic(auto, using(crate::proofs::RunLemmas::wrote_real))]
-fn told_spelled<T: TextReader, W: Sink>(
-    alloc: Global,
-    spelled: &T::Spelled,
-    writer: &mut W,
-) -> Outcome
-    ensures ended { (form : T.Form) (bytes : List ℕ) → T.text form bytes spelled.now →
-        HasEnded (T.text form) T.printed bytes (W.taken writer.old) (W.taken writer.new) (W.has_failed writer.new) result }
-    ensures real { IsRealFault result (W.has_failed writer.new) }
-{
-    match T::print(alloc, spelled) {
-        Ok(text) => told(writer, text.as_slice(), Outcome::Done),
-        Err(_) => told_line(writer, Outcome::OutOfMemory),
-    }
-}
-
 /// What is written once the input of a text has ended at this place.
 #[tactic(auto, using(crate::proofs::RunLemmas::wrote_real))]
 fn told_end<T: TextReader, W: Sink>(alloc: Global, text: T, at: u64, writer: &mut W) -> Outcome
@@ -51,9 +35,10 @@ fn told_end<T: TextReader, W: Sink>(alloc: Global, text: T, at: u64, writer: &mu
         HasEnded (T.text form) T.printed bytes (W.taken writer.old) (W.taken writer.new) (W.has_failed writer.new) result }
     ensures real { IsRealFault result (W.has_failed writer.new) }
 {
-    match text.finish() {
-        Some(spelled) => told_spelled::<T, W>(alloc, &spelled, writer),
-        None => told_line(writer, Outcome::Stopped(Stop::Cut { at })),
+    match text.finish(alloc) {
+        Ok(Some(text)) => told(writer, text.as_slice(), Outcome::Done),
+        Ok(None) => told_line(writer, Outcome::Stopped(Stop::Cut { at })),
+        Err(_) => told_line(writer, Outcome::OutOfMemory),
     }
 }
 
@@ -100,7 +85,7 @@ fn run_file<R: Source, W: Sink>(
     ensures no_memory { read_form_of profile name.now ≡ None → result ≢ Outcome.OutOfMemory }
 {
     match read_kind(profile, name) {
-        Ok(kind) => run_text(alloc, ValueReader::new(alloc, kind), reader, writer, max),
+        Ok(kind) => run_text(alloc, FileReader::new(alloc, kind), reader, writer, max),
         Err(_) => told_line(writer, Outcome::NotReadable),
     }
 }

@@ -1,9 +1,10 @@
 //! The entries of a snapshot, each shown once its bytes are closed.
 ghost use Rattle.std.specs.Prelude.{◌≡◌, []};
+ghost use Rattle.cg_run.specs.Seen.{IsSeen};
 
 use crate::shown_text::ShownText;
 use crate::stream_reader::{Found, LastPart, Next, StreamEnd, StreamReader};
-use cg_snap::{Limits, SnapshotDecoder, What};
+use cg_snap::{Limits, SnapshotDecoder, Stop, What};
 use cg_value::Profile;
 use std::alloc::Global;
 
@@ -13,6 +14,27 @@ use std::alloc::Global;
 pub(crate) struct ShownReader {
     decoder: SnapshotDecoder,
     shown: ShownText,
+}
+
+/// What the decoder found, but for the value of an entry, which isn't shown.
+#[derive(Clone, Copy)]
+pub(crate) enum Seen {
+    NeedMore,
+    Entry,
+    Stopped(Stop),
+    OutOfMemory,
+}
+
+/// Lets go of an entry.
+fn seen_of(what: What) -> Seen
+    ensures { IsSeen what result }
+{
+    match what {
+        What::NeedMore => Seen::NeedMore,
+        What::Entry(_) => Seen::Entry,
+        What::Stopped(stop) => Seen::Stopped(stop),
+        What::OutOfMemory => Seen::OutOfMemory,
+    }
 }
 
 impl ShownReader {
@@ -61,8 +83,8 @@ impl StreamReader for ShownReader {
     fn next(&mut self, piece: &[u8]) -> Next {
         let pulled = self.decoder.next(piece);
         let used = pulled.used;
-        match pulled.what {
-            What::NeedMore => match self.shown.take(piece) {
+        match seen_of(pulled.what) {
+            Seen::NeedMore => match self.shown.take(piece) {
                 Ok(()) => Next {
                     used,
                     found: Found::NeedMore,
@@ -73,7 +95,7 @@ impl StreamReader for ShownReader {
                     found: Found::OutOfMemory,
                 },
             },
-            What::Entry(_) => {
+            Seen::Entry => {
                 let (front, _) = piece.split_at(used);
                 match self.shown.take_last(front) {
                     Ok(text) => Next {
@@ -86,11 +108,11 @@ impl StreamReader for ShownReader {
                     },
                 }
             }
-            What::Stopped(stop) => Next {
+            Seen::Stopped(stop) => Next {
                 used,
                 found: Found::Stopped(stop),
             },
-            What::OutOfMemory => Next {
+            Seen::OutOfMemory => Next {
                 used,
                 found: Found::OutOfMemory,
             },

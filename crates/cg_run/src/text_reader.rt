@@ -1,17 +1,17 @@
 //! What reads one text, of a file or of a write.
-ghost use Rattle.std.specs.Prelude.{◌≡◌, ◌≤◌, ◌<◌, ◌↔◌, ℕ, List, length, take, MatchOption, IfOk, IfNone};
+ghost use Rattle.std.specs.Prelude.{◌≡◌, ◌≤◌, ◌<◌, ◌↔◌, ℕ, List, length, take, IfNone, MatchOption, MatchResult};
 ghost use Rattle.cg_text.specs.Bytes.{HasByte};
 ghost use Rattle.cg_text.specs.Texts.{TextOf, Viable, Next};
 ghost use Rattle.cg_run.specs.TextReader.{IsRunTaken};
 
-use cg_line::{PushedRun, SettingReader, ValueReader};
-use cg_print::{print_file, print_setting};
+use cg_line::{PushedRun, SettingReader};
+use cg_print::print_setting;
 use cg_text::{ByteSet, OutOfMemory};
-use cg_value::{ReadForm, Setting, Value, WriteForm};
+use cg_value::{Setting, WriteForm};
 use std::alloc::Global;
 
 /// As many bytes from the front as there is room for.
-fn front_of(bytes: &[u8], room: u64) -> &[u8]
+pub(crate) fn front_of(bytes: &[u8], room: u64) -> &[u8]
     ensures { result.now ≡ take room bytes.now }
 {
     if room < bytes.len() as u64 {
@@ -49,53 +49,15 @@ pub(crate) trait TextReader: Drop {
     fn allowed(&self) -> ByteSet
         ensures { (form : Self.Form) (taken : List ℕ) → took self.now form taken → (byte : ℕ) → HasByte result byte ↔ Next (TextOf (text form)) taken byte };
 
-    /// What the bytes spell, where they are a whole text.
-    fn finish(self) -> Option<Self::Spelled>
-        ensures { (form : Self.Form) (taken : List ℕ) → took self form taken → MatchOption result (TextOf (text form) taken → ⊥) (λ v. text form taken v) };
-
-    /// The canonical text of what is spelled. `OutOfMemory` where no memory is left.
-    fn print(alloc: Global, spelled: &Self::Spelled) -> Result<Vec<u8>, OutOfMemory>
-        ensures { IfOk result (λ text. text.items ≡ printed spelled.now) };
+    /// The canonical text of what the bytes spell, none where they are no whole text. `OutOfMemory` where they are one, and no
+    /// memory is left for it.
+    fn finish(self, alloc: Global) -> Result<Option<Vec<u8>>, OutOfMemory>
+        ensures { (form : Self.Form) (taken : List ℕ) → took self form taken → MatchResult result
+            (λ found. MatchOption found (TextOf (text form) taken → ⊥) (λ canonical. (v : Self.Spelled) × text form taken v × (canonical.items ≡ printed v)))
+            (λ _. TextOf (text form) taken) };
 
     /// Some text of the form begins with the bytes that were taken.
     ghost viable: { (s : Self) (form : Self.Form) (taken : List ℕ) → took s form taken → Viable (TextOf (text form)) taken };
-}
-
-impl TextReader for ValueReader {
-    type Form = ReadForm;
-
-    type Spelled = Value;
-
-    ghost use Rattle.cg_line.specs.Reads.{Reads, reads_viable};
-    ghost use Rattle.cg_value.specs.Files.{KindText};
-    ghost use Rattle.cg_value.specs.Print.{print_of};
-
-    ghost text = { λ form text v. KindText form v text };
-
-    ghost printed = { print_of };
-
-    ghost took = { Reads };
-
-    ghost viable = { reads_viable };
-
-    fn take_run(&mut self, bytes: &[u8], room: u64) -> PushedRun {
-        self.push_run(front_of(bytes, room))
-    }
-
-    fn allowed(&self) -> ByteSet {
-        ValueReader::allowed(self)
-    }
-
-    fn finish(self) -> Option<Value> {
-        match ValueReader::finish(self) {
-            Ok(value) => Some(value),
-            Err(_) => None,
-        }
-    }
-
-    fn print(alloc: Global, spelled: &Value) -> Result<Vec<u8>, OutOfMemory> {
-        print_file(alloc, spelled)
-    }
 }
 
 impl TextReader for SettingReader {
@@ -123,14 +85,10 @@ impl TextReader for SettingReader {
         SettingReader::allowed(self)
     }
 
-    fn finish(self) -> Option<Setting> {
+    fn finish(self, alloc: Global) -> Result<Option<Vec<u8>>, OutOfMemory> {
         match SettingReader::finish(self) {
-            Ok(setting) => Some(setting),
-            Err(_) => None,
+            Ok(setting) => Ok(Some(print_setting(alloc, &setting)?)),
+            Err(_) => Ok(None),
         }
-    }
-
-    fn print(alloc: Global, spelled: &Setting) -> Result<Vec<u8>, OutOfMemory> {
-        print_setting(alloc, spelled)
     }
 }

@@ -1,5 +1,6 @@
 -- What is left of a text of one byte.
-use Rattle.std.proofs.Common.{◌≡◌, ℕ, ◌<◌, ◌↔◌, Bool, true, false, List, [], ◌∷◌, refl, IsTrue}
+use Rattle.std.proofs.Common.{◌≡◌, ℕ, suc, ◌+◌, ◌<◌, ◌↔◌, Bool, true, false, List, [], ◌∷◌, ◌++◌, take, drop, refl, ◌∙◌, ap, arith, IsTrue}
+use Rattle.std.proofs.Math.Seq.{take-add}
 use Rattle.cg_text.specs.Token.{AreBytes}
 
 abbrev pub left : Bool → ℕ → List ℕ
@@ -14,3 +15,9 @@ byte_ends false b = (λ e. absurd (cc), λ h. absurd (let e = h.1 in cc))
 pub byte_bytes : (taken : Bool) (b : ℕ) (rest : List ℕ) → b < 256 → rest ≡ left taken b → AreBytes rest
 byte_bytes true b rest small e = rw e tt
 byte_bytes false b rest small e = rw e (small, tt)
+
+-- So many bytes, a space, and then some bytes.
+pub take_space : (count more : ℕ) (bytes behind : List ℕ) → drop count bytes ≡ 32 ∷ behind → take (count + 1 + more) bytes ≡ take count bytes ++ 32 ∷ take more behind
+take_space count more bytes behind e =
+    let further : count + 1 + more ≡ count + suc more = omega arith in
+    ap (λ n. take n bytes) further ∙ take-add count (suc more) bytes ∙ ap (λ rest. take count bytes ++ take (suc more) rest) e

@@ -20,6 +20,7 @@ pub mod Keyword
 pub mod KeywordLaws
 pub mod Limit
 pub mod LimitPairs
+pub mod LimitPairsFront
 pub mod LimitPairsLaws
 pub mod LimitPairsState
 pub mod List

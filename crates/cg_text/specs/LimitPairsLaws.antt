@@ -133,7 +133,7 @@ start_split j k x y e =
     let s = split_above 61 (key_text j) (61 ∷ x) (key_text k) (61 ∷ y) (key_above j) (key_above k) (omega arith) (omega arith) e in
     (keys_one j k s.0, tails 61 61 x y s.1)
 
-start_text : (key : LimitKey) (x : List ℕ) → key_start key ++ x ≡ key_text key ++ 61 ∷ x
+pub start_text : (key : LimitKey) (x : List ℕ) → key_start key ++ x ≡ key_text key ++ 61 ∷ x
 start_text key x = append_assoc (key_text key) (61 ∷ []) x
 
 -- A key that goes on with a byte.
@@ -419,7 +419,7 @@ full_refuses given all key part limit e value none rest v h =
           cc)
     ]
 
-after_more : (all : LimitPairs) (next : LimitKey) (us : List (LimitKey × Limit)) (rest : List ℕ) → AfterPair all us (32 ∷ rest) ↔ PairsRest all (PairRest all (InKey next 0)) us rest
+pub after_more : (all : LimitPairs) (next : LimitKey) (us : List (LimitKey × Limit)) (rest : List ℕ) → AfterPair all us (32 ∷ rest) ↔ PairsRest all (PairRest all (InKey next 0)) us rest
 after_more all next [] rest = (λ h. absurd (cc), λ h. absurd h)
 after_more all next (p ∷ us) rest = (λ h. (let e : h.0 ≡ rest = sym (tails 32 32 rest h.0 h.1) in rw e at h.2), λ h. (rest, refl, h))
 

@@ -1,5 +1,5 @@
 -- What is left of the pairs of a write of io.max.
-use Rattle.std.specs.Prelude.{◌≡◌, ℕ, suc, ◌↔◌, Bool, true, false, ◌&&◌, leb, ltb, List, [], ◌∷◌, ◌++◌, Option, Some, None, codes, length, take, drop, IsTrue}
+use Rattle.std.specs.Prelude.{◌≡◌, ℕ, suc, ◌≤◌, ◌↔◌, Bool, true, false, ◌&&◌, leb, ltb, List, [], ◌∷◌, ◌++◌, Option, Some, None, codes, length, take, drop, IsTrue}
 use Rattle.cg_text.specs.Limit.{IsLimit}
 use Rattle.cg_text.specs.LimitPairs.{key_text, IsLimitPair}
 use Rattle.cg_text.specs.RangesState.{Cut, number_rest}
@@ -53,6 +53,10 @@ limit_ends (Number d) = decimal_ends d.lo d.hi d.progress
 -- A pair whose key isn't given.
 abbrev pub IsNewPair : LimitPairs → LimitKey × Limit → List ℕ → Type 0
 IsNewPair given p text = IsTrue (is_free (p.0) given) × IsLimitPair p text
+
+-- The bytes begin with the text of the key, which isn't given.
+abbrev pub IsFreeKey : LimitPairs → LimitKey → List ℕ → Type 0
+IsFreeKey given key bytes = IsTrue (is_free key given) × (length (key_start key) ≤ length bytes) × (take (length (key_start key)) bytes ≡ key_start key)
 
 -- What is left of a pair. In a key, the bytes so far are the first ones of that key.
 abbrev pub PairRest : LimitPairs → PairPart → List ℕ → LimitKey × Limit → Type 0

@@ -1,5 +1,5 @@
 -- What holds of the times of a trigger.
-use Rattle.std.proofs.Common.{◌≡◌, ℕ, ◌≤◌, ◌↔◌, inl, inr, Bool, Option, Some, None, List, [], ◌∷◌, ◌++◌, refl, sym, ◌∙◌, ap, arith, IsTrue}
+use Rattle.std.proofs.Common.{◌≡◌, ℕ, ◌≤◌, ◌↔◌, inl, inr, Bool, false, Option, Some, None, is_some, List, [], ◌∷◌, ◌++◌, refl, sym, ◌∙◌, ap, arith, IsTrue}
 use Rattle.cg_text.specs.Decimal.{AreDigits, IsDecimal}
 use Rattle.cg_text.specs.DecimalLaws.{IsDecimalRest_completes, IsDecimalRest_one}
 use Rattle.cg_text.specs.RangesState.{number_rest}
@@ -99,6 +99,11 @@ times_one None P digits one text v w h k =
     let back : h.1 ≡ k.1 = tails 32 32 h.1 k.1 s.1 in
     pair_of v w e (IsDecimalRest_one v.stall 10000000 Start h.1 v.window w.window h.4 (rw (← back, ← e) at k.4))
 times_one (Some a) P digits one text v w h k = pair_of v w (h.0 ∙ sym k.0) (one text v.window w.window h.1 k.1)
+
+-- A whole stall, the space and a window.
+pub times_whole : (stall : Option ℕ) (P : List ℕ → ℕ → Type 0) (a b : ℕ) (front back text : List ℕ) → is_some stall ≡ false → text ≡ front ++ 32 ∷ back → P front a → IsDecimal a 10000000 b back → TimesRest stall P text (times a b)
+times_whole None P a b front back text e t h k = (front, back, t, h, k)
+times_whole (Some c) P a b front back text e t h k = absurd (cc)
 
 pub times_bytes : (stall : Option ℕ) (P : List ℕ → ℕ → Type 0) → ((x : List ℕ) (n : ℕ) → P x n → AreDigits x) → (text : List ℕ) (v : Times) → TimesRest stall P text v → AreBytes text
 times_bytes None P f text v h = rw h.2 (bytes_append h.0 (32 ∷ h.1) (digits_bytes h.0 (f h.0 v.stall h.3)) (omega arith, digits_bytes h.1 (decimal_digits v.stall 10000000 v.window h.1 h.4)))

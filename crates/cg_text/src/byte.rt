@@ -1,5 +1,5 @@
 //! One byte.
-ghost use Rattle.std.specs.Prelude.{◌≡◌, ◌<◌, false, [], ◌∷◌, refl};
+ghost use Rattle.std.specs.Prelude.{◌≡◌, ◌<◌, false, [], ◌∷◌, IfSome, refl};
 ghost use Rattle.cg_text.specs.Token.{Spells};
 ghost use Rattle.cg_text.specs.ByteLaws.{left};
 
@@ -12,6 +12,16 @@ pub struct ByteText {
     byte: u8,
     taken: bool,
     ghost small: { byte < 256 },
+}
+
+/// What is behind the space in front of `bytes`, if there is one.
+pub(crate) fn behind_space(bytes: &[u8]) -> Option<&[u8]>
+    ensures { IfSome result (λ rest. bytes.now ≡ 32 ∷ rest.now) }
+{
+    match bytes.split_first() {
+        Some((first, rest)) if *first == b' ' => Some(rest),
+        _ => None,
+    }
 }
 
 impl ByteText {

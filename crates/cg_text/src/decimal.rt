@@ -1,5 +1,5 @@
 //! Decimal numbers of a range.
-ghost use Rattle.std.specs.Prelude.{◌+◌, ◌*◌, ◌≤◌, ◌<◌, ◌↔◌, ◌≡◌, false, IsTrue, MatchOption, ⊤, refl, ◌^◌, length, take};
+ghost use Rattle.std.specs.Prelude.{◌+◌, ◌*◌, ◌≤◌, ◌<◌, ◌↔◌, ◌≡◌, false, IsTrue, IfSome, MatchOption, ⊤, refl, ◌^◌, length, take};
 ghost use Rattle.cg_text.specs.Decimal.{AreDigits, IsDecimal, read_on};
 ghost use Rattle.cg_text.specs.DecimalState.{Reaches, IsDecimalRest, is_open, decimal_ends};
 ghost use Rattle.cg_text.specs.Scan.{FollowsRun};
@@ -135,6 +135,21 @@ fn begun_digits(lo: u64, hi: u64, bytes: &[u8]) -> (Progress, usize)
     (Progress::Number(number), count + 1)
 }
 
+/// The number of the range in front of `bytes`, and how many digits it has. It may find none where there is one.
+pub(crate) fn number_in_front(lo: u64, hi: u64, bytes: &[u8]) -> Option<(u64, usize)>
+    requires range { lo ≤ hi }
+    ensures { IfSome result (λ r. (r.1 ≤ length bytes.now) × IsDecimal lo hi r.0 (take r.1 bytes.now)) }
+{
+    if lo == 0 && bytes.first() == Some(&b'0') {
+        return Some((0, 1));
+    }
+    let (progress, count) = begun_digits(lo, hi, bytes);
+    match progress {
+        Progress::Number(number) if lo <= number && number <= hi => Some((number, count)),
+        _ => None,
+    }
+}
+
 impl DecimalText {
     /// A token of the numbers from `lo` to `hi`, unless there are none.
     pub fn new(lo: u64, hi: u64) -> Option<DecimalText>
@@ -200,6 +215,11 @@ impl Token for DecimalText {
     }
 
     fn whole(&self, bytes: &[u8]) -> Option<(u64, usize)> {
+        if let Progress::Start = self.progress {
+            if let Some(found) = number_in_front(self.lo, self.hi, bytes) {
+                return Some(found);
+            }
+        }
         let mut token = *self;
         let count = token.run(bytes);
         if token.can_end() {

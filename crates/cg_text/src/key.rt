@@ -15,12 +15,12 @@ use thiserror::Error;
 #[derive(Drop, Debug)]
 enum Store {
     /// In the key itself, so many of these.
-    Short { mark: u32, len: u8, bytes: [u8; 23] },
+    Short { len: u8, mark: u32, bytes: [u8; 24] },
     Long { mark: u32, bytes: Vec<u8> },
 }
 
 /// How many bytes a key has at most that take no memory of their own.
-const SHORT: usize = 23;
+const SHORT: usize = 24;
 
 /// One or more bytes 33 to 126 without `=`.
 #[derive(Drop, Debug)]
@@ -89,7 +89,7 @@ fn is_word(bytes: &[u8]) -> bool
 /// Bytes of which the first `len` are those of `bytes`. The others count for nothing.
 fn short_bytes(bytes: &[u8], len: usize) -> [u8; SHORT]
     requires within { len ≤ length bytes.now }
-    requires short { len ≤ 23 }
+    requires short { len ≤ 24 }
     ensures { take len result ≡ take len bytes.now }
 {
     let mut short = [0; SHORT];

@@ -1,10 +1,14 @@
 //! The pairs of a write of `io.max`.
-ghost use Rattle.std.specs.Prelude.{◌≡◌, ℕ, ◌+◌, ◌<◌, ◌↔◌, false, List, [], ◌∷◌, length, IsTrue, MatchOption, refl};
+ghost use Rattle.std.specs.Prelude.{◌≡◌, ℕ, ◌+◌, ◌<◌, ◌≤◌, ◌↔◌, false, List, [], ◌∷◌, length, take, IsTrue, IfSome, MatchOption, refl};
 ghost use Rattle.cg_text.specs.Token.{Follows, NoneBegins, Spells};
+ghost use Rattle.cg_text.specs.Limit.{IsLimit};
 ghost use Rattle.cg_text.specs.LimitPairs.{AreLimits};
-ghost use Rattle.cg_text.specs.LimitPairsState.{key_start, is_none, is_free, with_limit, LimitRest, LimitsRest, limit_ends, limits_end, is_live, GoesOn, IsNextPart};
+ghost use Rattle.cg_text.specs.LimitPairsState.{key_start, is_none, is_free, with_limit, LimitRest, LimitsRest, limit_ends, limits_end, is_live, GoesOn, IsNextPart, IsNewPair, IsFreeKey};
+ghost use Rattle.cg_text.specs.declared.pairs.LimitKey.TheVariants.{Rbps as FirstKey};
+ghost use Rattle.cg_text.specs.declared.pairs.PairPart.TheVariants.{InKey as KeyPart};
 
-use crate::decimal::DecimalText;
+use crate::byte::behind_space;
+use crate::decimal::{DecimalText, number_in_front};
 use crate::memory::OutOfMemory;
 use crate::token::Token;
 use crate::values::Limit;
@@ -273,6 +277,80 @@ fn after(given: LimitPairs, part: PairPart, byte: u8) -> Option<(LimitPairs, Pai
     }
 }
 
+/// Whether the key's text with its `=` is in front of `bytes`, and its limit isn't given.
+fn is_free_key(given: LimitPairs, key: LimitKey, bytes: &[u8]) -> bool
+    ensures { IsTrue result → IsFreeKey given key bytes.now }
+{
+    bytes.starts_with(key_start(key)) && is_free(key, given)
+}
+
+/// The key in front of `bytes` whose limit isn't given.
+fn key_in_front(given: LimitPairs, bytes: &[u8]) -> Option<LimitKey>
+    ensures { IfSome result (λ key. IsFreeKey given key bytes.now) }
+{
+    if is_free_key(given, LimitKey::Rbps, bytes) {
+        return Some(LimitKey::Rbps);
+    }
+    if is_free_key(given, LimitKey::Wbps, bytes) {
+        return Some(LimitKey::Wbps);
+    }
+    if is_free_key(given, LimitKey::Riops, bytes) {
+        return Some(LimitKey::Riops);
+    }
+    if is_free_key(given, LimitKey::Wiops, bytes) {
+        return Some(LimitKey::Wiops);
+    }
+    None
+}
+
+/// The limit in front of `bytes`, and its length. It may find none where there is one.
+fn limit_in_front(bytes: &[u8]) -> Option<(Limit, usize)>
+    ensures { IfSome result (λ r. (r.1 ≤ length bytes.now) × IsLimit 1 18446744073709551615 r.0 (take r.1 bytes.now)) }
+{
+    if bytes.starts_with(b"max") {
+        return Some((Limit::Max, 3));
+    }
+    match number_in_front(1, u64::MAX, bytes) {
+        Some((number, count)) => Some((Limit::At(number), count)),
+        None => None,
+    }
+}
+
+/// The pair in front of `bytes` whose limit isn't given, and its length. It may find none where there is one.
+fn pair_in_front(given: LimitPairs, bytes: &[u8]) -> Option<((LimitKey, Limit), usize)>
+    ensures { IfSome result (λ r. (r.1 ≤ length bytes.now) × IsNewPair given r.0 (take r.1 bytes.now)) }
+{
+    let key = match key_in_front(given, bytes) {
+        Some(key) => key,
+        None => return None,
+    };
+    let start = key_start(key).len();
+    let (_, rest) = bytes.split_at(start);
+    match limit_in_front(rest) {
+        Some((limit, count)) => Some(((key, limit), start + count)),
+        None => None,
+    }
+}
+
+/// The limits with those of the pairs in front of `bytes`, and how long these are. It may find none where there are some.
+fn pairs_in_front(given: LimitPairs, bytes: &[u8]) -> Option<(LimitPairs, usize)>
+    ensures { IfSome result (λ r. (r.1 ≤ length bytes.now) × LimitsRest given (KeyPart FirstKey 0) (take r.1 bytes.now) r.0) }
+{
+    let (pair, count) = match pair_in_front(given, bytes) {
+        Some(found) => found,
+        None => return None,
+    };
+    let all = with_limit(pair.0, pair.1, given);
+    let (_, rest) = bytes.split_at(count);
+    match behind_space(rest) {
+        Some(behind) => match pairs_in_front(all, behind) {
+            Some((limits, more)) => Some((limits, count + 1 + more)),
+            None => Some((all, count)),
+        },
+        None => Some((all, count)),
+    }
+}
+
 impl LimitPairsText {
     /// A token of one to four limits.
     pub fn new() -> LimitPairsText
@@ -314,6 +392,13 @@ impl Token for LimitPairsText {
                 Ok(true)
             }
             None => Ok(false),
+        }
+    }
+
+    fn whole(&self, bytes: &[u8]) -> Option<(LimitPairs, usize)> {
+        match self.part {
+            PairPart::InKey(_, 0) => pairs_in_front(self.given, bytes),
+            _ => None,
         }
     }
 

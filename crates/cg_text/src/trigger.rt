@@ -6,7 +6,8 @@ ghost use Rattle.cg_text.specs.RangesState.{number_rest};
 ghost use Rattle.cg_text.specs.TriggerState.{TimesRest, IsTimesByte, times_end, IsWithin};
 ghost use Rattle.cg_text.specs.DecimalState.{decimal_ends};
 
-use crate::decimal::DecimalText;
+use crate::byte::behind_space;
+use crate::decimal::{DecimalText, number_in_front};
 use crate::memory::OutOfMemory;
 use crate::token::Token;
 
@@ -107,6 +108,25 @@ impl Token for TriggerText {
                 Ok(true)
             }
             TimesByte::Refused => Ok(false),
+        }
+    }
+
+    fn whole(&self, bytes: &[u8]) -> Option<(Times, usize)> {
+        if self.stall.is_some() {
+            return None;
+        }
+        let (stall, count) = match self.number.whole(bytes) {
+            Some(found) => found,
+            None => return None,
+        };
+        let (_, rest) = bytes.split_at(count);
+        let behind = match behind_space(rest) {
+            Some(behind) => behind,
+            None => return None,
+        };
+        match number_in_front(stall, LONGEST, behind) {
+            Some((window, more)) => Some((Times { stall, window }, count + 1 + more)),
+            None => None,
         }
     }
 

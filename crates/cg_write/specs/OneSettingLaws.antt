@@ -64,7 +64,7 @@ use Rattle.cg_write.specs.DeviceWeightLaws.{default_no_device, device_apart, wei
 use Rattle.cg_write.specs.Laws.{OneSetting, OneSettingOfName, ReadBack, ReadBackOfName}
 use Rattle.cg_write.specs.ReclaimLaws.{reclaim_apart, reclaim_is}
 use Rattle.cg_write.specs.RoleLaws.{member_no_root, role_is, root_not_isolated}
-use Rattle.cg_write.specs.SizeLimitLaws.{max_no_size, size_limit_is}
+use Rattle.cg_write.specs.SizeLimitLaws.{size_limit_is, size_no_max}
 use Rattle.cg_write.specs.Texts.{AreSomeLimits, AreSomeTimes, IsAnyWeight, IsASize, IsChosen, IsDefault, IsSwappiness, IsToggle, IsWeight}
 use Rattle.cg_write.specs.ToggleLaws.{one_toggle}
 use Rattle.cg_write.specs.TriggerLaws.{some_not_full, tasks_apart, trigger_is}
@@ -118,7 +118,7 @@ size_one text v w h k =
 -- ---- Lines of one setting
 
 size_limit_one : HasOneText (λ line v. IsSizeLimit v line)
-size_limit_one = one_as size_limit_is (turned_one limit_of (either_one max_no_size (fixed_one (text_of word.Max)) size_one))
+size_limit_one = one_as size_limit_is (turned_one limit_of (either_one size_no_max size_one (fixed_one (text_of word.Max))))
 
 toggles_one : HasOneText (λ line ts. AreToggles ts line)
 toggles_one = one_as toggles_are (repeat.list_one 32 IsToggle IsToggle toggle_stops toggle_stops one_toggle one_toggle)

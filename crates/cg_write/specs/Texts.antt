@@ -37,8 +37,8 @@ abbrev pub IsASize : List ℕ → ℕ → Type 0
 IsASize text n = IsSize n text
 
 -- max, or a size.
-abbrev pub IsMaxOrSize : List ℕ → Either (Unit {0}) ℕ → Type 0
-IsMaxOrSize text v = IsEither (IsFixed (text_of word.Max)) IsASize text v
+abbrev pub IsSizeOrMax : List ℕ → Either ℕ (Unit {0}) → Type 0
+IsSizeOrMax text v = IsEither IsASize (IsFixed (text_of word.Max)) text v
 
 -- A size; or a size, its label and a swappiness.
 abbrev pub IsSwappiness : List ℕ → Unit {0} × ℕ → Type 0

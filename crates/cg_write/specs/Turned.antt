@@ -25,8 +25,8 @@ signed_setting v = setting.Signed v.0
 abbrev pub limit_setting : Limit × Unit {0} → Setting
 limit_setting v = setting.Limit v.0
 
--- A limit that is spelled by max or by a size.
-abbrev pub size_limit_setting : Either (Unit {0}) ℕ × Unit {0} → Setting
+-- A limit that is spelled by a size or by max.
+abbrev pub size_limit_setting : Either ℕ (Unit {0}) × Unit {0} → Setting
 size_limit_setting v = setting.Limit (limit_of v.0)
 
 abbrev pub clamp_setting : Clamp × Unit {0} → Setting

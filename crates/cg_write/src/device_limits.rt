@@ -60,6 +60,10 @@ impl Token for DeviceLimitsText {
         self.parts.run(bytes)
     }
 
+    fn whole(&self, bytes: &[u8]) -> Option<((Device, ((), LimitPairs)), usize)> {
+        self.parts.whole(bytes)
+    }
+
     fn allows(&self, byte: u8) -> bool {
         self.parts.allows(byte)
     }
@@ -162,6 +166,10 @@ impl Token for DeviceLimitsWrite {
 
     fn run(&mut self, bytes: &[u8]) -> usize {
         self.text.run(bytes)
+    }
+
+    fn whole(&self, bytes: &[u8]) -> Option<(Setting, usize)> {
+        self.text.whole(bytes)
     }
 
     fn allows(&self, byte: u8) -> bool {

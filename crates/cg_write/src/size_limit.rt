@@ -3,21 +3,21 @@ ghost use Rattle.std.specs.Prelude.{◌≡◌};
 ghost use Rattle.cg_text.specs.Token.{Spells};
 ghost use Rattle.cg_value.specs.Settings.{WriteText};
 ghost use Rattle.cg_value.specs.declared.kind.WriteForm.TheVariants.{SizeLimit as SizeLimitForm};
-ghost use Rattle.cg_write.specs.Texts.{IsMaxOrSize};
+ghost use Rattle.cg_write.specs.Texts.{IsSizeOrMax};
 
 use cg_join::{Choice, Either, Line, Sequence, Turn, one_line};
 use cg_text::{ByteText, Keyword, KeywordText, Limit, OutOfMemory, SizeText, Token};
 use cg_value::Setting;
 
-/// The word `max`, or a size in bytes.
-type SizeLimitText = Choice<KeywordText, SizeText>;
+/// A size in bytes, or the word `max`.
+type SizeLimitText = Choice<SizeText, KeywordText>;
 
-/// The word `max`, or a size in bytes.
+/// A size in bytes, or the word `max`.
 fn size_limit_text() -> SizeLimitText
-    ensures spells { Spells ⟦<SizeLimitText as Token>⟧.means result IsMaxOrSize }
+    ensures spells { Spells ⟦<SizeLimitText as Token>⟧.means result IsSizeOrMax }
     ensures size { ⟦<SizeLimitText as Token>⟧.size result ≡ 0 }
 {
-    Choice::new(KeywordText::new(Keyword::Max), SizeText::new())
+    Choice::new(SizeText::new(), KeywordText::new(Keyword::Max))
 }
 
 /// The line, turned into the setting.
@@ -34,10 +34,10 @@ impl Turn<Sequence<SizeLimitText, ByteText>> for ToSizeLimit {
 
     ghost value_size = { λ _. 0 };
 
-    fn turn(value: (Either<(), u64>, ())) -> Setting {
+    fn turn(value: (Either<u64, ()>, ())) -> Setting {
         Setting::Limit(match value.0 {
-            Either::Left(_) => Limit::Max,
-            Either::Right(bytes) => Limit::At(bytes),
+            Either::Left(bytes) => Limit::At(bytes),
+            Either::Right(_) => Limit::Max,
         })
     }
 

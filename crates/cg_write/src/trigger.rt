@@ -110,6 +110,10 @@ impl Token for TriggerWrite {
         self.text.run(bytes)
     }
 
+    fn whole(&self, bytes: &[u8]) -> Option<(Setting, usize)> {
+        self.text.whole(bytes)
+    }
+
     fn allows(&self, byte: u8) -> bool {
         self.text.allows(byte)
     }

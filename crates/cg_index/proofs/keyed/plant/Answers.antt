@@ -10,7 +10,7 @@ pub insert-requires-clause-apart : goal.insert-requires-clause-apart
 insert-requires-clause-apart g c = λ some same.
     let key = g.T.HasKey.key_of in
     let is = c.bytes-key.ensures.bytes ∙ c.key.ensures ∙ ap key c.item-item.is in
-    taken_apart key c.args.items.now c.loop-item.item-index c.loop-item-test.true c.loop-item.invariant.tree c.nearest-near.result c.key_near.result.now c.item-item.result c.requires.keyed.distinct
+    taken_apart key c.args.items.now c.loop-item.item-index c.loop-item-test.true c.loop-item.invariant.tree c.nearest-near.result c.key_near.result.now c.item-item.result c.requires.distinct
     c.nearest-near.ensures.none c.nearest-near.ensures.within c.key_near.ensures.key some (same ∙ is)
 
 pub insert-requires-clause-nearest : goal.insert-requires-clause-nearest

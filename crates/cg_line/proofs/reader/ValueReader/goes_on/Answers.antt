@@ -9,7 +9,7 @@ use Rattle.cg_line.proofs.reader.ValueReader.goes_on.Goals as goal
 
 pub returns-then-allows : goal.returns-then-allows
 returns-then-allows c kind taken h =
-    let byte = get_or (97 ∷ 48 ∷ 102 ∷ []) c.loop-likely.likely-index 0 in
+    let byte = get_or (48 ∷ 97 ∷ 102 ∷ []) c.loop-likely.likely-index 0 in
     let next = next_byte_is c.args.self.now kind taken byte h in
     (λ e. record { byte = byte; next = next.0 (c.allows.ensures.0 c.if-allows.true) }, λ some. refl)
 

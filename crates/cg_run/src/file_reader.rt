@@ -1,0 +1,99 @@
+//! What reads one file, and keeps its text. A file is the canonical text of what it spells, so nothing is printed.
+ghost use Rattle.std.specs.Prelude.{◌≡◌, ◌<◌, ℕ, List, [], length, IfNone};
+ghost use Rattle.cg_value.specs.declared.kind.ReadForm.{ReadForm};
+ghost use Rattle.cg_line.specs.Reads.{Reads};
+ghost use Rattle.cg_line.specs.Runs.{RunStops};
+
+use crate::text_reader::{TextReader, front_of};
+use cg_line::{PushFault, PushedRun, ValueReader};
+use cg_print::print_file;
+use cg_text::{ByteSet, OutOfMemory};
+use cg_value::{ReadForm, ReadKind, Value};
+use std::alloc::Global;
+
+/// A reader of one file, and the bytes that it took.
+#[derive(Drop)]
+pub(crate) struct FileReader {
+    reader: ValueReader,
+    text: Vec<u8>,
+}
+
+/// No byte is taken, since no memory is left to keep it; or since no file goes on with it, where that is so.
+fn starved(reader: &ValueReader, bytes: &[u8]) -> PushedRun
+    requires { 0 < length bytes.now }
+    ensures stops { (kind : ReadForm) (taken : List ℕ) → Reads reader.now kind taken → RunStops kind taken bytes.now 0 result.fault }
+    ensures none { result.used ≡ 0 }
+    ensures goes_on { IfNone result.fault (0 < result.used) }
+{
+    let fault = if reader.allowed().contains(bytes[0]) {
+        PushFault::OutOfMemory
+    } else {
+        PushFault::Refused
+    };
+    PushedRun {
+        used: 0,
+        fault: Some(fault),
+    }
+}
+
+impl FileReader {
+    ghost use Rattle.cg_run.specs.FileReader.{HasKept};
+
+    /// A reader of a file of this kind, of which nothing was taken. It takes no memory.
+    pub(crate) fn new(alloc: Global, kind: ReadKind) -> FileReader
+        ensures { HasKept result kind [] }
+    {
+        FileReader {
+            reader: ValueReader::new(alloc, kind),
+            text: Vec::new(alloc),
+        }
+    }
+}
+
+impl TextReader for FileReader {
+    type Form = ReadForm;
+
+    type Spelled = Value;
+
+    ghost use Rattle.cg_run.specs.FileReader.{HasKept, kept_viable};
+    ghost use Rattle.cg_value.specs.Files.{KindText};
+    ghost use Rattle.cg_value.specs.Print.{print_of};
+
+    ghost text = { λ form text v. KindText form v text };
+
+    ghost printed = { print_of };
+
+    ghost took = { HasKept };
+
+    ghost viable = { kept_viable };
+
+    fn take_run(&mut self, bytes: &[u8], room: u64) -> PushedRun {
+        let front = front_of(bytes, room);
+        if self.text.try_reserve(front.len()).is_err() {
+            return starved(&self.reader, front);
+        }
+        let run = self.reader.push_run(front);
+        let (taken, _) = front.split_at(run.used);
+        match self.text.extend_from_slice(taken) {
+            Ok(()) => run,
+            Err(_) => unreachable!(),
+        }
+    }
+
+    fn allowed(&self) -> ByteSet {
+        self.reader.allowed()
+    }
+
+    fn finish(self, alloc: Global) -> Result<Option<Vec<u8>>, OutOfMemory> {
+        let FileReader { reader, text } = self;
+        let value = match reader.finish() {
+            Ok(value) => value,
+            Err(_) => return Ok(None),
+        };
+        // No words have the text of no bytes too.
+        if text.is_empty() {
+            return Ok(Some(print_file(alloc, &value)?));
+        }
+        Ok(Some(text))
+    }
+}
