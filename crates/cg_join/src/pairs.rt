@@ -199,6 +199,7 @@ impl<V: Token, B: Start<V>, F: Pairing<V>> DistinctPairs<V, B, F> {
 
 /// The pair in front of the bytes, a rest of the word, the mark and a rest of the value, and how many bytes it has. It may find
 /// none where there is one.
+#[inline(always)]
 fn pair_in_front<V: Token, F: Pairing<V>>(
     word: &WordText,
     value: &V,

@@ -97,6 +97,7 @@ pub(crate) fn told_last<W: Sink>(
 }
 
 /// Adds a text to those that are gathered, unless they are many or no memory is left for it. Answers whether it did.
+#[inline(always)]
 fn is_added(gathered: &mut Vec<u8>, text: &[u8]) -> bool
     ensures { MatchBool result (gathered.new.items ≡ gathered.old.items ++ text.now) (gathered.new.items ≡ gathered.old.items) }
 {
@@ -115,6 +116,7 @@ fn is_added(gathered: &mut Vec<u8>, text: &[u8]) -> bool
 
 /// Gathers the text of a part. Where those that are gathered are many, or no memory is left for it beside them, they are
 /// written first. The answer is the writer's fault, if it failed.
+#[inline(always)]
 pub(crate) fn gather<W: Sink>(
     gathered: &mut Vec<u8>,
     part: Vec<u8>,

@@ -43,6 +43,7 @@ pub(crate) fn classify(profile: Profile, path: &[u8]) -> PathClass
 }
 
 /// What the path names to a writer.
+#[inline(always)]
 pub(crate) fn classify_write(profile: Profile, path: &[u8]) -> WriteClass
     ensures { IsWriteClass profile path.now result }
 {

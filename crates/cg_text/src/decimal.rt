@@ -73,6 +73,7 @@ pub(crate) fn after(lo: u64, hi: u64, progress: Progress, byte: u8) -> Option<Pr
 }
 
 /// Takes digits in front of `bytes` while any digit after those of `n` gives a number up to `hi`: the number, and how many.
+#[inline(always)]
 fn take_digits(hi: u64, n: u64, bytes: &[u8]) -> (u64, usize)
     requires { n ≤ hi }
     ensures within { result.1 ≤ length bytes.now }
@@ -115,6 +116,7 @@ fn after_digits(lo: u64, hi: u64, progress: Progress, bytes: &[u8]) -> (Progress
 }
 
 /// The state after the digits of a number, and how many: all in front of `bytes`, if they are a number of the range, or none.
+#[inline(always)]
 fn begun_digits(lo: u64, hi: u64, bytes: &[u8]) -> (Progress, usize)
     requires range { lo ≤ hi }
     ensures within { result.1 ≤ length bytes.now }
@@ -136,6 +138,7 @@ fn begun_digits(lo: u64, hi: u64, bytes: &[u8]) -> (Progress, usize)
 }
 
 /// The number of the range in front of `bytes`, and how many digits it has. It may find none where there is one.
+#[inline(always)]
 pub(crate) fn number_in_front(lo: u64, hi: u64, bytes: &[u8]) -> Option<(u64, usize)>
     requires range { lo ≤ hi }
     ensures { IfSome result (λ r. (r.1 ≤ length bytes.now) × IsDecimal lo hi r.0 (take r.1 bytes.now)) }
@@ -214,6 +217,7 @@ impl Token for DecimalText {
         count + 1
     }
 
+    #[inline(always)]
     fn whole(&self, bytes: &[u8]) -> Option<(u64, usize)> {
         if let Progress::Start = self.progress {
             if let Some(found) = number_in_front(self.lo, self.hi, bytes) {

@@ -59,6 +59,7 @@ pub(crate) fn is_word_byte(byte: u8) -> bool
 }
 
 /// How many bytes in front are those of words, and their mark.
+#[inline(always)]
 pub(crate) fn word_front(bytes: &[u8]) -> (usize, u32)
     ensures within { result.0 ≤ length bytes.now }
     ensures words { AreWordBytes (take result.0 bytes.now) }
@@ -87,6 +88,7 @@ fn is_word(bytes: &[u8]) -> bool
 }
 
 /// Bytes of which the first `len` are those of `bytes`. The others count for nothing.
+#[inline(always)]
 fn short_bytes(bytes: &[u8], len: usize) -> [u8; SHORT]
     requires within { len ≤ length bytes.now }
     requires short { len ≤ 24 }
@@ -105,6 +107,7 @@ fn short_bytes(bytes: &[u8], len: usize) -> [u8; SHORT]
 }
 
 /// The first `len` of the bytes with their mark, in a vector only where they are too many for the key itself.
+#[inline(always)]
 fn stored(alloc: Global, bytes: &[u8], len: usize, mark: u32) -> Result<Store, OutOfMemory>
     requires within { len ≤ length bytes.now }
     requires mark { mark ≡ mark_of (take len bytes.now) }
@@ -151,6 +154,7 @@ impl Key {
     }
 
     /// The key of the first `len` of the bytes, which are a word and have this mark.
+    #[inline(always)]
     pub(crate) fn of_word(
         alloc: Global,
         bytes: &[u8],

@@ -136,6 +136,7 @@ impl Token for KeywordText {
         }
     }
 
+    #[inline(always)]
     fn whole(&self, bytes: &[u8]) -> Option<((), usize)> {
         let (_, left) = self.keyword.text().split_at(self.at);
         // Mostly the first byte tells.

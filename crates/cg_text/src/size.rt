@@ -58,6 +58,7 @@ fn ended(number: DecimalText, suffix: u8) -> Option<u64>
 }
 
 /// The state after one more byte, where some rest begins with it.
+#[inline(always)]
 fn after(taken: Taken, byte: u8) -> Option<Taken>
     requires { IsSmall taken }
     ensures follows { MatchOption result (NoneBegins SizeRest taken byte) (Follows SizeRest taken byte) }
@@ -115,6 +116,7 @@ impl Token for SizeText {
         }
     }
 
+    #[inline(always)]
     fn whole(&self, bytes: &[u8]) -> Option<(u64, usize)> {
         let mut token = *self;
         let count = token.run(bytes);

@@ -95,6 +95,7 @@ impl Token for WordText {
         }
     }
 
+    #[inline(always)]
     fn whole(&self, bytes: &[u8]) -> Option<(Key, usize)> {
         // Where something was taken, the bytes go by `step`.
         if !self.bytes.is_empty()

@@ -434,6 +434,7 @@ fn guess(name: &[u8]) -> usize {
 
 /// What the only row of the name says, none where no row has it: that which stands at the place that is guessed, or else the
 /// one that is found by a search.
+#[inline(always)]
 fn find_row(rows: &[Row], name: &[u8]) -> Option<Forms>
     requires { stand_once rows.now ≡ true }
     ensures { result ≡ found_in rows.now name.now }
