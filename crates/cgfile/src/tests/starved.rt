@@ -328,19 +328,31 @@ fn cases(alloc: Global) -> Result<Vec<Case>, AllocError> {
     Ok(cases)
 }
 
-/// What the calls are made on.
-fn all_given(alloc: Global) -> Result<Given, Fail> {
-    let entry = idle(alloc)?;
-    let entries = raw_and_reason(alloc)?;
+/// A set, a setting with a copy of it, and a flat value.
+fn values_given(alloc: Global) -> Result<(NumberSet, Setting, Flat), Fail> {
+    let flat = one_pair(alloc)?;
     let set = three_to_five_and_nine(alloc)?;
     let copy = set.copy(alloc)?;
-    let flat = one_pair(alloc)?;
+    Ok((set, Setting::Set(copy), flat))
+}
+
+/// An entry, and two others.
+fn entries_given(alloc: Global) -> Result<(Entry, Vec<Entry>), Fail> {
+    let entries = raw_and_reason(alloc)?;
+    let entry = idle(alloc)?;
+    Ok((entry, entries))
+}
+
+/// What the calls are made on.
+fn all_given(alloc: Global) -> Result<Given, Fail> {
     let words = two_words(alloc)?;
     let cases = cases(alloc)?;
+    let (set, setting, flat) = values_given(alloc)?;
+    let (entry, entries) = entries_given(alloc)?;
     Ok(Given {
         entry,
         entries,
-        setting: Setting::Set(copy),
+        setting,
         set,
         flat,
         words,
@@ -709,26 +721,40 @@ fn is_at(entries: &[Entry], place: usize, entry: &Entry) -> bool {
     }
 }
 
+/// How many entries came after one more piece, where the decoder goes on or gives the next one of these.
+fn given_after(
+    snapshot: &mut SnapshotDecoder,
+    held: &mut Blocks,
+    piece: &[u8],
+    entries: &[Entry],
+    place: usize,
+) -> Option<usize> {
+    match next_starved(snapshot, held, piece, 0).what {
+        What::NeedMore => Some(place),
+        What::Entry(entry) => { is_at(entries, place, &entry).then_some(place.saturating_add(1)) }
+        _ => None,
+    }
+}
+
+/// Whether the end gives the last of these entries, which has this place.
+fn ends_at(snapshot: SnapshotDecoder, entries: &[Entry], place: usize) -> bool {
+    match last_entry(snapshot) {
+        Some(last) => is_at(entries, place, &last) && entries.len() == place.saturating_add(1),
+        None => false,
+    }
+}
+
 /// Whether a snapshot in pieces of one byte gives these entries.
 fn gives_by_bytes(alloc: Global, held: &mut Blocks, entries: &[Entry]) -> bool {
     let mut snapshot = decoder(alloc);
     let mut place: usize = 0;
     for piece in RAW_AND_REASON.chunks(1) {
-        match next_starved(&mut snapshot, held, piece, 0).what {
-            What::NeedMore => {}
-            What::Entry(entry) => {
-                if !is_at(entries, place, &entry) {
-                    return false;
-                }
-                place = place.saturating_add(1);
-            }
-            _ => return false,
+        match given_after(&mut snapshot, held, piece, entries, place) {
+            Some(next) => place = next,
+            None => return false,
         }
     }
-    match last_entry(snapshot) {
-        Some(last) => is_at(entries, place, &last) && entries.len() == place.saturating_add(1),
-        None => false,
-    }
+    ends_at(snapshot, entries, place)
 }
 
 #[test]
