@@ -1,5 +1,5 @@
 //! Raw lines.
-ghost use Rattle.std.specs.Prelude.{◌≡◌, ◌<◌, ◌↔◌, true, IsTrue, length};
+ghost use Rattle.std.specs.Prelude.{◌≡◌, ◌<◌, ◌≤◌, ◌↔◌, true, IsTrue, length, take};
 ghost use Rattle.cg_text.specs.Raw.{IsRawLine};
 ghost use Rattle.cg_text.specs.RawState.{IsRawByte, IsRawRest};
 ghost use Rattle.cg_text.specs.Token.{Spells};
@@ -7,7 +7,7 @@ ghost use Rattle.cg_text.specs.Token.{Spells};
 use crate::items::Items;
 use crate::memory::OutOfMemory;
 use crate::token::Token;
-use memchr::memchr2;
+use memchr::memchr;
 use std::alloc::Global;
 
 /// Any bytes 1 to 255 but newlines, also none.
@@ -21,6 +21,22 @@ pub(crate) fn is_raw_byte(byte: u8) -> bool
     ensures { IsTrue result ↔ IsRawByte byte }
 {
     byte != 0 && byte != b'\n'
+}
+
+/// How many bytes of a raw line `bytes` begins with.
+fn raw_length(bytes: &[u8]) -> usize
+    ensures within { result ≤ length bytes.now }
+    ensures raw { IsRawLine (take result bytes.now) }
+{
+    let end = match memchr(b'\n', bytes) {
+        Some(end) => end,
+        None => bytes.len(),
+    };
+    let (line, _) = bytes.split_at(end);
+    match memchr(0, line) {
+        Some(nul) => nul,
+        None => line.len(),
+    }
 }
 
 impl RawText {
@@ -62,10 +78,7 @@ impl Token for RawText {
     }
 
     fn run(&mut self, bytes: &[u8]) -> usize {
-        let count = match memchr2(0, b'\n', bytes) {
-            Some(place) => place,
-            None => bytes.len(),
-        };
+        let count = raw_length(bytes);
         let (run, _) = bytes.split_at(count);
         match self.bytes.extend_from_slice(run) {
             Ok(()) => count,

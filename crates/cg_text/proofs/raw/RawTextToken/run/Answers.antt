@@ -1,14 +1,7 @@
-use Rattle.std.proofs.Common.{◌<◌, ℕ, get_or, length, take, arith}
-use Rattle.cg_text.specs.Raw.{IsRawLine}
-use Rattle.cg_text.specs.ScanLaws.{raw_run, raw_searched}
+use Rattle.std.proofs.Common.{take}
+use Rattle.cg_text.specs.ScanLaws.{raw_run}
 use Rattle.cg_text.proofs.raw.RawTextToken.run.Goals as goal
-use Rattle.cg_text.proofs.raw.RawTextToken.run.Goals.{in-Some, in-None}
 
 pub returns-in-Ok-clause-follows : goal.returns-in-Ok-clause-follows
-returns-in-Ok-clause-follows c =
-    let small : (i : ℕ) → get_or c.args.bytes.now i 0 < 256 = λ i. omega (arith, c.type_inv.bytes i) in
-    let raw : IsRawLine (take c.match-memchr2.count c.args.bytes.now) = elim c.match-memchr2.branch [
-      | in-Some w ↦ rw w.count-is (raw_searched c.args.bytes.now w.in-Some.place small w.in-Some.ensures.0.before)
-      | in-None w ↦ rw w.count-is (raw_searched c.args.bytes.now (length c.args.bytes.now) small w.in-None.ensures)
-    ] in
-    λ rest v. rw (c.in-Ok.ensures.items, c.split_at.ensures.front) (raw_run c.args.self.now.bytes.items (take c.match-memchr2.count c.args.bytes.now) rest v raw)
+returns-in-Ok-clause-follows c rest v =
+    rw (c.in-Ok.ensures.items, c.split_at.ensures.front) (raw_run c.args.self.now.bytes.items (take c.raw_length-count.result c.args.bytes.now) rest v c.raw_length-count.ensures.raw)
