@@ -1,24 +1,21 @@
 -- What holds of a line in front of some bytes.
-use Rattle.std.proofs.Common.{◌≡◌, ◌≢◌, ℕ, ◌+◌, ◌<◌, true, ◌||◌, ◌==◌, List, [], ◌∷◌, ◌++◌, take, get_or, length, refl, ◌∙◌, ap}
-use Rattle.std.proofs.lemmas.Bool.{eqb-true, ne_eqb}
-use Rattle.std.proofs.lemmas.List.{take_more}
-use Rattle.memchr.specs.Find.{Nowhere, Passes, is_byte, is_byte2}
+use Rattle.std.proofs.Common.{◌≡◌, ℕ, Bool, false, Option, None, Some, ◌+◌, ◌<◌, ◌≤◌, List, [], ◌∷◌, ◌++◌, take, get_or, length, ◌∙◌, ap, arith}
+use Rattle.std.proofs.lemmas.List.{get_or-take, length-take-le, take_more}
+use Rattle.std.specs.Option.{is_some}
+use Rattle.memchr.specs.Find.{IsFirstByte, Nowhere, Passes, is_byte}
 use Rattle.cg_text.specs.PlainLaws.{plain_searched}
 use Rattle.cg_file.specs.Front.{IsLineFront}
 
--- Where neither a NUL nor a newline is found, no NUL is.
-pub no_nul_of_both : (bytes : List ℕ) (n : ℕ) → Nowhere (Passes (is_byte2 0 10) bytes) 0 n → Nowhere (Passes (is_byte 0) bytes) 0 n
-no_nul_of_both bytes n none k low high e = none k low high (rw (eqb-true _ _ e) refl)
+-- Where no NUL is found in the first bytes, none is in front of their end.
+pub no_nul_in_front : (bytes front : List ℕ) (n : ℕ) → n ≤ length bytes → front ≡ take n bytes → Nowhere (Passes (is_byte 0) front) 0 (length front) → Nowhere (Passes (is_byte 0) bytes) 0 n
+no_nul_in_front bytes front n fits cut none k low high e =
+    let near : get_or front k 0 ≡ get_or bytes k 0 = ap (λ (t : List ℕ). get_or t k 0) cut ∙ get_or-take n bytes k 0 high in
+    let size : length front ≡ n = ap length cut ∙ length-take-le n bytes fits in
+    none k low (omega (arith, high, size)) (rw near e)
 
--- No newline is.
-pub no_newline_of_both : (bytes : List ℕ) (n : ℕ) → Nowhere (Passes (is_byte2 0 10) bytes) 0 n → Nowhere (Passes (is_byte 10) bytes) 0 n
-no_newline_of_both bytes n none k low high e = none k low high (rw (eqb-true _ _ e) refl)
-
--- What was found and is no NUL is a newline.
-pub newline_of_both : (b : ℕ) → (b == 0 || b == 10) ≡ true → b ≢ 0 → b ≡ 10
-newline_of_both b e other =
-    let none = ne_eqb b 0 other in
-    eqb-true b 10 (rw none at e)
+pub none_found : (test : ℕ → Bool) (bytes : List ℕ) (found : Option ℕ) → IsFirstByte test bytes found → is_some found ≡ false → Nowhere (Passes test bytes) 0 (length bytes)
+none_found test bytes None none e = none
+none_found test bytes (Some k) h e = absurd (cc)
 
 -- What stands in front of the first newline, and it.
 pub line_cut : (bytes : List ℕ) (end : ℕ) → end < length bytes → get_or bytes end 0 ≡ 10 → take (end + 1) bytes ≡ take end bytes ++ 10 ∷ []

@@ -171,7 +171,13 @@ impl FileText {
     {
         match self {
             FileText::Raw(text) => text.take_front(bytes),
-            _ => self.take_ended(bytes),
+            FileText::Numbers(_)
+            | FileText::Flat(_)
+            | FileText::DeviceStats(_)
+            | FileText::DeviceLimits(_)
+            | FileText::DeviceTargets(_)
+            | FileText::Nested(_) => self.take_ended(bytes),
+            _ => 0,
         }
     }
 }

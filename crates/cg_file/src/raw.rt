@@ -8,7 +8,7 @@ ghost use Rattle.cg_value.specs.declared.kind.ReadForm.TheVariants.{Raw as RawFo
 
 use cg_text::{OutOfMemory, Token};
 use cg_value::{RawLines, Value, are_whole_lines};
-use memchr::{memchr, memchr2};
+use memchr::memchr;
 use std::alloc::Global;
 
 /// The text of a file of any number of raw lines. All its bytes lie in one vector, which is the value's.
@@ -37,14 +37,14 @@ impl RawFile {
         ensures size { ⟦<RawFile as Token>⟧.size self.new ≤ ⟦<RawFile as Token>⟧.size self.old + result }
         ensures same_size { result ≡ 0 → ⟦<RawFile as Token>⟧.size self.new ≡ ⟦<RawFile as Token>⟧.size self.old }
     {
-        let end = match memchr2(0, b'\n', bytes) {
+        let end = match memchr(b'\n', bytes) {
             Some(end) => end,
             None => return 0,
         };
-        if bytes[end] == 0 {
+        let (line, _) = bytes.split_at(end + 1);
+        if memchr(0, line).is_some() {
             return 0;
         }
-        let (line, _) = bytes.split_at(end + 1);
         match self.text.extend_from_slice(line) {
             Ok(()) => end + 1,
             Err(_) => 0,
