@@ -1,6 +1,6 @@
 -- The present entry ends.
-use Rattle.std.proofs.Common.{◌≡◌, ℕ, Some, List, length, refl, sym, subst, ◌∙◌}
-use Rattle.std.proofs.lemmas.List.{nil_from_length}
+use Rattle.std.proofs.Common.{◌≡◌, ◌↔◌, ℕ, Some, List, [], ◌∷◌, length, refl, sym, ap, subst, ◌∙◌, arith}
+use Rattle.std.proofs.lemmas.List.{length-append, nil_from_length}
 use Rattle.cg_value.specs.Entry.{EntryData, ReadsAt}
 use Rattle.cg_value.specs.Files.{KindFile, KindText, ReadLines}
 use Rattle.cg_value.specs.Lines.{unlines}
@@ -13,6 +13,18 @@ use Rattle.cg_snap.specs.DecoderState.{AtPath}
 use Rattle.cg_snap.specs.Snap.{AreEntryLines}
 use Rattle.cg_snap.specs.declared.present.Present.{Present}
 use Rattle.cg_snap.proofs.Steps.{path_ends}
+
+-- A text of lines is empty where there is none.
+text_empty : (lines : List (List ℕ)) → length (unlines lines) ≡ 0 → length lines ≡ 0
+text_empty [] h = refl
+text_empty (l ∷ ls) h = absurd (omega (arith, h, length-append l (10 ∷ unlines ls)))
+
+empty_text : (lines : List (List ℕ)) → length lines ≡ 0 → length (unlines lines) ≡ 0
+empty_text [] h = refl
+empty_text (l ∷ ls) h = absurd (omega (arith, h))
+
+pub empty_lines : (lines : List (List ℕ)) (text : List ℕ) → text ≡ unlines lines → length text ≡ 0 ↔ length lines ≡ 0
+empty_lines lines text e = (λ h. text_empty lines (ap length (sym e) ∙ h), λ h. ap length e ∙ empty_text lines h)
 
 module _ (profile : Profile) (begun : List ℕ) (x : Present) (p : List ℕ) (es : List EntryData) (h : AtPath profile begun x p es) where
   pub ends_as : (e : EntryData) (v : Value) → e.path ≡ x.path.items → e.value ≡ v → KindText h.kind v (unlines h.lines) → (e.path ≡ x.path.items) × AreEntryLines profile e h.lines

@@ -1,5 +1,5 @@
 -- The head of one more record of the present entry, taken at once.
-use Rattle.std.proofs.Common.{◌≡◌, ℕ, suc, ◌+◌, ◌<◌, ◌≤◌, get_or, List, [], ◌∷◌, ◌++◌, take, length, All, refl, sym, ap, subst, ◌∙◌, append_assoc, arith, Some, false}
+use Rattle.std.proofs.Common.{◌≡◌, ℕ, suc, ◌+◌, ◌<◌, ◌≤◌, get_or, List, [], ◌∷◌, ◌++◌, take, drop, length, All, refl, sym, ap, subst, ◌∙◌, append_assoc, arith, Some, false}
 use Rattle.std.proofs.lemmas.List.{append-nil, length-append, take-append-le, take_all}
 use Rattle.cg_text.specs.Texts.{Lacks}
 use Rattle.cg_text.specs.TextsLaws.{lacks_both}
@@ -16,6 +16,7 @@ use Rattle.cg_snap.specs.HeadState.{Repeats}
 use Rattle.cg_snap.specs.SnapStop.{IsManyRecords}
 use Rattle.cg_snap.specs.declared.present.Present.{Present}
 use Rattle.cg_snap.proofs.Nuls.{full_is}
+use Rattle.cg_snap.proofs.PathRuns.{cut_at}
 use Rattle.cg_snap.proofs.Runs.{run_few}
 use Rattle.cg_snap.proofs.States.{at_false, takes_more}
 use Rattle.cg_snap.proofs.Steps.{bytes_no_newline, path_run, same_path}
@@ -76,12 +77,11 @@ module _ (profile : Profile) (x : Present) (p : List ℕ) (es : List EntryData) 
       (full_is profile path (Some x) (p ++ path) es x.lines max false u i after ((λ e. refl), (λ n. absurd (n refl))) (λ e. absurd (cc)) (λ e. t.few))
 
 -- What the parts of a test say.
-pub repeats_is : (x : Present) (piece rest : List ℕ) (room max : ℕ) → piece ≡ x.path.items ++ rest → (length rest ≡ 0 → ⊥) → get_or rest 0 0 ≡ 0 → length x.path.items < room → x.lines < max →
+pub repeats_is : (x : Present) (piece : List ℕ) (size room max : ℕ) → size < length piece → get_or piece size 0 ≡ 0 → take size piece ≡ x.path.items → length x.path.items < room → x.lines < max →
     ((kind : ReadForm) (taken : List ℕ) → Reads x.reader kind taken → TakesLine kind taken) → Repeats x piece room max
-repeats_is x piece [] room max e some nul short few takes = absurd (some refl)
-repeats_is x piece (b ∷ rest) room max e some nul short few takes = record {
-  rest = rest;
-  begins = e ∙ ap (λ (c : ℕ). x.path.items ++ c ∷ rest) nul;
+repeats_is x piece size room max inside nul same short few takes = record {
+  rest = drop (size + 1) piece;
+  begins = cut_at piece size inside nul ∙ ap (λ (path : List ℕ). path ++ 0 ∷ drop (size + 1) piece) same;
   short = short;
   few = few;
   takes = takes;

@@ -1,7 +1,7 @@
 -- The front of a path, as it is searched.
 use Rattle.std.proofs.Common.{◌≡◌, ◌≢◌, ℕ, zero, suc, ◌+◌, ◌<◌, ◌≤◌, List, [], ◌∷◌, ◌++◌, take, drop, length, get_or, refl, sym, ap, ◌∙◌, append_assoc, arith}
 use Rattle.std.proofs.lemmas.List.{get_or-take, length-drop, length-take-le, take-append-drop, take_more}
-use Rattle.memchr.specs.Find.{Nowhere, Passes, is_byte, is_byte2}
+use Rattle.memchr.specs.Find.{Nowhere, Passes, is_byte}
 use Rattle.cg_value.specs.Entry.{IsPathByte}
 use Rattle.cg_snap.specs.PathBytes.{ArePathBytes}
 use Rattle.cg_snap.specs.PlanFront.{IsRecordFront}
@@ -11,16 +11,19 @@ path_at bytes zero is = tt
 path_at [] (suc k) is = tt
 path_at (b ∷ bytes) (suc k) is = (is 0 (omega arith) (omega arith), path_at bytes k (λ i low high. is (suc i) (omega (arith, low)) (omega (arith, high))))
 
--- Bytes before the first NUL or newline.
-pub path_searched : (bytes : List ℕ) (n k : ℕ) → ((i : ℕ) → get_or bytes i 0 < 256) → Nowhere (Passes (is_byte2 0 10) bytes) 0 n → k ≤ n → ArePathBytes (take k bytes)
-path_searched bytes n k small none few = path_at bytes k (λ i low high. (
+-- Bytes before the first NUL, and of these before the first newline.
+pub path_searched : (bytes front : List ℕ) (nul n k : ℕ) → ((i : ℕ) → get_or bytes i 0 < 256) → Nowhere (Passes (is_byte 0) bytes) 0 nul → front ≡ take nul bytes →
+    Nowhere (Passes (is_byte 10) front) 0 n → n ≤ nul → k ≤ n → ArePathBytes (take k bytes)
+path_searched bytes front nul n k small no_nul cut no_newline less few = path_at bytes k (λ i low high. (
     let below : i < n = omega (arith, low, few) in
-    let other : get_or bytes i 0 ≢ 0 = λ e. none i (omega arith) below (rw e refl) in
-    let plain : get_or bytes i 0 ≢ 10 = λ e. none i (omega arith) below (rw e refl) in
+    let inside : i < nul = omega (arith, below, less) in
+    let near : get_or front i 0 ≡ get_or bytes i 0 = ap (λ (t : List ℕ). get_or t i 0) cut ∙ get_or-take nul bytes i 0 inside in
+    let other : get_or bytes i 0 ≢ 0 = λ e. no_nul i (omega arith) inside (rw e refl) in
+    let plain : get_or bytes i 0 ≢ 10 = λ e. no_newline i (omega arith) below (rw (near ∙ e) refl) in
     (omega (arith, other), small i, plain)))
 
 -- A text cut at a NUL.
-cut_at : (text : List ℕ) (nul : ℕ) → nul < length text → get_or text nul 0 ≡ 0 → text ≡ take nul text ++ 0 ∷ drop (nul + 1) text
+pub cut_at : (text : List ℕ) (nul : ℕ) → nul < length text → get_or text nul 0 ≡ 0 → text ≡ take nul text ++ 0 ∷ drop (nul + 1) text
 cut_at text nul within zero_there =
     let front : take (nul + 1) text ≡ take nul text ++ 0 ∷ [] = take_more text nul 0 within ∙ ap (λ (b : ℕ). take nul text ++ b ∷ []) zero_there in
     sym (take-append-drop (nul + 1) text) ∙ (ap (λ (t : List ℕ). t ++ drop (nul + 1) text) front ∙ append_assoc (take nul text) (0 ∷ []) (drop (nul + 1) text))

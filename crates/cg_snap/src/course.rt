@@ -6,7 +6,7 @@ ghost use Rattle.cg_value.specs.declared.profile.Profile.{Profile};
 ghost use Rattle.cg_snap.specs.Course.{ByteDid, IsAlong, IsMovedBy, PieceDid};
 
 use crate::meter::Meter;
-use crate::records::{Records, Stepped};
+use crate::records::{LineTaken, Records, Stepped};
 use crate::stop::Stop;
 use cg_text::ByteSet;
 
@@ -71,24 +71,27 @@ fn skip_head<R: Records>(records: &mut R, meter: &mut Meter, piece: &[u8]) -> us
     head
 }
 
-/// Takes at once what comes of a line with its newline, or nothing, and answers how many bytes.
-fn skip_line<R: Records>(records: &mut R, meter: &mut Meter, piece: &[u8]) -> usize
+/// Takes at once what comes of a line, with its newline where it gets that far.
+fn skip_line<R: Records>(records: &mut R, meter: &mut Meter, piece: &[u8]) -> LineTaken
     ensures skipped { (form : Profile) (p : List ℕ) (es : List R.Part) →
         IsAlong (R.language form) (R.breaks form) (R.many form) (R.closes form) (λ s. R.at s form) records.old meter.old p es →
-        IsAlong (R.language form) (R.breaks form) (R.many form) (R.closes form) (λ s. R.at s form) records.new meter.new (p ++ take result piece.now) es }
-    ensures within { result ≤ length piece.now }
+        IsAlong (R.language form) (R.breaks form) (R.many form) (R.closes form) (λ s. R.at s form) records.new meter.new (p ++ take result.used piece.now) es }
+    ensures within { result.used ≤ length piece.now }
+    ensures some { IsTrue result.ended → 0 < result.used }
     ensures profile { R.profile records.new ≡ R.profile records.old }
     ensures limits { meter.new.limits ≡ meter.old.limits }
 {
-    let used = records.take_line(piece, meter.room());
-    if used > 0 {
-        meter.count_line(used);
+    let line = records.take_line(piece, meter.room());
+    if line.ended {
+        meter.count_line(line.used);
+    } else {
+        meter.count_run(line.used);
     }
-    used
+    line
 }
 
 /// Takes at once the path of one more record with its NUL, and what comes of its line with the newline, as far as it can.
-/// Answers how many bytes, and whether there was a whole line.
+/// Answers how many bytes, and whether a line was ended.
 fn skip_record<R: Records>(records: &mut R, meter: &mut Meter, piece: &[u8]) -> (usize, bool)
     ensures skipped { (form : Profile) (p : List ℕ) (es : List R.Part) →
         IsAlong (R.language form) (R.breaks form) (R.many form) (R.closes form) (λ s. R.at s form) records.old meter.old p es →
@@ -101,7 +104,7 @@ fn skip_record<R: Records>(records: &mut R, meter: &mut Meter, piece: &[u8]) -> 
     let head = skip_head(records, meter, piece);
     let (_, rest) = piece.split_at(head);
     let line = skip_line(records, meter, rest);
-    (head + line, line > 0)
+    (head + line.used, line.ended)
 }
 
 /// Takes at once records of the entry at hand, as many as it can, and perhaps the path of another. Answers how many bytes.

@@ -1,7 +1,8 @@
 //! What one byte does to the entry whose records come.
-ghost use Rattle.std.specs.Prelude.{◌≡◌, ℕ, List, [], Some, true, MatchOption};
+ghost use Rattle.std.specs.Prelude.{◌≡◌, ◌≤◌, ◌↔◌, ℕ, List, [], Some, true, IsTrue, MatchOption, length};
 ghost use Rattle.cg_line.specs.Reads.{Reads};
 ghost use Rattle.cg_value.specs.Entry.{EntryData};
+ghost use Rattle.cg_value.specs.Print.{print_lines};
 ghost use Rattle.cg_snap.specs.DecoderState.{At, AtPath, Did, IsBetween, IsLineFlag, IsLineCount, IsOfKind};
 ghost use Rattle.cg_snap.specs.Course.{FullIs};
 ghost use Rattle.cg_snap.specs.PathBytes.{ArePathBytes};
@@ -14,7 +15,7 @@ use crate::present::Present;
 use crate::records::Stepped;
 use crate::stop::Why;
 use cg_line::{PushFault, ValueReader};
-use cg_value::{Entry, Profile, ReadKind};
+use cg_value::{Entry, Profile, ReadKind, Value};
 use std::alloc::Global;
 use std::mem;
 
@@ -28,14 +29,18 @@ fn is_in_line(present: &Option<Present>) -> bool
     }
 }
 
-/// How many records have ended of the entry whose path is begun: none where it's another entry than the present one.
-fn line_count(begun: &Vec<u8>, present: &Option<Present>) -> u64
-    ensures { IsLineCount begun.now.items present.now result }
+/// Whether so many records have ended of the entry whose path is begun: none where it's another entry than the present one. The
+/// paths are compared only where so many have ended of the present entry.
+fn has_lines(begun: &Vec<u8>, present: &Option<Present>, count: u64) -> bool
+    ensures { (n : ℕ) → IsLineCount begun.now.items present.now n → IsTrue result ↔ count ≤ n }
 {
+    if count == 0 {
+        return true;
+    }
     match present {
-        None => 0,
-        Some(x) if x.path.as_slice() == begun.as_slice() => x.lines,
-        Some(_) => 0,
+        None => false,
+        Some(x) if x.lines < count => false,
+        Some(x) => x.path.as_slice() == begun.as_slice(),
     }
 }
 
@@ -43,7 +48,17 @@ fn line_count(begun: &Vec<u8>, present: &Option<Present>) -> u64
 pub(crate) fn is_full(begun: &Vec<u8>, present: &Option<Present>, max_lines: u64) -> bool
     ensures { (profile : Profile) (p : List ℕ) (es : List EntryData) → At profile begun.now.items present.now p es → FullIs (Snap profile) (IsManyRecords profile) max_lines p 0 result }
 {
-    !is_in_line(present) && line_count(begun, present) >= max_lines
+    !is_in_line(present) && has_lines(begun, present, max_lines)
+}
+
+/// Whether the value has no line. It doesn't go over the bytes of raw lines.
+fn is_lineless(value: &Value) -> bool
+    ensures { IsTrue result ↔ length (print_lines value.now) ≡ 0 }
+{
+    match value {
+        Value::Raw(lines) => lines.text().is_empty(),
+        _ => value.line_count() == 0,
+    }
 }
 
 /// The entry of the whole records. There always is one.
@@ -59,7 +74,7 @@ pub(crate) fn ended(present: Present) -> Option<Entry>
     } = present;
     match reader.finish() {
         Ok(value) => {
-            if value.line_count() == 0 {
+            if is_lineless(&value) {
                 None
             } else {
                 Some(Entry::known(path, value))

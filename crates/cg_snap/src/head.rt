@@ -14,14 +14,15 @@ use crate::present::Present;
 fn repeats(present: &Present, piece: &[u8], room: u64, max_lines: u64) -> bool
     ensures { IsTrue result → Repeats present.now piece.now room max_lines }
 {
-    let rest = match piece.strip_prefix(present.path.as_slice()) {
-        Some(rest) => rest,
-        None => return false,
-    };
-    if rest.is_empty() || rest[0] != 0 {
+    let size = present.path.len();
+    if size >= piece.len() || piece[size] != 0 {
         return false;
     }
-    if present.path.len() as u64 >= room || present.lines >= max_lines {
+    if size as u64 >= room || present.lines >= max_lines {
+        return false;
+    }
+    let (path, _) = piece.split_at(size);
+    if path != present.path.as_slice() {
         return false;
     }
     present.reader.takes_line()

@@ -10,7 +10,7 @@ ghost use Rattle.cg_snap.specs.PlanState.{AtItemLine, AtItemPath, DidItem};
 ghost use Rattle.cg_snap.specs.PlanStop.{IsItemWhy};
 
 use crate::class::{WriteClass, classify_write};
-use crate::records::{Records, Stepped};
+use crate::records::{LineTaken, Records, Stepped};
 use crate::run::{line_length, take_path};
 use crate::stop::Why;
 use cg_line::{PushFault, SettingReader};
@@ -229,9 +229,12 @@ impl Records for PlanRecords {
         0
     }
 
-    fn take_line(&mut self, _piece: &[u8], _room: u64) -> usize {
+    fn take_line(&mut self, _piece: &[u8], _room: u64) -> LineTaken {
         // The newline ends an item, so it goes by `step`.
-        0
+        LineTaken {
+            used: 0,
+            ended: false,
+        }
     }
 
     fn take_run(&mut self, piece: &[u8], room: u64) -> usize {

@@ -1,5 +1,5 @@
 //! What takes the records of a stream, byte by byte.
-ghost use Rattle.std.specs.Prelude.{◌≡◌, ◌<◌, ◌≤◌, ◌++◌, ℕ, List, length, take};
+ghost use Rattle.std.specs.Prelude.{◌≡◌, ◌<◌, ◌≤◌, ◌++◌, ℕ, List, length, take, IsTrue, IsFalse};
 ghost use Rattle.cg_file.specs.Front.{IsLineFront};
 ghost use Rattle.cg_text.specs.Texts.{Lacks, Viable};
 ghost use Rattle.cg_value.specs.declared.profile.Profile.{Profile};
@@ -17,6 +17,15 @@ pub(crate) enum Stepped<Part> {
     Given(Part),
     Refused(Why),
     OutOfMemory,
+}
+
+/// What was taken at once of the line that is begun.
+#[derive(Drop)]
+pub(crate) struct LineTaken {
+    /// How many bytes.
+    pub(crate) used: usize,
+    /// Whether the last of them is the newline that ends the line.
+    pub(crate) ended: bool,
 }
 
 /// The records of a stream, taken byte by byte, and the parts that they make: entries or items.
@@ -74,14 +83,16 @@ pub(crate) trait Records: Drop {
         ensures room { result ≤ room }
         ensures profile { profile self.new ≡ profile self.old };
 
-    /// Takes what comes of a line with its newline, where one is begun, the piece has its end and there is room for it; or takes
-    /// nothing. Answers how many bytes it took.
-    fn take_line(&mut self, piece: &[u8], room: u64) -> usize
-        ensures taken { (form : Profile) (p : List ℕ) (es : List Self.Part) → at self.old form p es → at self.new form (p ++ take result piece.now) es }
-        ensures few { (form : Profile) (p : List ℕ) (es : List Self.Part) (max : ℕ) → at self.old form p es → AreFew (many form max) p (take result piece.now) }
-        ensures line { 0 < result → IsLineFront piece.now result }
-        ensures within { result ≤ length piece.now }
-        ensures room { result ≤ room }
+    /// Takes what comes of a line, where one is begun, as far as it can and there is room; with its newline where it gets that
+    /// far. It may leave any of it.
+    fn take_line(&mut self, piece: &[u8], room: u64) -> LineTaken
+        ensures taken { (form : Profile) (p : List ℕ) (es : List Self.Part) → at self.old form p es → at self.new form (p ++ take result.used piece.now) es }
+        ensures few { (form : Profile) (p : List ℕ) (es : List Self.Part) (max : ℕ) → at self.old form p es → AreFew (many form max) p (take result.used piece.now) }
+        ensures line { (form : Profile) (p : List ℕ) (es : List Self.Part) → at self.old form p es → IsTrue result.ended → IsLineFront piece.now result.used }
+        ensures plain { (form : Profile) (p : List ℕ) (es : List Self.Part) → at self.old form p es → IsFalse result.ended → Lacks 10 (take result.used piece.now) }
+        ensures some { IsTrue result.ended → 0 < result.used }
+        ensures within { result.used ≤ length piece.now }
+        ensures room { result.used ≤ room }
         ensures profile { profile self.new ≡ profile self.old };
 
     /// Takes what comes of a path or of a line, at most so many bytes as there is room for, and answers how many.

@@ -5,9 +5,9 @@ ghost use Rattle.cg_snap.specs.PathBytes.{ArePathBytes, path_bytes_prop};
 use crate::entry_step::{is_full, step};
 use crate::head::take_head;
 use crate::present::Present;
-use crate::records::{Records, Stepped};
+use crate::records::{LineTaken, Records, Stepped};
 use crate::refusal::refusal;
-use crate::run::{take_run, take_whole_line};
+use crate::run::{take_begun_line, take_run};
 use crate::stop::Why;
 use cg_text::ByteSet;
 use cg_value::{Entry, Profile};
@@ -95,8 +95,8 @@ impl Records for SnapshotRecords {
         take_head(&self.begun, &mut self.present, piece, room, max_lines)
     }
 
-    fn take_line(&mut self, piece: &[u8], room: u64) -> usize {
-        take_whole_line(&self.begun, &mut self.present, piece, room)
+    fn take_line(&mut self, piece: &[u8], room: u64) -> LineTaken {
+        take_begun_line(&self.begun, &mut self.present, piece, room)
     }
 
     fn take_run(&mut self, piece: &[u8], room: u64) -> usize {

@@ -1,15 +1,15 @@
-use Rattle.std.proofs.Common.{◌≡◌, ◌+◌, ◌++◌, ◌∷◌, [], ℕ, List, length, take, refl, sym, ap, subst, arith}
-use Rattle.std.proofs.lemmas.List.{append-nil, length-append, length-take-le}
+use Rattle.std.proofs.Common.{◌≡◌, ◌+◌, ◌++◌, ◌∷◌, [], ℕ, List, length, take, sym, ap, subst, arith}
+use Rattle.std.proofs.lemmas.List.{length-append, length-take-le}
 use Rattle.cg_snap.specs.Meter.{IsCounted}
-use Rattle.cg_snap.proofs.Courses.{along_of, ran_line, stayed}
+use Rattle.cg_snap.proofs.Courses.{ran, ran_line}
 use Rattle.cg_snap.proofs.course.skip_line.Goals as goal
 
-pub returns-then-used-gt0-clause-skipped : goal.returns-then-used-gt0-clause-skipped
-returns-then-used-gt0-clause-skipped g c form p es h =
-    let took = c.take_line-used in
-    let n = took.result in
+pub returns-then-line-clause-skipped : goal.returns-then-line-clause-skipped
+returns-then-line-clause-skipped g c form p es h =
+    let took = c.take_line-line in
+    let n = took.result.used in
     let q = take n c.args.piece.now in
-    let l = took.ensures.line (omega (arith, c.if-used-gt0.true)) in
+    let l = took.ensures.line form p es h.state c.if-line.true in
     let same : length q ≡ n = length-take-le n c.args.piece.now took.ensures.within in
     let size : n ≡ length l.0 + 1 = omega (arith, same, ap length l.1, length-append l.0 (10 ∷ [])) in
     let counted : IsCounted c.count_line.new.self (p ++ q) = subst (λ (t : List ℕ). IsCounted c.count_line.new.self (p ++ t)) (sym l.1) (c.count_line.ensures.counted p l.0 h.counted size) in
@@ -18,11 +18,14 @@ returns-then-used-gt0-clause-skipped g c form p es h =
     c.count_line.ensures.limits h.unstopped l.2 (took.ensures.few form p es c.args.meter.now.limits.max_lines h.state)
     (omega (arith, same, took.ensures.room, c.room.ensures.record)) (omega (arith, same, took.ensures.room, c.room.ensures.stream))
 
-pub returns-else-used-gt0-clause-skipped : goal.returns-else-used-gt0-clause-skipped
-returns-else-used-gt0-clause-skipped g c form p es h =
-    let took = c.take_line-used in
-    let none : took.result ≡ 0 = omega (arith, c.if-used-gt0.false) in
-    let same : p ≡ p ++ take took.result c.args.piece.now = rw none (sym (append-nil p)) in
-    along_of (g.R.Records.language form) (g.R.Records.breaks form) (g.R.Records.many form) (g.R.Records.closes form) (λ s. g.R.Records.at s form) took.new.self c.args.meter.now p (p ++ take took.result c.args.piece.now) es same
-    (stayed (g.R.Records.language form) (g.R.Records.breaks form) (g.R.Records.many form) (g.R.Records.closes form) (λ s. g.R.Records.at s form) (λ s. g.R.Records.closed s form) (λ s. g.R.Records.goes_on s form) took.new.self c.args.meter.now c.args.meter.now p es
-    (subst (λ (t : List ℕ). g.R.Records.at took.new.self form t es) (sym same) (took.ensures.taken form p es h.state)) h.counted h.unstopped refl)
+pub returns-else-line-clause-skipped : goal.returns-else-line-clause-skipped
+returns-else-line-clause-skipped g c form p es h =
+    let took = c.take_line-line in
+    let n = took.result.used in
+    let q = take n c.args.piece.now in
+    let same : length q ≡ n = length-take-le n c.args.piece.now took.ensures.within in
+    let plain = took.ensures.plain form p es h.state c.if-line.false in
+    ran (g.R.Records.language form) (g.R.Records.breaks form) (g.R.Records.many form) (g.R.Records.closes form) (λ s. g.R.Records.at s form) (λ s. g.R.Records.closed s form) (λ s. g.R.Records.goes_on s form)
+    took.new.self c.args.meter.now c.count_run.new.self p q es (took.ensures.taken form p es h.state) h.counted (c.count_run.ensures.counted p q h.counted plain (sym same))
+    c.count_run.ensures.limits h.unstopped plain (took.ensures.few form p es c.args.meter.now.limits.max_lines h.state)
+    (omega (arith, same, took.ensures.room, c.room.ensures.record)) (omega (arith, same, took.ensures.room, c.room.ensures.stream))

@@ -5,7 +5,7 @@ use Rattle.cg_snap.proofs.course.skip_record.Goals as goal
 pub returns-clause-skipped : goal.returns-clause-skipped
 returns-clause-skipped g c form p es h =
     let head = c.skip_head-head.result in
-    let line = c.skip_line-line.result in
+    let line = c.skip_line-line.result.used in
     let piece = c.args.piece.now in
     along_of (g.R.Records.language form) (g.R.Records.breaks form) (g.R.Records.many form) (g.R.Records.closes form) (λ s. g.R.Records.at s form)
     c.skip_line-line.new.records c.skip_line-line.new.meter ((p ++ take head piece) ++ take line c.split_at.result.1.now) (p ++ take (head + line) piece) es

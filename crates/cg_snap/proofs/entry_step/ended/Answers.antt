@@ -1,17 +1,23 @@
+use Rattle.std.proofs.Common.{length, refl}
+use Rattle.std.proofs.lemmas.Bool.{iff_false}
 use Rattle.cg_value.specs.Lines.{unlines}
+use Rattle.cg_value.specs.Print.{print_lines}
 use Rattle.cg_snap.proofs.Ends.{ends_as, never_cut, never_empty}
 use Rattle.cg_snap.proofs.Sounds.{sound_entry}
 use Rattle.cg_snap.proofs.entry_step.ended.Goals as goal
 
 pub known-requires : goal.known-requires
-known-requires c = sound_entry c.args.present.path.items c.args.present.reader c.in-Ok.value c.line_count.result c.args.present.sound c.in-Ok.ensures c.line_count.ensures c.if-line_count-eq0.false
+known-requires c =
+    let value = c.in-Ok.value in
+    sound_entry c.args.present.path.items c.args.present.reader value (length (print_lines value)) c.args.present.sound c.in-Ok.ensures refl (iff_false c.is_lineless.ensures c.if-is_lineless.false)
 
-pub returns-then-line_count-eq0 : goal.returns-then-line_count-eq0
-returns-then-line_count-eq0 c = λ profile begun p es h.
-    never_empty profile begun c.args.present p es h c.in-Ok.value c.line_count.result c.line_count.ensures c.if-line_count-eq0.true (c.in-Ok.ensures h.kind (unlines h.lines) h.reads)
+pub returns-then-is_lineless : goal.returns-then-is_lineless
+returns-then-is_lineless c = λ profile begun p es h.
+    let value = c.in-Ok.value in
+    never_empty profile begun c.args.present p es h value (length (print_lines value)) refl (c.is_lineless.ensures.0 c.if-is_lineless.true) (c.in-Ok.ensures h.kind (unlines h.lines) h.reads)
 
-pub returns-else-line_count-eq0 : goal.returns-else-line_count-eq0
-returns-else-line_count-eq0 c = λ profile begun p es h.
+pub returns-else-is_lineless : goal.returns-else-is_lineless
+returns-else-is_lineless c = λ profile begun p es h.
     ends_as profile begun c.args.present p es h c.known.result c.in-Ok.value c.known.ensures.path c.known.ensures.value (c.in-Ok.ensures h.kind (unlines h.lines) h.reads)
 
 pub returns-in-Err : goal.returns-in-Err
