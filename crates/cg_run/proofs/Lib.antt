@@ -7,6 +7,7 @@ pub mod FileText
 pub mod Flags
 pub mod Keeping
 pub mod KindsLemmas
+pub mod LetGo
 pub mod Parts
 pub mod Planning
 pub mod Profiles

@@ -1,8 +1,9 @@
 //! What reads one file, and keeps its text. A file is the canonical text of what it spells, so nothing is printed.
-ghost use Rattle.std.specs.Prelude.{◌≡◌, ◌<◌, ℕ, List, [], length, IfNone};
+ghost use Rattle.std.specs.Prelude.{◌≡◌, ◌<◌, ℕ, List, [], length, IfNone, IsTrue};
 ghost use Rattle.cg_value.specs.declared.kind.ReadForm.{ReadForm};
 ghost use Rattle.cg_line.specs.Reads.{Reads};
 ghost use Rattle.cg_line.specs.Runs.{RunStops};
+ghost use Rattle.cg_run.specs.FileReader.{HasLinesAlone};
 
 use crate::text_reader::{TextReader, front_of};
 use cg_line::{PushFault, PushedRun, ValueReader};
@@ -11,11 +12,29 @@ use cg_text::{ByteSet, OutOfMemory};
 use cg_value::{ReadForm, ReadKind, Value};
 use std::alloc::Global;
 
-/// A reader of one file, and the bytes that it took.
+/// How many bytes at least are taken by one reader, before what they spell is let go of.
+const ROOM: usize = 16384;
+
+/// A reader of one file, and the bytes that it took. The value of the file is not wanted, so where lines don't depend on one
+/// another, the reader is made anew at the end of a line every now and then, and holds no more than the lines since then.
 #[derive(Drop)]
 pub(crate) struct FileReader {
+    alloc: Global,
+    kind: ReadKind,
     reader: ValueReader,
     text: Vec<u8>,
+    /// How many bytes of the text were taken before the reader was made.
+    before: usize,
+}
+
+/// Whether the lines of the kind's files don't depend on one another.
+fn has_lines_alone(kind: ReadKind) -> bool
+    ensures { IsTrue result → HasLinesAlone kind }
+{
+    match kind.form() {
+        ReadForm::DeviceStats | ReadForm::DeviceLimits => true,
+        _ => false,
+    }
 }
 
 /// No byte is taken, since no memory is left to keep it; or since no file goes on with it, where that is so.
@@ -37,16 +56,40 @@ fn starved(reader: &ValueReader, bytes: &[u8]) -> PushedRun
 }
 
 impl FileReader {
-    ghost use Rattle.cg_run.specs.FileReader.{HasKept};
+    ghost use Rattle.cg_run.specs.FileReader.{HasKept, IsLetGo};
 
     /// A reader of a file of this kind, of which nothing was taken. It takes no memory.
     pub(crate) fn new(alloc: Global, kind: ReadKind) -> FileReader
         ensures { HasKept result kind [] }
     {
         FileReader {
+            alloc,
+            kind,
             reader: ValueReader::new(alloc, kind),
             text: Vec::new(alloc),
+            before: 0,
         }
+    }
+
+    /// Whether the reader is to be made anew: it took enough, and a line of a kind whose lines don't depend on one another has
+    /// ended.
+    fn is_due(&self) -> bool
+        ensures { IsTrue result → (kind : ReadForm) (taken : List ℕ) → HasKept self.now kind taken → IsLetGo kind taken }
+    {
+        if self.text.len().saturating_sub(self.before) < ROOM {
+            return false;
+        }
+        has_lines_alone(self.kind) && self.reader.can_finish()
+    }
+
+    /// Makes the reader anew, so that what the bytes spell is let go of. It is a function of its own, since the room for a new
+    /// reader is cleared whenever a function that makes one is entered.
+    #[inline(never)]
+    fn renew(&mut self)
+        ensures { (kind : ReadForm) (taken : List ℕ) → HasKept self.old kind taken → IsLetGo kind taken → HasKept self.new kind taken }
+    {
+        self.before = self.text.len();
+        self.reader = ValueReader::new(self.alloc, self.kind);
     }
 }
 
@@ -75,9 +118,13 @@ impl TextReader for FileReader {
         let run = self.reader.push_run(front);
         let (taken, _) = front.split_at(run.used);
         match self.text.extend_from_slice(taken) {
-            Ok(()) => run,
+            Ok(()) => {}
             Err(_) => unreachable!(),
         }
+        if self.is_due() {
+            self.renew();
+        }
+        run
     }
 
     fn allowed(&self) -> ByteSet {
@@ -85,7 +132,7 @@ impl TextReader for FileReader {
     }
 
     fn finish(self, alloc: Global) -> Result<Option<Vec<u8>>, OutOfMemory> {
-        let FileReader { reader, text } = self;
+        let FileReader { reader, text, .. } = self;
         let value = match reader.finish() {
             Ok(value) => value,
             Err(_) => return Ok(None),

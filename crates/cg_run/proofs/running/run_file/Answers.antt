@@ -9,3 +9,6 @@ pub returns-in-Err-clause-ran : goal.returns-in-Err-clause-ran
 returns-in-Err-clause-ran g c fresh =
     idle_ran (IsFileRight (read_form_of c.args.profile c.args.name.now) c.args.max) _ _ _ _ _ out.NotReadable c.told_line.result
     (rw c.in-Err.ensures.unreadable (record { outcome = refl; unread = refl; none = refl })) c.told_line.ensures
+
+pub returns-in-Ok-clause-ran : goal.returns-in-Ok-clause-ran
+returns-in-Ok-clause-ran g c fresh = rw c.in-Ok.ensures.readable (c.run_text.ensures.ran c.in-Ok.kind c.new.ensures fresh)
