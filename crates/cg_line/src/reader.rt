@@ -1,5 +1,5 @@
 //! Readers of one file.
-ghost use Rattle.std.specs.Prelude.{◌≡◌, ◌≤◌, ◌<◌, ◌+◌, ◌↔◌, ℕ, List, [], ◌++◌, length, take, MatchResult, IsTrue, IfNone, OnErr};
+ghost use Rattle.std.specs.Prelude.{◌≡◌, ◌≤◌, ◌<◌, ◌+◌, ◌↔◌, ℕ, List, [], ◌++◌, length, take, MatchOption, MatchResult, IsTrue, IfNone, OnErr};
 ghost use Rattle.cg_text.specs.Bytes.{HasByte};
 ghost use Rattle.cg_file.specs.Front.{IsLineFront};
 ghost use Rattle.cg_text.specs.Texts.{Lacks, Next};
@@ -200,6 +200,17 @@ impl ValueReader {
         ensures most { (kind : ReadForm) (lines : List (List ℕ)) (line : List ℕ) (v : Value) → Reads self.now kind (unlines lines ++ line) → Lacks 10 line → ReadLines kind v lines → held_by self.now ≤ held_of_lines v lines + length line }
     {
         self.text.held()
+    }
+
+    /// The value of a whole file, and none of other bytes, where the reader isn't wanted again. It takes no memory.
+    pub fn into_value(self) -> Option<Value>
+        ensures { (kind : ReadForm) (taken : List ℕ) → Reads self kind taken → MatchOption result (KindFile kind taken → ⊥) (λ v. KindText kind v taken) }
+    {
+        if self.text.can_end() {
+            Some(self.text.take())
+        } else {
+            None
+        }
     }
 
     /// The value of a whole file, or else the reader. It takes no memory.

@@ -72,15 +72,15 @@ pub(crate) fn ended(present: Present) -> Option<Entry>
         lines: _,
         in_line: _,
     } = present;
-    match reader.finish() {
-        Ok(value) => {
+    match reader.into_value() {
+        Some(value) => {
             if is_lineless(&value) {
                 None
             } else {
                 Some(Entry::known(path, value))
             }
         }
-        Err(_) => None,
+        None => None,
     }
 }
 

@@ -8,17 +8,17 @@ use Rattle.cg_snap.proofs.entry_step.ended.Goals as goal
 
 pub known-requires : goal.known-requires
 known-requires c =
-    let value = c.in-Ok.value in
-    sound_entry c.args.present.path.items c.args.present.reader value (length (print_lines value)) c.args.present.sound c.in-Ok.ensures refl (iff_false c.is_lineless.ensures c.if-is_lineless.false)
+    let value = c.in-Some.value in
+    sound_entry c.args.present.path.items c.args.present.reader value (length (print_lines value)) c.args.present.sound c.in-Some.ensures refl (iff_false c.is_lineless.ensures c.if-is_lineless.false)
 
 pub returns-then-is_lineless : goal.returns-then-is_lineless
 returns-then-is_lineless c = λ profile begun p es h.
-    let value = c.in-Ok.value in
-    never_empty profile begun c.args.present p es h value (length (print_lines value)) refl (c.is_lineless.ensures.0 c.if-is_lineless.true) (c.in-Ok.ensures h.kind (unlines h.lines) h.reads)
+    let value = c.in-Some.value in
+    never_empty profile begun c.args.present p es h value (length (print_lines value)) refl (c.is_lineless.ensures.0 c.if-is_lineless.true) (c.in-Some.ensures h.kind (unlines h.lines) h.reads)
 
 pub returns-else-is_lineless : goal.returns-else-is_lineless
 returns-else-is_lineless c = λ profile begun p es h.
-    ends_as profile begun c.args.present p es h c.known.result c.in-Ok.value c.known.ensures.path c.known.ensures.value (c.in-Ok.ensures h.kind (unlines h.lines) h.reads)
+    ends_as profile begun c.args.present p es h c.known.result c.in-Some.value c.known.ensures.path c.known.ensures.value (c.in-Some.ensures h.kind (unlines h.lines) h.reads)
 
-pub returns-in-Err : goal.returns-in-Err
-returns-in-Err c = λ profile begun p es h. never_cut profile begun c.args.present p es h (c.in-Err.ensures h.kind (unlines h.lines) h.reads).1
+pub returns-in-None : goal.returns-in-None
+returns-in-None c = λ profile begun p es h. never_cut profile begun c.args.present p es h (c.in-None.ensures h.kind (unlines h.lines) h.reads)
