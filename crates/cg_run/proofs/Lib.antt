@@ -2,8 +2,10 @@ pub mod AmongNames
 pub mod Builds
 pub mod Checking
 pub mod Commands
+pub mod Decoding
 pub mod Entered
 pub mod FileText
+pub mod Finds
 pub mod Flags
 pub mod Keeping
 pub mod KindsLemmas

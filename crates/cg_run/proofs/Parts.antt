@@ -32,7 +32,8 @@ module _ (part : EntryData → List ℕ) (d : SnapshotDecoder) (profile : Profil
   pub part_starved : (piece : List ℕ) (used : ℕ) (e : EntryData) → HasTaken d profile limits (p ++ take used piece) (es ++ e ∷ []) →
       WantsMemory (PartsOf part (λ bytes fs. Closed profile bytes fs)) (IsSnapUnstopped profile limits) p parts piece used
   part_starved piece used e t = inr (
-    part e,
+    part e ∷ [],
+    (λ z. cc),
     taken_unstopped d profile limits (p ++ take used piece) (es ++ e ∷ []) t,
     (es ++ e ∷ [], taken_closed d profile limits (p ++ take used piece) (es ++ e ∷ []) t, push_part part es e parts (part e) parts_are refl),
   )

@@ -17,6 +17,7 @@ use Rattle.cg_run.specs.Streaming.{FoundIs, IsByteStop, IsCutAt}
 use Rattle.cg_run.specs.declared.planned.PlannedReader.{PlannedReader}
 use Rattle.cg_run.specs.declared.stream_reader.Found.{Found}
 use Rattle.cg_run.specs.declared.stream_reader.Found.TheVariants as found
+use Rattle.cg_run.proofs.Finds.{no_more, one_more}
 use Rattle.cg_run.proofs.Parts.{push_part}
 
 module _ (was now : PlannedReader) (form : Profile × Limits) (p : List ℕ) (parts : List (List ℕ)) (piece : List ℕ) (used : ℕ) (h : HasPlanned was form p parts)
@@ -34,54 +35,47 @@ module _ (was now : PlannedReader) (form : Profile × Limits) (p : List ℕ) (pa
   byte_stop bytes (stops.TooMuch at) x = tt
   byte_stop bytes (stops.Cut at) x = absurd x.stops
 
-  abbrev Finds : Found → Type 0
-  Finds f = FoundIs (PartsOf item_part (λ bytes items. ClosedPlan (form.0) bytes items)) (IsPlanUnstopped (form.0) (form.1)) (HasPlanned now form) (PlanStopOf (form.0) (form.1)) p parts piece used f
+  abbrev Finds : List ℕ → Found → Type 0
+  Finds text f = FoundIs (PartsOf item_part (λ bytes items. ClosedPlan (form.0) bytes items)) (IsPlanUnstopped (form.0) (form.1)) (HasPlanned now form) (PlanStopOf (form.0) (form.1)) p parts piece used text f
 
   -- No memory was left for the text of an item.
-  starved : (item : ItemData) → PlanWhatIs now.decoder p h.0 piece used (whats.Item item) → Finds found.OutOfMemory
-  starved item w =
+  starved : (text : List ℕ) (item : ItemData) → text ≡ [] → PlanWhatIs now.decoder p h.0 piece used (whats.Item item) → Finds text found.OutOfMemory
+  starved text item e w =
       let after : HasPlanned now form (p ++ take used piece) (parts ++ item_part item ∷ []) =
       (h.0 ++ item ∷ [], taken (p ++ take used piece) (h.0 ++ item ∷ []) w.0 w.3, push_part item_part h.0 item parts (item_part item) h.2 refl) in
-      inr (
-        item_part item,
+      no_more e (inr (
+        item_part item ∷ [],
+        (λ z. cc),
         planned_passed now form (p ++ take used piece) (parts ++ item_part item ∷ []) after,
         planned_closed now form (p ++ take used piece) (parts ++ item_part item ∷ []) after,
-      )
+      ))
 
-  pub found_is : (what : PlanWhat) (f : Found) → PlanWhatIs now.decoder p h.0 piece used what → IsPrintedAs what f → Finds f
-  found_is whats.NeedMore found.NeedMore w e = (h.0, taken (p ++ take used piece) h.0 w.0 w.2, h.2)
-  found_is whats.NeedMore found.Kept w e = absurd e
-  found_is whats.NeedMore (found.Part text) w e = absurd e
-  found_is whats.NeedMore (found.Stopped s) w e = absurd e
-  found_is whats.NeedMore found.OutOfMemory w e = absurd e
-  found_is (whats.Item item) found.NeedMore w e = absurd e
-  found_is (whats.Item item) found.Kept w e = absurd e
-  found_is (whats.Item item) (found.Part text) w e = (h.0 ++ item ∷ [], taken (p ++ take used piece) (h.0 ++ item ∷ []) w.0 w.3, push_part item_part h.0 item parts text.items h.2 e)
-  found_is (whats.Item item) (found.Stopped s) w e = absurd e
-  found_is (whats.Item item) found.OutOfMemory w e = starved item w
-  found_is (whats.Stopped stop) found.NeedMore w e = absurd e
-  found_is (whats.Stopped stop) found.Kept w e = absurd e
-  found_is (whats.Stopped stop) (found.Part text) w e = absurd e
-  found_is (whats.Stopped stop) (found.Stopped s) w e =
-      subst (λ (t : Stop). Finds (found.Stopped t)) (sym e) (
+  pub found_is : (what : PlanWhat) (text : List ℕ) (f : Found) → PlanWhatIs now.decoder p h.0 piece used what → IsPrintedAs what text f → Finds text f
+  found_is whats.NeedMore text found.GoesOn w e = no_more e (h.0, taken (p ++ take used piece) h.0 w.0 w.2, h.2)
+  found_is whats.NeedMore text (found.Stopped s) w e = absurd e
+  found_is whats.NeedMore text found.OutOfMemory w e = absurd e
+  found_is (whats.Item item) text found.GoesOn w e = one_more text refl (h.0 ++ item ∷ [], taken (p ++ take used piece) (h.0 ++ item ∷ []) w.0 w.3, push_part item_part h.0 item parts text h.2 e)
+  found_is (whats.Item item) text (found.Stopped s) w e = absurd e
+  found_is (whats.Item item) text found.OutOfMemory w e = starved text item e w
+  found_is (whats.Stopped stop) text found.GoesOn w e = absurd e
+  found_is (whats.Stopped stop) text (found.Stopped s) w e =
+      subst (λ (t : Stop). Finds text (found.Stopped t)) (sym e.1) (no_more e.0 (
         byte_stop (p ++ piece) stop w.2,
         of_form (λ q l. PlanStopOf q l (p ++ piece) stop) w.2,
         w.4,
         (h.0, of_form (λ q l. ClosedPlan q (p ++ take used piece) h.0) w.3.closed, h.2),
-      )
-  found_is (whats.Stopped stop) found.OutOfMemory w e = absurd e
-  found_is whats.OutOfMemory found.NeedMore w e = absurd e
-  found_is whats.OutOfMemory found.Kept w e = absurd e
-  found_is whats.OutOfMemory (found.Part text) w e = absurd e
-  found_is whats.OutOfMemory (found.Stopped s) w e = absurd e
-  found_is whats.OutOfMemory found.OutOfMemory w e =
+      ))
+  found_is (whats.Stopped stop) text found.OutOfMemory w e = absurd e
+  found_is whats.OutOfMemory text found.GoesOn w e = absurd e
+  found_is whats.OutOfMemory text (found.Stopped s) w e = absurd e
+  found_is whats.OutOfMemory text found.OutOfMemory w e =
       let after : HasPlanned now form (p ++ take used piece) parts = (h.0, taken (p ++ take used piece) h.0 w.0 w.3, h.2) in
-      inl (
+      no_more e (inl (
         w.1,
         planned_passed now form (p ++ take used piece) parts after,
         of_form (λ q l. IsPlanUnstopped q l (p ++ take (used + 1) piece)) w.2,
         planned_closed now form (p ++ take used piece) parts after,
-      )
+      ))
 
 -- ---- The end
 

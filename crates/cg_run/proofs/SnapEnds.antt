@@ -1,14 +1,16 @@
 -- Where an entry of a snapshot ends: with the byte that closes it, the NUL behind another path.
-use Rattle.std.proofs.Common.{◌≡◌, ◌≢◌, ℕ, List, [], ◌∷◌, ◌++◌, ◌⊎◌, inl, inr, refl, sym, ap, subst, ◌∙◌, append_assoc}
+use Rattle.std.proofs.Common.{◌≡◌, ◌≢◌, ℕ, List, [], ◌∷◌, ◌++◌, ◌⊎◌, inl, inr, refl, sym, ap, subst, ◌∙◌, append_assoc, arith}
 use Rattle.std.proofs.lemmas.List.{append-nil, append_cancel_left}
 use Rattle.std.specs.List.{AllByRecursion}
 use Rattle.cg_text.specs.ListFacts.{push_one}
+use Rattle.cg_text.specs.Raw.{IsRawLine}
 use Rattle.cg_text.specs.Texts.{Lacks}
 use Rattle.cg_text.specs.TextsLaws.{lacks_both, lacks_inside}
 use Rattle.cg_value.specs.Entry.{EntryData, IsPath}
 use Rattle.cg_value.specs.EntryLaws.{entry_path}
 use Rattle.cg_value.specs.PathLaws.{path_lacks_newline, path_lacks_nul}
 use Rattle.cg_value.specs.Print.{print_lines}
+use Rattle.cg_value.specs.RawLinesLaws.{raw_lines}
 use Rattle.cg_value.specs.Records.{records}
 use Rattle.cg_value.specs.declared.profile.Profile.{Profile}
 use Rattle.cg_snap.specs.Closed.{Closed, EndsOther}
@@ -77,11 +79,23 @@ pub last_lines : (profile : Profile) (es : List EntryData) (e : EntryData) (text
 last_lines profile [] e text h = subst (AreEntryLines profile e) (printed_lines profile e h.0 h.2) h.2
 last_lines profile (f ∷ es) e text h = last_lines profile es e h.1 h.5
 
+raw_lacks_nul : (line : List ℕ) → IsRawLine line → Lacks 0 line
+raw_lacks_nul [] h = tt
+raw_lacks_nul (c ∷ cs) h = ((λ e. absurd (omega (arith, h.0, e))), raw_lacks_nul cs h.3)
+
+all_lack_nul : (lines : List (List ℕ)) → AllByRecursion IsRawLine lines → AllByRecursion (Lacks 0) lines
+all_lack_nul [] h = tt
+all_lack_nul (line ∷ lines) h = (raw_lacks_nul line h.0, all_lack_nul lines h.1)
+
+-- No line of an entry has a NUL.
+pub lines_lack_nul : (profile : Profile) (e : EntryData) (lines : List (List ℕ)) → AreEntryLines profile e lines → AllByRecursion (Lacks 0) lines
+lines_lack_nul profile e lines a = all_lack_nul lines (raw_lines a.kind e.value lines a.spelled)
+
 -- The bytes are those of the entries and of one more, and the next path with its NUL.
 pub record IsEntryEnd (bytes : List ℕ) (es : List EntryData) (e : EntryData) : Type 0 where
   pub next : List ℕ
   pub good : IsPath next
-  pub plain : AllByRecursion (Lacks 10) (print_lines e.value)
+  pub plain : AllByRecursion (Lacks 0) (print_lines e.value)
   pub split : bytes ≡ print_entries es ++ (records e.path (print_lines e.value) ++ (next ++ 0 ∷ []))
 
 module _ (profile : Profile) (bytes : List ℕ) (last : ℕ) (es : List EntryData) (e : EntryData) (c : Closed profile bytes es) (d : Closed profile (bytes ++ last ∷ []) (es ++ e ∷ [])) where
@@ -119,6 +133,6 @@ module _ (profile : Profile) (bytes : List ℕ) (last : ℕ) (es : List EntryDat
       record {
         next = d.path;
         good = d.good;
-        plain = lines_plain profile e (print_lines e.value) lines;
+        plain = lines_lack_nul profile e (print_lines e.value) lines;
         split = d.split ∙ ap (λ t. t ++ d.present) given ∙ append_assoc (print_entries es) entry d.present ∙ ap (λ t. print_entries es ++ (entry ++ t)) present;
       }

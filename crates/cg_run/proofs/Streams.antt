@@ -10,9 +10,11 @@ use Rattle.cg_run.specs.Input.{Reading}
 use Rattle.cg_run.specs.Outcome.{last_line}
 use Rattle.cg_run.specs.Run.{Wrote, joined}
 use Rattle.cg_run.specs.Stream.{IsEarlyRight, IsStreamRight, IsStreamStarved, IsStreamStop}
-use Rattle.cg_run.specs.Streaming.{EndsSo, HasWritten, IsByteStop, IsCutAt, WantsMemory}
+use Rattle.cg_run.specs.Streaming.{EndsSo, FoundIs, HasWritten, IsByteStop, IsCutAt, LeadsTo, WantsMemory}
 use Rattle.cg_run.specs.declared.outcome.Outcome.{Outcome}
 use Rattle.cg_run.specs.declared.outcome.Outcome.TheVariants as out
+use Rattle.cg_run.specs.declared.stream_reader.Found.{Found}
+use Rattle.cg_run.specs.declared.stream_reader.Found.TheVariants as found
 use Rattle.cg_run.proofs.Written.{take_past}
 
 -- A part of a piece, and then a part of what is left of it.
@@ -26,6 +28,15 @@ text_all read piece rest at e = ap (λ (r : List ℕ). (read ++ take at piece) +
 some_part : (parts : List (List ℕ)) (part : List ℕ) → parts ++ part ∷ [] ≢ []
 some_part [] part = λ e. cc
 some_part (first ∷ parts) part = λ e. cc
+
+some_more : (parts more : List (List ℕ)) → more ≢ [] → parts ++ more ≢ []
+some_more [] more some = some
+some_more (first ∷ parts) more some = λ e. cc
+
+-- Parts that have a text are some.
+some_text : (parts more all : List (List ℕ)) (text : List ℕ) → all ≡ parts ++ more → text ≡ joined more → 0 < length text → all ≢ []
+some_text parts [] all text e same some = λ none. absurd (omega (arith, some, ap length same))
+some_text parts (part ∷ more) all text e same some = λ none. some_more parts (part ∷ more) (λ z. cc) (sym e ∙ none)
 
 module _ (Took Whole Closes : List ℕ → List (List ℕ) → Type 0) (Unstopped : List ℕ → Type 0) (StopsBy : List ℕ → Stop → Type 0)
     (closed : (p : List ℕ) (parts : List (List ℕ)) → Took p parts → Closes p parts) (passed : (p : List ℕ) (parts : List (List ℕ)) → Took p parts → Unstopped p) where
@@ -84,10 +95,6 @@ module _ (Took Whole Closes : List ℕ → List (List ℕ) → Type 0) (Unstoppe
       wrote = w (last_line out.OutOfMemory) out.OutOfMemory;
     }
 
-    pub fault_ends : (first now : Option (List ℕ)) (write_failed : Bool) (parts : List (List ℕ)) (part : List ℕ) (o : Outcome) → Took ((read ++ take at piece) ++ take n rest) (parts ++ part ∷ []) →
-        ((rest : List ℕ) (wanted : Outcome) → Wrote first now write_failed (joined (parts ++ part ∷ []) ++ rest) wanted o) → EndsSo Early (read ++ piece) left failed first now write_failed o
-    fault_ends first now write_failed parts part o h w = parts_fault_ends first now write_failed (parts ++ part ∷ []) o (some_part parts part) h w
-
     stop_right : (parts : List (List ℕ)) (s : Stop) → IsByteStop s → StopsBy (read ++ piece) s → Closes (take (place_of s) (read ++ piece)) parts → IsStreamStop Whole Closes Unstopped StopsBy r s parts
     stop_right parts (stops.Refused place why) b x c = record { stops = x; closed = c }
     stop_right parts (stops.TooLong place) b x c = record { stops = x; closed = c }
@@ -112,11 +119,27 @@ module _ (Took Whole Closes : List ℕ → List (List ℕ) → Type 0) (Unstoppe
         let next : length read + (at + n) + 1 ≡ length read + (at + (n + 1)) = omega arith in
         let u : Unstopped (take (length read + (at + n) + 1) (read ++ piece)) = rw (next, front (at + (n + 1))) (subst Unstopped (text_on read piece rest at (n + 1) rest_is) h.2) in
         starved parts [] h.1 (rw (append-nil parts) h.3) (inl (omega (arith, h.0, less, ap length rest_is, length-drop at piece, length-append read piece), u))
-    memory_right parts (inr h) = starved parts (h.0 ∷ []) h.1 h.2 (inr (some_part parts h.0))
+    memory_right parts (inr h) = starved parts (h.0) h.2 h.3 (inr (some_more parts (h.0) h.1))
 
     pub memory_ends : (first now : Option (List ℕ)) (write_failed : Bool) (parts : List (List ℕ)) (o : Outcome) → WantsMemory Closes Unstopped (read ++ take at piece) parts rest n →
         Wrote first now write_failed (joined parts ++ last_line out.OutOfMemory) out.OutOfMemory o → EndsSo Early (read ++ piece) left failed first now write_failed o
     memory_ends first now write_failed parts o h w = record { wanted = out.OutOfMemory; parts = parts; right = memory_right parts h; wrote = w }
+
+    leads_fault : (first now : Option (List ℕ)) (write_failed : Bool) (all : List (List ℕ)) (f : Found) (o : Outcome) → all ≢ [] →
+        LeadsTo Closes Unstopped Took StopsBy (read ++ take at piece) all rest n f →
+        ((rest : List ℕ) (wanted : Outcome) → Wrote first now write_failed (joined all ++ rest) wanted o) → EndsSo Early (read ++ piece) left failed first now write_failed o
+    leads_fault first now write_failed all found.GoesOn o some h w = parts_fault_ends first now write_failed all o some h w
+    leads_fault first now write_failed all (found.Stopped s) o some h w = stop_ends first now write_failed all s o h.0 h.1 h.2 h.3 (w (last_line (out.Stopped s)) (out.Stopped s))
+    leads_fault first now write_failed all found.OutOfMemory o some h w = memory_ends first now write_failed all o h (w (last_line out.OutOfMemory) out.OutOfMemory)
+
+    -- The writer failed in the text of parts that a call gave, whatever else it came to.
+    pub fault_ends : (first now : Option (List ℕ)) (write_failed : Bool) (parts : List (List ℕ)) (text : List ℕ) (f : Found) (o : Outcome) → 0 < length text →
+        (h : FoundIs Closes Unstopped Took StopsBy (read ++ take at piece) parts rest n text f) →
+        ((rest : List ℕ) (wanted : Outcome) → Wrote first now write_failed (joined (parts ++ h.more) ++ rest) wanted o) → EndsSo Early (read ++ piece) left failed first now write_failed o
+    fault_ends first now write_failed parts text f o some h w =
+        let wrote : (rest : List ℕ) (wanted : Outcome) → Wrote first now write_failed (joined h.all ++ rest) wanted o =
+        λ rest wanted. subst (λ (ps : List (List ℕ)). Wrote first now write_failed (joined ps ++ rest) wanted o) (sym h.all_are) (w rest wanted) in
+        leads_fault first now write_failed h.all f o (some_text parts h.more h.all text h.all_are h.text_is some) h.leads wrote
 
   -- ---- The end of the input
 

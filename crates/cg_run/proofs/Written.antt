@@ -90,12 +90,13 @@ line_written first a b parts line written failed wanted out.OutOfMemory h w n = 
 
 -- ---- Texts that are gathered
 
-joined_append : (xs ys : List (List ℕ)) → joined (xs ++ ys) ≡ joined xs ++ joined ys
+pub joined_append : (xs ys : List (List ℕ)) → joined (xs ++ ys) ≡ joined xs ++ joined ys
 joined_append [] ys = refl
 joined_append (x ∷ xs) ys = ap (λ t. x ++ t) (joined_append xs ys) ∙ sym (append_assoc x (joined xs) (joined ys))
 
-joined_one : (part : List ℕ) → joined (part ∷ []) ≡ part
-joined_one part = append-nil part
+-- The text of one part, and of no part.
+pub joined_one : (part : List ℕ) → part ≡ joined (part ∷ [])
+joined_one part = sym (append-nil part)
 
 -- The parts, with those that are gathered as one.
 pub gathered_joined : (first now : Option (List ℕ)) (parts : List (List ℕ)) (written : ℕ) (gathered : List ℕ) (h : Gathers first now parts written gathered) → joined (h.told ++ gathered ∷ []) ≡ joined parts
@@ -119,24 +120,25 @@ gathered_none first now parts written gathered e h =
     let same : joined h.told ≡ joined parts = sym (append-nil (joined h.told)) ∙ ap (λ t. joined h.told ++ t) (sym e ∙ h.text) ∙ sym (joined_append h.told h.rest) ∙ ap (λ ps. joined ps) (sym h.parts_are) in
     subst (λ (t : List ℕ). Appends first now t × (written ≡ told (length t))) same h.wrote
 
--- One more text is gathered; or it alone, where all others were written.
-pub gathers_more : (first now : Option (List ℕ)) (parts : List (List ℕ)) (part : List ℕ) (written : ℕ) (old new : List ℕ) → new ≡ old ++ part → Gathers first now parts written old → Gathers first now (parts ++ part ∷ []) written new
-gathers_more first now parts part written old new e h = record {
+-- The text of more parts is gathered; or it alone, where all others were written.
+pub gathers_more : (first now : Option (List ℕ)) (parts more : List (List ℕ)) (text : List ℕ) (written : ℕ) (old new : List ℕ) → text ≡ joined more → new ≡ old ++ text →
+    Gathers first now parts written old → Gathers first now (parts ++ more) written new
+gathers_more first now parts more text written old new same e h = record {
   told = h.told;
-  rest = h.rest ++ part ∷ [];
-  parts_are = ap (λ ps. ps ++ part ∷ []) h.parts_are ∙ append_assoc h.told h.rest (part ∷ []);
+  rest = h.rest ++ more;
+  parts_are = ap (λ ps. ps ++ more) h.parts_are ∙ append_assoc h.told h.rest more;
   wrote = h.wrote;
-  text = e ∙ ap (λ t. t ++ part) h.text ∙ sym (joined_push h.rest part);
+  text = e ∙ ap (λ t. t ++ text) h.text ∙ ap (λ t. joined h.rest ++ t) same ∙ sym (joined_append h.rest more);
 }
 
-pub gathers_alone : (first now : Option (List ℕ)) (parts : List (List ℕ)) (part : List ℕ) (written : ℕ) → HasWritten first now parts written → Gathers first now (parts ++ part ∷ []) written part
-gathers_alone first now parts part written h = record { told = parts; rest = part ∷ []; parts_are = refl; wrote = h; text = sym (joined_one part) }
+pub gathers_alone : (first now : Option (List ℕ)) (parts more : List (List ℕ)) (text : List ℕ) (written : ℕ) → text ≡ joined more → HasWritten first now parts written → Gathers first now (parts ++ more) written text
+gathers_alone first now parts more text written same h = record { told = parts; rest = more; parts_are = refl; wrote = h; text = same }
 
--- The writer failed before one more part.
-pub fault_before : (first now : Option (List ℕ)) (failed : Bool) (parts : List (List ℕ)) (part : List ℕ) (fault : Outcome) → ((rest : List ℕ) (wanted : Outcome) → Wrote first now failed (joined parts ++ rest) wanted fault) →
-    (rest : List ℕ) (wanted : Outcome) → Wrote first now failed (joined (parts ++ part ∷ []) ++ rest) wanted fault
-fault_before first now failed parts part fault h rest wanted =
-    subst (λ (t : List ℕ). Wrote first now failed t wanted fault) (sym (ap (λ t. t ++ rest) (joined_push parts part) ∙ append_assoc (joined parts) part rest)) (h (part ++ rest) wanted)
+-- The writer failed before more parts.
+pub fault_before : (first now : Option (List ℕ)) (failed : Bool) (parts more : List (List ℕ)) (fault : Outcome) → ((rest : List ℕ) (wanted : Outcome) → Wrote first now failed (joined parts ++ rest) wanted fault) →
+    (rest : List ℕ) (wanted : Outcome) → Wrote first now failed (joined (parts ++ more) ++ rest) wanted fault
+fault_before first now failed parts more fault h rest wanted =
+    subst (λ (t : List ℕ). Wrote first now failed t wanted fault) (sym (ap (λ t. t ++ rest) (joined_append parts more) ∙ append_assoc (joined parts) (joined more) rest)) (h (joined more ++ rest) wanted)
 
 -- Where texts are gathered there are parts.
 pub gathered_some : (first now : Option (List ℕ)) (parts : List (List ℕ)) (written : ℕ) (gathered : List ℕ) → gathered ≢ [] → Gathers first now parts written gathered → parts ≢ []

@@ -1,5 +1,5 @@
 -- What a reader of a snapshot stands for, of which each entry is told as a line of JSON.
-use Rattle.std.proofs.Common.{◌≡◌, ℕ, ◌≤◌, List, length, map}
+use Rattle.std.proofs.Common.{◌≡◌, ℕ, ◌≤◌, List, [], length, map}
 use Rattle.cg_value.specs.Entry.{EntryData}
 use Rattle.cg_value.specs.declared.profile.Profile.{Profile}
 use Rattle.cg_snap.specs.Closed.{Closed}
@@ -37,10 +37,10 @@ pub told_counted : (s : EntryReader) (form : Profile × Limits) (p : List ℕ) (
 told_counted s form p parts h = taken_counted s.decoder (form.0) (form.1) p h.es h.taken
 
 -- What was found by the decoder, as the reader tells it: an entry by its line, where there is memory for it.
-abbrev pub IsToldAs : What → Found → Type 0
-IsToldAs whats.NeedMore found.NeedMore = Unit {0}
-IsToldAs (whats.Entry e) (found.Part text) = text.items ≡ json_part e
-IsToldAs (whats.Entry e) found.OutOfMemory = Unit {0}
-IsToldAs (whats.Stopped stop) (found.Stopped told) = told ≡ stop
-IsToldAs whats.OutOfMemory found.OutOfMemory = Unit {0}
-IsToldAs what f = ⊥
+abbrev pub IsToldAs : What → List ℕ → Found → Type 0
+IsToldAs whats.NeedMore text found.GoesOn = text ≡ []
+IsToldAs (whats.Entry e) text found.GoesOn = text ≡ json_part e
+IsToldAs (whats.Entry e) text found.OutOfMemory = text ≡ []
+IsToldAs (whats.Stopped stop) text (found.Stopped told) = (text ≡ []) × (told ≡ stop)
+IsToldAs whats.OutOfMemory text found.OutOfMemory = text ≡ []
+IsToldAs what text f = ⊥

@@ -1,6 +1,7 @@
 pub mod Check
 pub mod Checked
 pub mod CommandLine
+pub mod Decoded
 pub mod Ended
 pub mod Entries
 pub mod FileReader

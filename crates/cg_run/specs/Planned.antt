@@ -1,5 +1,5 @@
 -- What a reader of a plan that is printed stands for.
-use Rattle.std.proofs.Common.{◌≡◌, ℕ, ◌≤◌, List, length, subst, ap, arith}
+use Rattle.std.proofs.Common.{◌≡◌, ℕ, ◌≤◌, List, [], length, subst, ap, arith}
 use Rattle.cg_value.specs.declared.profile.Profile.{Profile}
 use Rattle.cg_snap.specs.Decode.{HasTakenPlan}
 use Rattle.cg_snap.specs.Plan.{ClosedPlan}
@@ -32,10 +32,10 @@ pub planned_counted : (s : PlannedReader) (form : Profile × Limits) (p : List �
 planned_counted s form p parts h = (h.1.stands.counted.offset, omega (arith, h.1.stands.counted.within, ap (λ (l : Limits). l.max_stream) h.1.limits_is))
 
 -- What was found by the decoder, as the reader tells it: an item by its text, where there is memory for it.
-abbrev pub IsPrintedAs : PlanWhat → Found → Type 0
-IsPrintedAs whats.NeedMore found.NeedMore = Unit {0}
-IsPrintedAs (whats.Item item) (found.Part text) = text.items ≡ item_part item
-IsPrintedAs (whats.Item item) found.OutOfMemory = Unit {0}
-IsPrintedAs (whats.Stopped stop) (found.Stopped told) = told ≡ stop
-IsPrintedAs whats.OutOfMemory found.OutOfMemory = Unit {0}
-IsPrintedAs what f = ⊥
+abbrev pub IsPrintedAs : PlanWhat → List ℕ → Found → Type 0
+IsPrintedAs whats.NeedMore text found.GoesOn = text ≡ []
+IsPrintedAs (whats.Item item) text found.GoesOn = text ≡ item_part item
+IsPrintedAs (whats.Item item) text found.OutOfMemory = text ≡ []
+IsPrintedAs (whats.Stopped stop) text (found.Stopped told) = (text ≡ []) × (told ≡ stop)
+IsPrintedAs whats.OutOfMemory text found.OutOfMemory = text ≡ []
+IsPrintedAs what text f = ⊥

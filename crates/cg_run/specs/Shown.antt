@@ -1,5 +1,5 @@
 -- What a reader of a snapshot stands for, of which each entry is shown.
-use Rattle.std.proofs.Common.{◌≡◌, ℕ, ◌≤◌, false, List, ◌++◌, length, map}
+use Rattle.std.proofs.Common.{◌≡◌, ℕ, ◌≤◌, List, ◌++◌, length, map}
 use Rattle.cg_value.specs.Entry.{EntryData}
 use Rattle.cg_value.specs.declared.profile.Profile.{Profile}
 use Rattle.cg_snap.specs.Closed.{Closed}
@@ -8,7 +8,7 @@ use Rattle.cg_snap.specs.Decoder.{offset_of}
 use Rattle.cg_snap.specs.Laws.{print_entries}
 use Rattle.cg_snap.specs.SnapStop.{IsSnapUnstopped}
 use Rattle.cg_snap.specs.declared.limits.Limits.{Limits}
-use Rattle.cg_run.specs.ShownBytes.{is_line_after, shown_bytes}
+use Rattle.cg_run.specs.ShownBytes.{shown_bytes}
 use Rattle.cg_run.specs.Stream.{PartsOf, shown_part}
 use Rattle.cg_run.specs.Taken.{taken_closed, taken_counted, taken_unstopped}
 use Rattle.cg_run.specs.declared.shown.ShownReader.{ShownReader}
@@ -18,8 +18,7 @@ use Rattle.cg_run.specs.declared.shown_text.ShownText.{ShownText}
 pub record IsShownBehind (shown : ShownText) (bytes : List ℕ) (es : List EntryData) : Type 0 where
   pub present : List ℕ
   pub split : bytes ≡ print_entries es ++ present
-  pub text : shown.text.items ≡ shown_bytes false present
-  pub in_line : shown.in_line ≡ is_line_after false present
+  pub text : shown.text.items ≡ shown_bytes present
 
 -- Its decoder took the bytes, the parts are those of the entries that it gave, and its text is of the bytes behind these.
 pub record HasShown (s : ShownReader) (form : Profile × Limits) (p : List ℕ) (parts : List (List ℕ)) : Type 0 where

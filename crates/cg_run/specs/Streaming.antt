@@ -1,5 +1,5 @@
 -- What the steps of a run over a stream do.
-use Rattle.std.specs.Prelude.{◌≡◌, ℕ, ◌+◌, ◌<◌, ◌⊎◌, Bool, false, List, [], ◌∷◌, ◌++◌, length, take, Option}
+use Rattle.std.specs.Prelude.{◌≡◌, ◌≢◌, ℕ, ◌+◌, ◌<◌, ◌⊎◌, Bool, false, List, [], ◌∷◌, ◌++◌, length, take, Option}
 use Rattle.std.specs.Io.KnownBytes.{Appends, Consumes, IsAtEnd}
 use Rattle.cg_text.specs.Token.{told}
 use Rattle.cg_snap.specs.Stop.{place_of}
@@ -24,27 +24,32 @@ IsByteStop s = Unit {0}
 -- Closes says which parts some bytes close, and Unstopped that none of them stops the stream.
 module _ (Closes : List ℕ → List (List ℕ) → Type 0) (Unstopped : List ℕ → Type 0) where
   -- Memory was refused for the byte of the piece behind those that were consumed, which doesn't stop the stream either; or for
-  -- a part that these close.
+  -- parts that these close.
   abbrev pub WantsMemory : List ℕ → List (List ℕ) → List ℕ → ℕ → Type 0
   WantsMemory p parts piece used =
       ((used < length piece) × Unstopped (p ++ take used piece) × Unstopped (p ++ take (used + 1) piece) × Closes (p ++ take used piece) parts)
-      ⊎ ((part : List ℕ) × Unstopped (p ++ take used piece) × Closes (p ++ take used piece) (parts ++ part ∷ []))
+      ⊎ ((more : List (List ℕ)) × (more ≢ []) × Unstopped (p ++ take used piece) × Closes (p ++ take used piece) (parts ++ more))
 
-  -- What a call of next found that consumed so many bytes of the piece. Took says that the reader consumed some bytes and gave
-  -- some parts.
-  abbrev pub FoundIs : (List ℕ → List (List ℕ) → Type 0) → (List ℕ → Stop → Type 0) → List ℕ → List (List ℕ) → List ℕ → ℕ → Found → Type 0
-  FoundIs Took StopsBy p parts piece used found.NeedMore = Took (p ++ take used piece) parts
-  FoundIs Took StopsBy p parts piece used found.Kept = Took (p ++ take used piece) parts
-  FoundIs Took StopsBy p parts piece used (found.Part text) = Took (p ++ take used piece) (parts ++ text.items ∷ [])
-  FoundIs Took StopsBy p parts piece used (found.Stopped s) =
-      IsByteStop s × StopsBy (p ++ piece) s × (place_of s ≡ length p + used) × Closes (p ++ take used piece) parts
-  FoundIs Took StopsBy p parts piece used found.OutOfMemory = WantsMemory p parts piece used
+  -- What a call of next came to that consumed so many bytes of the piece, where these parts were given in all. Took says that
+  -- the reader consumed some bytes and gave some parts.
+  abbrev pub LeadsTo : (List ℕ → List (List ℕ) → Type 0) → (List ℕ → Stop → Type 0) → List ℕ → List (List ℕ) → List ℕ → ℕ → Found → Type 0
+  LeadsTo Took StopsBy p all piece used found.GoesOn = Took (p ++ take used piece) all
+  LeadsTo Took StopsBy p all piece used (found.Stopped s) =
+      IsByteStop s × StopsBy (p ++ piece) s × (place_of s ≡ length p + used) × Closes (p ++ take used piece) all
+  LeadsTo Took StopsBy p all piece used found.OutOfMemory = WantsMemory p all piece used
 
--- Where nothing is found the whole piece, which is so long, was consumed; and what is kept, and a part, come with a byte.
+  -- The same, where parts were given before, and the text is those that this call gives.
+  pub record FoundIs (Took : List ℕ → List (List ℕ) → Type 0) (StopsBy : List ℕ → Stop → Type 0) (p : List ℕ) (parts : List (List ℕ))
+      (piece : List ℕ) (used : ℕ) (text : List ℕ) (f : Found) : Type 0 where
+    pub more : List (List ℕ)
+    pub all : List (List ℕ)
+    pub all_are : all ≡ parts ++ more
+    pub text_is : text ≡ joined more
+    pub leads : LeadsTo Took StopsBy p all piece used f
+
+-- Where the stream goes on a byte was consumed, if the piece, which is so long, has one.
 abbrev pub IsFoundBy : ℕ → ℕ → Found → Type 0
-IsFoundBy whole used found.NeedMore = used ≡ whole
-IsFoundBy whole used found.Kept = 0 < used
-IsFoundBy whole used (found.Part text) = 0 < used
+IsFoundBy whole used found.GoesOn = 0 < whole → 0 < used
 IsFoundBy whole used (found.Stopped s) = Unit {0}
 IsFoundBy whole used found.OutOfMemory = Unit {0}
 

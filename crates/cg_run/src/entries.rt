@@ -37,18 +37,19 @@ fn text_of(alloc: Global, entry: Entry) -> Result<Vec<u8>, OutOfMemory>
     cg_json::line(alloc, &entry)
 }
 
-/// What the decoder found, with the line of an entry.
-fn found_of(alloc: Global, what: What) -> Found
-    ensures { IsToldAs what result }
+/// What the decoder found, with the line of an entry, or with no text.
+fn told(alloc: Global, what: What) -> (Vec<u8>, Found)
+    ensures { IsToldAs what result.0.items result.1 }
 {
+    let none = Vec::new(alloc);
     match what {
-        What::NeedMore => Found::NeedMore,
+        What::NeedMore => (none, Found::GoesOn),
         What::Entry(entry) => match text_of(alloc, entry) {
-            Ok(text) => Found::Part(text),
-            Err(_) => Found::OutOfMemory,
+            Ok(text) => (text, Found::GoesOn),
+            Err(_) => (none, Found::OutOfMemory),
         },
-        What::Stopped(stop) => Found::Stopped(stop),
-        What::OutOfMemory => Found::OutOfMemory,
+        What::Stopped(stop) => (none, Found::Stopped(stop)),
+        What::OutOfMemory => (none, Found::OutOfMemory),
     }
 }
 
@@ -83,9 +84,11 @@ impl StreamReader for EntryReader {
 
     fn next(&mut self, piece: &[u8]) -> Next {
         let pulled = self.decoder.next(piece);
+        let (text, found) = told(self.alloc, pulled.what);
         Next {
             used: pulled.used,
-            found: found_of(self.alloc, pulled.what),
+            text,
+            found,
         }
     }
 }

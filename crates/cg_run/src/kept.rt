@@ -89,29 +89,35 @@ impl StreamReader for KeptReader {
 
     fn next(&mut self, piece: &[u8]) -> Next {
         let pulled = self.decoder.next(piece);
+        let text = Vec::new(*self.entries.allocator());
         let used = pulled.used;
         match pulled.what {
             What::NeedMore => Next {
                 used,
-                found: Found::NeedMore,
+                text,
+                found: Found::GoesOn,
             },
             What::Entry(entry) => match keep(&mut self.entries, entry) {
                 Ok(()) => Next {
                     used,
-                    found: Found::Kept,
+                    text,
+                    found: Found::GoesOn,
                 },
                 // The byte that closes the entry wants the memory.
                 Err(_) => Next {
                     used: used - 1,
+                    text,
                     found: Found::OutOfMemory,
                 },
             },
             What::Stopped(stop) => Next {
                 used,
+                text,
                 found: Found::Stopped(stop),
             },
             What::OutOfMemory => Next {
                 used,
+                text,
                 found: Found::OutOfMemory,
             },
         }

@@ -38,18 +38,19 @@ fn text_of(alloc: Global, item: PlanItem) -> Result<Vec<u8>, OutOfMemory>
     print_item(alloc, &item)
 }
 
-/// What the decoder found, with the text of an item.
-fn found_of(alloc: Global, what: PlanWhat) -> Found
-    ensures { IsPrintedAs what result }
+/// What the decoder found, with the text of an item, or with none.
+fn printed(alloc: Global, what: PlanWhat) -> (Vec<u8>, Found)
+    ensures { IsPrintedAs what result.0.items result.1 }
 {
+    let none = Vec::new(alloc);
     match what {
-        PlanWhat::NeedMore => Found::NeedMore,
+        PlanWhat::NeedMore => (none, Found::GoesOn),
         PlanWhat::Item(item) => match text_of(alloc, item) {
-            Ok(text) => Found::Part(text),
-            Err(_) => Found::OutOfMemory,
+            Ok(text) => (text, Found::GoesOn),
+            Err(_) => (none, Found::OutOfMemory),
         },
-        PlanWhat::Stopped(stop) => Found::Stopped(stop),
-        PlanWhat::OutOfMemory => Found::OutOfMemory,
+        PlanWhat::Stopped(stop) => (none, Found::Stopped(stop)),
+        PlanWhat::OutOfMemory => (none, Found::OutOfMemory),
     }
 }
 
@@ -83,9 +84,11 @@ impl StreamReader for PlannedReader {
 
     fn next(&mut self, piece: &[u8]) -> Next {
         let pulled = self.decoder.next(piece);
+        let (text, found) = printed(self.alloc, pulled.what);
         Next {
             used: pulled.used,
-            found: found_of(self.alloc, pulled.what),
+            text,
+            found,
         }
     }
 }

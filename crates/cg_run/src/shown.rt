@@ -1,6 +1,10 @@
 //! The entries of a snapshot, each shown once its bytes are closed.
-ghost use Rattle.std.specs.Prelude.{◌≡◌, []};
+ghost use Rattle.std.specs.Prelude.{◌≡◌, ◌≤◌, ℕ, List, [], length};
+ghost use Rattle.cg_value.specs.Entry.{EntryData};
+ghost use Rattle.cg_snap.specs.Decode.{HasTaken};
+ghost use Rattle.cg_run.specs.Decoded.{DecodedIs};
 ghost use Rattle.cg_run.specs.Seen.{IsSeen};
+ghost use Rattle.cg_run.specs.Streaming.{IsFoundBy};
 
 use crate::shown_text::ShownText;
 use crate::stream_reader::{Found, LastPart, Next, StreamEnd, StreamReader};
@@ -12,6 +16,7 @@ use std::alloc::Global;
 /// its bytes, and not of its value.
 #[derive(Drop)]
 pub(crate) struct ShownReader {
+    alloc: Global,
     decoder: SnapshotDecoder,
     shown: ShownText,
 }
@@ -37,6 +42,47 @@ fn seen_of(what: What) -> Seen
     }
 }
 
+/// How far a decoder came in a piece.
+#[derive(Clone, Copy)]
+pub(crate) struct Decoded {
+    /// How many bytes it consumed.
+    pub(crate) used: usize,
+    /// How many up to the last that closes an entry, and 0 where none does.
+    pub(crate) closed: usize,
+    pub(crate) found: Found,
+}
+
+/// Decodes a piece as far as it goes, and lets go of the entries.
+fn decode(decoder: &mut SnapshotDecoder, piece: &[u8]) -> Decoded
+    ensures decoded { (profile : Profile) (limits : Limits) (p : List ℕ) (es : List EntryData) → HasTaken decoder.old profile limits p es →
+        DecodedIs decoder.new profile limits p es piece.now result.used result.closed result.found }
+    ensures closed { result.closed ≤ result.used }
+    ensures used { result.used ≤ length piece.now }
+    ensures progress { IsFoundBy (length piece.now) result.used result.found }
+{
+    let mut used = 0;
+    let mut closed = 0;
+    'entries: loop {
+        let (_, rest) = piece.split_at(used);
+        let pulled = decoder.next(rest);
+        used += pulled.used;
+        let found = match seen_of(pulled.what) {
+            Seen::Entry => {
+                closed = used;
+                continue 'entries;
+            }
+            Seen::NeedMore => Found::GoesOn,
+            Seen::Stopped(stop) => Found::Stopped(stop),
+            Seen::OutOfMemory => Found::OutOfMemory,
+        };
+        return Decoded {
+            used,
+            closed,
+            found,
+        };
+    }
+}
+
 impl ShownReader {
     ghost use Rattle.cg_run.specs.Shown.{HasShown};
 
@@ -45,6 +91,7 @@ impl ShownReader {
         ensures { HasShown result (profile, limits) [] [] }
     {
         ShownReader {
+            alloc,
             decoder: SnapshotDecoder::new(alloc, profile, limits),
             shown: ShownText::new(alloc),
         }
@@ -81,40 +128,36 @@ impl StreamReader for ShownReader {
     ghost counted = { shown_counted };
 
     fn next(&mut self, piece: &[u8]) -> Next {
-        let pulled = self.decoder.next(piece);
-        let used = pulled.used;
-        match seen_of(pulled.what) {
-            Seen::NeedMore => match self.shown.take(piece) {
+        let decoded = decode(&mut self.decoder, piece);
+        let (front, rest) = piece.split_at(decoded.closed);
+        let text = match self.shown.take_closed(front) {
+            Ok(text) => text,
+            Err(_) => {
+                return Next {
+                    used: decoded.closed,
+                    text: Vec::new(self.alloc),
+                    found: Found::OutOfMemory,
+                };
+            }
+        };
+        match decoded.found {
+            Found::GoesOn => match self.shown.take(rest) {
                 Ok(()) => Next {
-                    used,
-                    found: Found::NeedMore,
+                    used: decoded.used,
+                    text,
+                    found: Found::GoesOn,
                 },
-                // The first byte of the piece wants the memory.
+                // The first byte behind the entries wants the memory.
                 Err(_) => Next {
-                    used: 0,
+                    used: decoded.closed,
+                    text,
                     found: Found::OutOfMemory,
                 },
             },
-            Seen::Entry => {
-                let (front, _) = piece.split_at(used);
-                match self.shown.take_last(front) {
-                    Ok(text) => Next {
-                        used,
-                        found: Found::Part(text),
-                    },
-                    Err(_) => Next {
-                        used,
-                        found: Found::OutOfMemory,
-                    },
-                }
-            }
-            Seen::Stopped(stop) => Next {
-                used,
-                found: Found::Stopped(stop),
-            },
-            Seen::OutOfMemory => Next {
-                used,
-                found: Found::OutOfMemory,
+            other => Next {
+                used: decoded.used,
+                text,
+                found: other,
             },
         }
     }

@@ -5,25 +5,24 @@ ghost use Rattle.cg_run.specs.Streaming.{EndIs, FoundIs, IsFoundBy};
 
 use cg_snap::Stop;
 
-/// What a call of `next` found.
-#[derive(Drop)]
+/// What a call of `next` came to.
+#[derive(Clone, Copy)]
 pub(crate) enum Found {
-    /// Nothing yet: the whole piece was consumed.
-    NeedMore,
-    /// What the reader keeps, or doesn't need: no part.
-    Kept,
-    /// The text of a part.
-    Part(Vec<u8>),
+    /// Nothing that ends the stream: it goes on.
+    GoesOn,
     /// A byte that stops the stream. It isn't consumed.
     Stopped(Stop),
-    /// No memory was left, for a byte, which isn't consumed, or for a part.
+    /// No memory was left, for a byte, which isn't consumed, or for parts.
     OutOfMemory,
 }
 
-/// What a call of `next` found, and how many bytes of the piece it consumed.
+/// What a call of `next` did.
 #[derive(Drop)]
 pub(crate) struct Next {
+    /// How many bytes of the piece it consumed.
     pub(crate) used: usize,
+    /// The texts of parts that these bytes close, one after another.
+    pub(crate) text: Vec<u8>,
     pub(crate) found: Found,
 }
 
@@ -65,11 +64,11 @@ pub(crate) trait StreamReader: Drop {
     // The reader is of this form, consumed these bytes and gave these parts.
     ghost took: { Self → Self.Form → List ℕ → List (List ℕ) → Type 0 };
 
-    /// Consumes bytes until a part is there, a byte stops the stream, or no memory is left; where none of these comes, the
-    /// whole piece.
+    /// Consumes bytes of the piece, and gives the texts of parts that they close: as far as it likes, but at least a byte where
+    /// there is one, or until a byte stops the stream or no memory is left.
     fn next(&mut self, piece: &[u8]) -> Next
         ensures found { (form : Self.Form) (p : List ℕ) (parts : List (List ℕ)) → took self.old form p parts →
-            FoundIs (closes form) (unstopped form) (took self.new form) (stops form) p parts piece.now result.used result.found }
+            FoundIs (closes form) (unstopped form) (took self.new form) (stops form) p parts piece.now result.used result.text.items result.found }
         ensures used { result.used ≤ length piece.now }
         ensures progress { IsFoundBy (length piece.now) result.used result.found };
 

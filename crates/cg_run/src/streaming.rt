@@ -9,7 +9,7 @@ ghost use Rattle.cg_run.specs.Streaming.{Before, BeforeGathered, EndsSo, IsRealE
 use crate::outcome::Outcome;
 use crate::running::PIECE;
 use crate::source::Source;
-use crate::stream_reader::{Found, LastPart, StreamEnd, StreamReader};
+use crate::stream_reader::{Found, LastPart, Next, StreamEnd, StreamReader};
 use crate::told::{gather, told_after, told_gathered, told_last, told_part};
 use cg_print::{Failed, Sink};
 use std::alloc::Global;
@@ -31,15 +31,18 @@ fn gather_parts<S: StreamReader, W: Sink>(
     let mut used = 0;
     while used < piece.len() {
         let (_, rest) = piece.split_at(used);
-        let next = stream.next(rest);
-        used += next.used;
-        match next.found {
-            Found::NeedMore => {}
-            Found::Kept => {}
-            Found::Part(text) => match gather(gathered, text, writer, written) {
-                None => {}
-                Some(fault) => return Some(fault),
-            },
+        let Next {
+            used: count,
+            text,
+            found,
+        } = stream.next(rest);
+        used += count;
+        match gather(gathered, text, writer, written) {
+            None => {}
+            Some(fault) => return Some(fault),
+        }
+        match found {
+            Found::GoesOn => {}
             Found::Stopped(stop) => {
                 let outcome = Outcome::Stopped(stop);
                 return Some(told_last(writer, gathered.as_slice(), written, outcome));

@@ -1,5 +1,5 @@
 //! What a run writes: texts, and its last line.
-ghost use Rattle.std.specs.Prelude.{◌≡◌, List, ℕ, [], ◌∷◌, ◌++◌, false, Option, MatchBool, MatchOption, IfSome};
+ghost use Rattle.std.specs.Prelude.{◌≡◌, ◌<◌, List, ℕ, [], ◌∷◌, ◌++◌, false, Option, MatchBool, MatchOption, IfSome, IsSome, IsTrue, length};
 ghost use Rattle.cg_run.specs.Outcome.{last_line, is_write_fault};
 ghost use Rattle.cg_run.specs.Run.{Wrote, IsRealFault, joined};
 ghost use Rattle.cg_run.specs.Streaming.{Gathers, HasWritten};
@@ -114,26 +114,41 @@ fn is_added(gathered: &mut Vec<u8>, text: &[u8]) -> bool
     }
 }
 
-/// Gathers the text of a part. Where those that are gathered are many, or no memory is left for it beside them, they are
+/// Whether nothing is gathered and the text is large, so that it needn't be copied.
+fn stands_alone(gathered: &Vec<u8>, text: &[u8]) -> bool
+    ensures { IsTrue result → gathered.now.items ≡ [] }
+{
+    gathered.is_empty() && text.len() >= PIECE / 2
+}
+
+/// Gathers the text of parts. Where those that are gathered are many, or no memory is left for it beside them, they are
 /// written first. The answer is the writer's fault, if it failed.
 #[inline(always)]
 pub(crate) fn gather<W: Sink>(
     gathered: &mut Vec<u8>,
-    part: Vec<u8>,
+    text: Vec<u8>,
     writer: &mut W,
     written: &mut u64,
 ) -> Option<Outcome>
-    ensures wrote { (first : Option (List ℕ)) (parts : List (List ℕ)) → Gathers first (W.taken writer.old) parts written.old gathered.old.items →
-        MatchOption result (Gathers first (W.taken writer.new) (parts ++ part.items ∷ []) written.new gathered.new.items)
-        (λ fault. (rest : List ℕ) (wanted : Outcome) → Wrote first (W.taken writer.new) (W.has_failed writer.new) (joined (parts ++ part.items ∷ []) ++ rest) wanted fault) }
+    ensures wrote { (first : Option (List ℕ)) (parts more : List (List ℕ)) → text.items ≡ joined more → Gathers first (W.taken writer.old) parts written.old gathered.old.items →
+        MatchOption result (Gathers first (W.taken writer.new) (parts ++ more) written.new gathered.new.items)
+        (λ fault. (rest : List ℕ) (wanted : Outcome) → Wrote first (W.taken writer.new) (W.has_failed writer.new) (joined (parts ++ more) ++ rest) wanted fault) }
     ensures real { IfSome result (λ fault. IsRealFault fault (W.has_failed writer.new)) }
+    ensures some { IsSome result → 0 < length text.items }
 {
-    if is_added(gathered, part.as_slice()) {
+    if text.is_empty() {
+        return None;
+    }
+    if stands_alone(gathered, text.as_slice()) {
+        *gathered = text;
+        return None;
+    }
+    if is_added(gathered, text.as_slice()) {
         return None;
     }
     match told_gathered(writer, gathered.as_slice(), written) {
         None => {
-            *gathered = part;
+            *gathered = text;
             None
         }
         Some(fault) => Some(fault),

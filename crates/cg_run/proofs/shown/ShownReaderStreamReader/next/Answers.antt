@@ -1,83 +1,91 @@
-use Rattle.std.proofs.Common.{◌≡◌, ℕ, List, [], ◌∷◌, ◌++◌, take, inl, sym, subst, arith}
+use Rattle.std.proofs.Common.{◌≡◌, ◌<◌, ◌≤◌, ℕ, List, ◌++◌, map, length, take, drop, refl, sym, ap, subst, ◌∙◌, append_assoc, take-append-drop, arith, length-drop}
 use Rattle.std.proofs.lemmas.List.{take_all}
+use Rattle.cg_value.specs.Entry.{EntryData}
 use Rattle.cg_snap.specs.Decode.{HasTaken}
-use Rattle.cg_snap.specs.declared.decoder.What.TheVariants as whats
-use Rattle.cg_run.specs.Shown.{IsShownBehind}
+use Rattle.cg_run.specs.Shown.{HasShown, IsShownBehind}
 use Rattle.cg_run.specs.Stream.{shown_part}
-use Rattle.cg_run.proofs.Parts.{part_starved, push_part}
-use Rattle.cg_run.proofs.Pulled.{pulled_is}
-use Rattle.cg_run.proofs.Showing.{behind_entry, behind_more, closed_end, lines_are, piece_starved}
+use Rattle.cg_run.proofs.Decoding.{left_leads}
+use Rattle.cg_run.proofs.Finds.{no_more}
+use Rattle.cg_run.proofs.Showing.{all_are, behind_more, closed_shown, rest_starved, text_starved}
 use Rattle.cg_run.proofs.shown.ShownReaderStreamReader.next.Goals as goal
-
-pub returns-in-Ok-clause-found : goal.returns-in-Ok-clause-found
-returns-in-Ok-clause-found c form p parts h =
-    let was = c.args.self.now in
-    let now = c.next-pulled.new.self in
-    let piece = c.args.piece.now in
-    let used = c.next-pulled.result.used in
-    let what = rw (rw c.in-NeedMore.is at c.seen_of.ensures) at (c.next-pulled.ensures.pulled p h.es h.taken.stop h.taken.stands) in
-    let pulled = pulled_is was.decoder now (form.0) (form.1) p h.es piece used h.taken c.next-pulled.ensures.profile c.next-pulled.ensures.limits whats.NeedMore what in
-    let all : take used piece ≡ piece = take_all used piece (omega (arith, what.1)) in
-    record {
-      es = h.es;
-      taken = pulled;
-      parts_are = h.parts_are;
-      behind = subst (λ (q : List ℕ). IsShownBehind c.take.new.self (p ++ q) h.es) (sym all) (behind_more was.shown p h.es h.behind piece c.take.new.self c.in-Ok.ensures);
-    }
 
 pub returns-in-Err-clause-found : goal.returns-in-Err-clause-found
 returns-in-Err-clause-found c form p parts h =
-    let was = c.args.self.now in
-    let now = c.next-pulled.new.self in
-    let piece = c.args.piece.now in
-    let used = c.next-pulled.result.used in
-    let what = rw (rw c.in-NeedMore.is at c.seen_of.ensures) at (c.next-pulled.ensures.pulled p h.es h.taken.stop h.taken.stands) in
-    let pulled = pulled_is was.decoder now (form.0) (form.1) p h.es piece used h.taken c.next-pulled.ensures.profile c.next-pulled.ensures.limits whats.NeedMore what in
-    let all : take used piece ≡ piece = take_all used piece (omega (arith, what.1)) in
-    piece_starved was.decoder now (form.0) (form.1) p piece h.es parts c.in-Err.ensures h.taken (subst (λ (q : List ℕ). HasTaken now (form.0) (form.1) (p ++ q) h.es) all pulled) h.parts_are
+    let d = c.decode-decoded.ensures.decoded (form.0) (form.1) p h.es h.taken in
+    no_more c.new.ensures.items
+    (text_starved (form.0) (form.1) p c.args.piece.now h.es d.more parts c.decode-decoded.result.closed h.parts_are
+    (subst (λ (t : List ℕ). 0 < length t) c.split_at.ensures.front c.in-Err.ensures) d.close)
 
-pub returns-in-Ok-take_last-clause-found : goal.returns-in-Ok-take_last-clause-found
-returns-in-Ok-take_last-clause-found c form p parts h =
-    let was = c.args.self.now in
-    let now = c.next-pulled.new.self in
+pub returns-in-Ok-take-clause-found : goal.returns-in-Ok-take-clause-found
+returns-in-Ok-take-clause-found c form p parts h =
     let piece = c.args.piece.now in
-    let used = c.next-pulled.result.used in
-    let seen = rw c.in-Entry.is at c.seen_of.ensures in
-    let entry = seen.0 in
-    let what = rw seen.1 at (c.next-pulled.ensures.pulled p h.es h.taken.stop h.taken.stands) in
-    let pulled = pulled_is was.decoder now (form.0) (form.1) p h.es piece used h.taken c.next-pulled.ensures.profile c.next-pulled.ensures.limits (whats.Entry entry) what in
-    let end = closed_end now (form.0) (form.1) p piece used h.es entry pulled.0 c.next-pulled.ensures.used pulled.2 pulled.1 in
-    let took = rw c.split_at.ensures.front at c.in-Ok-take_last.ensures in
-    let text = c.in-Ok-take_last.text.items in
+    let used = c.decode-decoded.result.used in
+    let closed = c.decode-decoded.result.closed in
+    let now = c.decode-decoded.new.decoder in
+    let front = c.split_at.result.0.now in
+    let rest = c.split_at.result.1.now in
+    let d = c.decode-decoded.ensures.decoded (form.0) (form.1) p h.es h.taken in
+    let left = rw c.in-GoesOn.is at d.left in
+    let es = h.es ++ d.more in
+    let within : closed ≤ length piece = omega (arith, c.decode-decoded.ensures.closed, c.decode-decoded.ensures.used) in
+    let cut = closed_shown c.args.self.now.shown c.take_closed.new.self (form.0) (form.1) p piece h.es d.more closed h.behind front c.in-Ok.text.items c.split_at.ensures.front c.in-Ok.ensures d.close within in
+    let all : take used piece ≡ piece = take_all used piece (omega (arith, left.1)) in
+    let whole : (p ++ front) ++ rest ≡ p ++ take used piece =
+    append_assoc p front rest ∙ ap (λ (t : List ℕ). p ++ (t ++ rest)) c.split_at.ensures.front ∙ ap (λ (t : List ℕ). p ++ (take closed piece ++ t)) c.split_at.ensures.back
+    ∙ ap (λ (t : List ℕ). p ++ t) (take-append-drop closed piece ∙ sym all) in
     record {
-      es = h.es ++ entry ∷ [];
-      taken = pulled.1;
-      parts_are = push_part shown_part h.es entry parts text h.parts_are (lines_are was.shown p h.es h.behind (take used piece) c.take_last.new.self entry end text took.0 took.1);
-      behind = behind_entry was.shown p h.es h.behind (take used piece) c.take_last.new.self entry end text took.0 took.1;
+      more = map shown_part d.more;
+      all = map shown_part es;
+      all_are = sym (all_are (form.0) (form.1) p piece h.es d.more parts closed h.parts_are);
+      text_is = cut.0;
+      leads = record {
+        es = es;
+        taken = subst (λ (t : List ℕ). HasTaken now (form.0) (form.1) (p ++ t) es) (sym all) left.0;
+        parts_are = refl;
+        behind = subst (λ (t : List ℕ). IsShownBehind c.take.new.self t es) whole (behind_more c.take_closed.new.self (p ++ front) es cut.1 rest c.take.new.self c.in-Ok-take.ensures);
+      };
     }
 
-pub returns-in-Err-take_last-clause-found : goal.returns-in-Err-take_last-clause-found
-returns-in-Err-take_last-clause-found c form p parts h =
-    let was = c.args.self.now in
-    let now = c.next-pulled.new.self in
+pub returns-in-Ok-take-clause-progress : goal.returns-in-Ok-take-clause-progress
+returns-in-Ok-take-clause-progress c = rw c.in-GoesOn.is at c.decode-decoded.ensures.progress
+
+pub returns-in-Err-take-clause-found : goal.returns-in-Err-take-clause-found
+returns-in-Err-take-clause-found c form p parts h =
     let piece = c.args.piece.now in
-    let used = c.next-pulled.result.used in
-    let seen = rw c.in-Entry.is at c.seen_of.ensures in
-    let entry = seen.0 in
-    let what = rw seen.1 at (c.next-pulled.ensures.pulled p h.es h.taken.stop h.taken.stands) in
-    let pulled = pulled_is was.decoder now (form.0) (form.1) p h.es piece used h.taken c.next-pulled.ensures.profile c.next-pulled.ensures.limits (whats.Entry entry) what in
-    part_starved shown_part now (form.0) (form.1) p h.es parts h.parts_are piece used entry pulled.1
+    let closed = c.decode-decoded.result.closed in
+    let front = c.split_at.result.0.now in
+    let rest = c.split_at.result.1.now in
+    let d = c.decode-decoded.ensures.decoded (form.0) (form.1) p h.es h.taken in
+    let left = rw c.in-GoesOn.is at d.left in
+    let within : closed ≤ length piece = omega (arith, c.decode-decoded.ensures.closed, c.decode-decoded.ensures.used) in
+    let some : 0 < length rest = c.in-Err-take.ensures in
+    let less : closed < length piece = omega (arith, some, ap length c.split_at.ensures.back, length-drop closed piece) in
+    let cut = closed_shown c.args.self.now.shown c.take_closed.new.self (form.0) (form.1) p piece h.es d.more closed h.behind front c.in-Ok.text.items c.split_at.ensures.front c.in-Ok.ensures d.close within in
+    record {
+      more = map shown_part d.more;
+      all = map shown_part (h.es ++ d.more);
+      all_are = sym (all_are (form.0) (form.1) p piece h.es d.more parts closed h.parts_are);
+      text_is = cut.0;
+      leads = rest_starved (form.0) (form.1) p piece h.es d.more parts closed h.parts_are c.args.self.now.decoder c.decode-decoded.new.decoder less h.taken left.0 d.close;
+    }
 
-pub returns-in-Stopped-clause-found : goal.returns-in-Stopped-clause-found
-returns-in-Stopped-clause-found c form p parts h =
-    let what = rw (rw c.in-Stopped.is at c.seen_of.ensures) at (c.next-pulled.ensures.pulled p h.es h.taken.stop h.taken.stands) in
-    let pulled = pulled_is c.args.self.now.decoder c.next-pulled.new.self (form.0) (form.1) p h.es c.args.piece.now c.next-pulled.result.used h.taken
-    c.next-pulled.ensures.profile c.next-pulled.ensures.limits (whats.Stopped c.in-Stopped.stop) what in
-    (pulled.0, pulled.1, pulled.2, (h.es, pulled.3, h.parts_are))
+pub returns-in_default-clause-found : goal.returns-in_default-clause-found
+returns-in_default-clause-found c form p parts h =
+    let piece = c.args.piece.now in
+    let closed = c.decode-decoded.result.closed in
+    let front = c.split_at.result.0.now in
+    let d = c.decode-decoded.ensures.decoded (form.0) (form.1) p h.es h.taken in
+    let within : closed ≤ length piece = omega (arith, c.decode-decoded.ensures.closed, c.decode-decoded.ensures.used) in
+    let cut = closed_shown c.args.self.now.shown c.take_closed.new.self (form.0) (form.1) p piece h.es d.more closed h.behind front c.in-Ok.text.items c.split_at.ensures.front c.in-Ok.ensures d.close within in
+    record {
+      more = map shown_part d.more;
+      all = map shown_part (h.es ++ d.more);
+      all_are = sym (all_are (form.0) (form.1) p piece h.es d.more parts closed h.parts_are);
+      text_is = cut.0;
+      leads = left_leads (form.0) (form.1) p piece (h.es ++ d.more) c.decode-decoded.new.decoder
+          (HasShown (record { alloc = c.args.self.now.alloc; decoder = c.decode-decoded.new.decoder; shown = c.take_closed.new.self }) form)
+          c.decode-decoded.result.found c.decode-decoded.result.used c.in_default.not-GoesOn d.left;
+    }
 
-pub returns-in-OutOfMemory-clause-found : goal.returns-in-OutOfMemory-clause-found
-returns-in-OutOfMemory-clause-found c form p parts h =
-    let what = rw (rw c.in-OutOfMemory.is at c.seen_of.ensures) at (c.next-pulled.ensures.pulled p h.es h.taken.stop h.taken.stands) in
-    let pulled = pulled_is c.args.self.now.decoder c.next-pulled.new.self (form.0) (form.1) p h.es c.args.piece.now c.next-pulled.result.used h.taken
-    c.next-pulled.ensures.profile c.next-pulled.ensures.limits whats.OutOfMemory what in
-    inl (pulled.0, pulled.1, pulled.2, (h.es, pulled.3, h.parts_are))
+pub returns-in_default-clause-progress : goal.returns-in_default-clause-progress
+returns-in_default-clause-progress c = c.decode-decoded.ensures.progress

@@ -4,8 +4,8 @@ use Rattle.cg_run.proofs.ShowsBytes.{cut_behind, cut_none}
 use Rattle.cg_run.proofs.shown_text.ShownText.cut.Goals as goal
 use Rattle.cg_run.proofs.shown_text.ShownText.cut.Goals.{in-Some, in-None}
 
-pub returns-clause-cut : goal.returns-clause-cut
-returns-clause-cut c =
+pub returns : goal.returns
+returns c =
     let text = c.args.self.now.text.items in
     let searched = c.as_slice.result.now in
     let same : searched ≡ text = c.as_slice.ensures.value in

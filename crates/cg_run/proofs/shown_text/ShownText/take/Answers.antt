@@ -1,9 +1,9 @@
-use Rattle.std.proofs.Common.{◌≡◌, length, drop, refl, ap, length-drop, arith}
-use Rattle.cg_run.proofs.ShowsText.{shows_none, shows_rest}
+use Rattle.std.proofs.Common.{◌≡◌, length, drop, sym, ap, ◌∙◌, append-nil, length-drop, arith}
+use Rattle.cg_run.proofs.ShowsText.{shows_rest}
 use Rattle.cg_run.proofs.shown_text.ShownText.take.Goals as goal
 
 pub loop-used-init : goal.loop-used-init
-loop-used-init c = record { within = omega arith; shows = shows_none c.args.self.now _ c.try_reserve.ensures.items refl }
+loop-used-init c = record { within = omega arith; shows = c.try_reserve.ensures.items ∙ sym (append-nil c.args.self.now.text.items) }
 
 pub loop-used-preserved : goal.loop-used-preserved
 loop-used-preserved c =

@@ -8,5 +8,5 @@ returns-in-Some c =
     let was = c.args.self.now in
     let bytes = c.args.bytes.now in
     let place = c.in-Some.place in
-    let cut = cut_shown was.text.items bytes was.in_line place c.in-Some.ensures.0.high (eqb-true (get_or bytes place 0) 10 c.in-Some.ensures.1) c.in-Some.ensures.0.after in
-    IfOk-weaker c.take_both.result _ _ (λ lines h. (rw (h.0, h.1) cut, h.2)) c.take_both.ensures
+    let cut = cut_shown was.text.items bytes place c.in-Some.ensures.0.high (eqb-true (get_or bytes place 0) 10 c.in-Some.ensures.1) c.in-Some.ensures.0.after in
+    IfOk-weaker c.take_both.result _ _ (λ lines h. rw (h.0, h.1) cut) c.take_both.ensures
