@@ -1,5 +1,5 @@
 //! A file of raw lines: any file outside the table.
-ghost use Rattle.std.specs.Prelude.{◌≡◌, ◌≤◌, ◌<◌, ◌+◌, length, take};
+ghost use Rattle.std.specs.Prelude.{◌≡◌, ◌≤◌, ◌<◌, ◌+◌, ◌++◌, length, take, OnErr, OnOk};
 ghost use Rattle.cg_text.specs.Scan.{FollowsRun};
 ghost use Rattle.cg_file.specs.Front.{IsLineFront};
 ghost use Rattle.cg_text.specs.Token.{Spells};
@@ -10,6 +10,21 @@ use cg_text::{OutOfMemory, Token};
 use cg_value::{RawLines, Value, are_whole_lines};
 use memchr::memchr;
 use std::alloc::Global;
+
+/// For how many bytes there is room where a file begins.
+const ROOM: usize = 1024;
+
+/// Adds a line to the text. Where the text begins there is room for more lines at once, if memory is left for it.
+fn add_line(text: &mut Vec<u8>, line: &[u8]) -> Result<(), OutOfMemory>
+    ensures added { OnOk result (text.new.items ≡ text.old.items ++ line.now) }
+    ensures kept { OnErr result (text.new.items ≡ text.old.items) }
+{
+    if text.is_empty() {
+        let _ = text.try_reserve(ROOM);
+    }
+    text.extend_from_slice(line)?;
+    Ok(())
+}
 
 /// The text of a file of any number of raw lines. All its bytes lie in one vector, which is the value's.
 #[derive(Drop)]
@@ -45,7 +60,7 @@ impl RawFile {
         if memchr(0, line).is_some() {
             return 0;
         }
-        match self.text.extend_from_slice(line) {
+        match add_line(&mut self.text, line) {
             Ok(()) => end + 1,
             Err(_) => 0,
         }

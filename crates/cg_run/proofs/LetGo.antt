@@ -5,7 +5,8 @@ use Rattle.cg_text.specs.Texts.{Viable, Next}
 use Rattle.cg_value.specs.Files.{ReadLines, KindFile}
 use Rattle.cg_value.specs.LineLaws.{plain_lines}
 use Rattle.cg_value.specs.Lines.{unlines, AreLinesOf}
-use Rattle.cg_value.specs.ReadLine.{IsStatLine, IsLimitLine}
+use Rattle.cg_text.specs.Decimal.{IsDecimal}
+use Rattle.cg_value.specs.ReadLine.{IsLimitLine, IsRaw, IsStatLine, IsTargetLine}
 use Rattle.cg_value.specs.declared.kind.ReadForm.{ReadForm}
 use Rattle.cg_value.specs.declared.kind.ReadForm.TheVariants as form
 use Rattle.cg_value.specs.declared.value.Value.{Value}
@@ -58,11 +59,20 @@ many_alone {X} P make kind is = record { let_go = λ text whole. record { same =
         let spelled : AreLinesOf P make v split.0 = record { xs = others.0; value = refl; spelled = others.1 } in
         (v, record { lines = split.0; spelled = (is v split.0).1 spelled; text_is = split.2 })
 
+pub numbers_alone : (lo hi : ℕ) → HasLinesAlone (form.Numbers lo hi)
+numbers_alone lo hi = many_alone (IsDecimal lo hi) value.Numbers (form.Numbers lo hi) (λ v lines. (λ h. h, λ h. h))
+
 pub stats_alone : HasLinesAlone form.DeviceStats
 stats_alone = many_alone IsStatLine value.DeviceStats form.DeviceStats (λ v lines. (λ h. h, λ h. h))
 
 pub limits_alone : HasLinesAlone form.DeviceLimits
 limits_alone = many_alone IsLimitLine value.DeviceLimits form.DeviceLimits (λ v lines. (λ h. h, λ h. h))
+
+pub targets_alone : HasLinesAlone form.DeviceTargets
+targets_alone = many_alone IsTargetLine value.DeviceTargets form.DeviceTargets (λ v lines. (λ h. h, λ h. h))
+
+pub raw_alone : HasLinesAlone form.Raw
+raw_alone = many_alone IsRaw value.Raw form.Raw (λ v lines. (λ h. h, λ h. h))
 
 -- ---- What was let go of
 

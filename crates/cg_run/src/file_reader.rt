@@ -32,7 +32,11 @@ fn has_lines_alone(kind: ReadKind) -> bool
     ensures { IsTrue result → HasLinesAlone kind }
 {
     match kind.form() {
-        ReadForm::DeviceStats | ReadForm::DeviceLimits => true,
+        ReadForm::Numbers { lo: _, hi: _ } => true,
+        ReadForm::DeviceStats => true,
+        ReadForm::DeviceLimits => true,
+        ReadForm::DeviceTargets => true,
+        ReadForm::Raw => true,
         _ => false,
     }
 }

@@ -26,7 +26,7 @@ use cg_value::{Profile, read_kind, write_kind};
 use std::alloc::Global;
 
 /// How many bytes are read at once.
-pub(crate) const PIECE: usize = 65536;
+pub(crate) const PIECE: usize = 32768;
 
 /// What is written once the input of a text has ended at this place.
 #[tactic(auto, using(crate::proofs::RunLemmas::wrote_real))]

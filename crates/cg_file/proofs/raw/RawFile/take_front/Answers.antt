@@ -21,4 +21,4 @@ returns-in-Ok-clause-taken c rest v =
     let fits : end + 1 ≤ length bytes = omega (arith, found.0.high) in
     let none = none_found (is_byte 0) c.split_at.result.0.now c.memchr-2.result c.memchr-2.ensures (sym c.is_some.ensures ∙ c.if-is_some.false) in
     let plain : HasNoNul (take (end + 1) bytes) = no_nul_searched bytes (end + 1) small (no_nul_in_front bytes c.split_at.result.0.now (end + 1) fits c.split_at.ensures.front none) in
-    rw (c.in-Ok.ensures.items, c.split_at.ensures.front) (raw_file_run c.args.self.now.text.items (take (end + 1) bytes) rest v plain)
+    rw (c.in-Ok.ensures.added, c.split_at.ensures.front) (raw_file_run c.args.self.now.text.items (take (end + 1) bytes) rest v plain)
