@@ -1,5 +1,5 @@
 -- How a decoder comes on in a piece, entry by entry.
-use Rattle.std.proofs.Common.{◌≡◌, ◌≢◌, ℕ, ◌+◌, ◌<◌, ◌≤◌, List, [], ◌∷◌, ◌++◌, length, take, drop, map, refl, sym, ap, subst, ◌∙◌, append_assoc, append-nil, inl, inr, arith}
+use Rattle.std.proofs.Common.{◌≡◌, ◌≢◌, ℕ, ◌+◌, ◌≤◌, List, [], ◌∷◌, ◌++◌, length, take, drop, map, refl, sym, ap, subst, ◌∙◌, append_assoc, append-nil, inl, inr, arith}
 use Rattle.std.proofs.Common.{length-append, length-drop, length-take}
 use Rattle.std.proofs.lemmas.List.{take_all}
 use Rattle.std.specs.List.{AllByRecursion}
@@ -13,12 +13,11 @@ use Rattle.cg_snap.specs.Decode.{HasTaken}
 use Rattle.cg_snap.specs.Decoder.{limits_of, profile_of}
 use Rattle.cg_snap.specs.Laws.{print_entries}
 use Rattle.cg_snap.specs.SnapStop.{IsSnapUnstopped, SnapStopOf}
-use Rattle.cg_snap.specs.Stop.{place_of}
 use Rattle.cg_snap.specs.declared.decoder.SnapshotDecoder.{SnapshotDecoder}
 use Rattle.cg_snap.specs.declared.decoder.What.TheVariants as whats
 use Rattle.cg_snap.specs.declared.limits.Limits.{Limits}
 use Rattle.cg_snap.specs.declared.stop.Stop.{Stop}
-use Rattle.cg_run.specs.Decoded.{ArePlain, CloseMore, HasDecoded, HaveClosed, LeftBy}
+use Rattle.cg_run.specs.Decoded.{ArePlain, CloseMore, HasDecoded, LeftBy}
 use Rattle.cg_run.specs.Taken.{taken_closed, taken_unstopped}
 use Rattle.cg_run.specs.Stream.{PartsOf, shown_part}
 use Rattle.cg_run.specs.Streaming.{LeadsTo}
@@ -26,7 +25,7 @@ use Rattle.cg_run.specs.declared.stream_reader.Found.{Found}
 use Rattle.cg_run.specs.declared.stream_reader.Found.TheVariants as found
 use Rattle.cg_run.proofs.Pulled.{PulledIs}
 use Rattle.cg_run.proofs.Showing.{closed_end, entries_append}
-use Rattle.cg_run.proofs.SnapEnds.{IsEntryEnd, entries_push}
+use Rattle.cg_run.proofs.SnapEnds.{entries_push}
 use Rattle.cg_run.proofs.Streams.{text_all, text_on}
 
 some_push : (es : List EntryData) (e : EntryData) → es ++ e ∷ [] ≢ []

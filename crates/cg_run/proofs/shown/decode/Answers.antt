@@ -1,4 +1,4 @@
-use Rattle.std.proofs.Common.{◌≡◌, ◌≤◌, ◌+◌, ℕ, List, ◌++◌, length, take, drop, ap, arith, length-drop}
+use Rattle.std.proofs.Common.{◌≡◌, ◌++◌, length, take, drop, ap, arith, length-drop}
 use Rattle.cg_snap.specs.declared.decoder.What.TheVariants as whats
 use Rattle.cg_run.proofs.Decoding.{decoded_entry, decoded_none, left_none, left_starved, left_stopped}
 use Rattle.cg_run.proofs.Pulled.{pulled_is}

@@ -1,6 +1,5 @@
-use Rattle.std.proofs.Common.{◌≡◌, ◌<◌, ◌≤◌, ℕ, List, ◌++◌, map, length, take, drop, refl, sym, ap, subst, ◌∙◌, append_assoc, take-append-drop, arith, length-drop}
+use Rattle.std.proofs.Common.{◌≡◌, ◌<◌, ◌≤◌, ℕ, List, ◌++◌, map, length, take, refl, sym, ap, subst, ◌∙◌, append_assoc, take-append-drop, arith, length-drop}
 use Rattle.std.proofs.lemmas.List.{take_all}
-use Rattle.cg_value.specs.Entry.{EntryData}
 use Rattle.cg_snap.specs.Decode.{HasTaken}
 use Rattle.cg_run.specs.Shown.{HasShown, IsShownBehind}
 use Rattle.cg_run.specs.Stream.{shown_part}

@@ -1,4 +1,4 @@
-use Rattle.std.proofs.Common.{◌++◌, ◌∙◌, length, take, get_or, ap, sym, eqb-true, arith}
+use Rattle.std.proofs.Common.{◌++◌, ◌∙◌, length, get_or, ap, sym, eqb-true, arith}
 use Rattle.std.proofs.lemmas.List.{take_all}
 use Rattle.cg_run.specs.ShownBytes.{shown_bytes}
 use Rattle.cg_value.specs.PathLaws.{lacks_all}
