@@ -4,7 +4,6 @@ use Rattle.std.proofs.Common.{ℕ, ◌+◌, ◌≤◌, List, [], length, Option,
 use Rattle.cg_text.specs.RangesState.{number_rest}
 use Rattle.cg_text.specs.contracts.byte.ByteTextToken.TheImpl as byte
 use Rattle.cg_text.specs.contracts.keyword.KeywordTextToken.TheImpl as keyword
-use Rattle.cg_text.specs.contracts.list.StrictListTextToken.TheImpl as strict
 use Rattle.cg_text.specs.contracts.reason.ReasonTextToken.TheImpl as reason
 use Rattle.cg_text.specs.contracts.word.WordTextToken.TheImpl as word
 use Rattle.cg_join.specs.Choice.{either_size}
@@ -61,6 +60,7 @@ use Rattle.cg_file.specs.contracts.numbers.NumbersFileToken.TheImpl as numbers
 use Rattle.cg_file.specs.contracts.partition.PartitionFileToken.TheImpl as partition
 use Rattle.cg_file.specs.contracts.pressure.PressureFileToken.TheImpl as pressure
 use Rattle.cg_file.specs.contracts.raw.RawFileToken.TheImpl as raw
+use Rattle.cg_file.specs.contracts.set.ListTextToken.TheImpl as list_text
 use Rattle.cg_file.specs.contracts.set.SetFileToken.TheImpl as set
 use Rattle.cg_file.specs.contracts.signed.SignedFileToken.TheImpl as signed
 use Rattle.cg_file.specs.contracts.words.WordsFileToken.TheImpl as words
@@ -164,9 +164,9 @@ device_targets_settled s v h =
 set_settled : (s : SetFile) (v : Value) → set.ghosts.means s [] v → set.ghosts.size s ≤ held_of_whole v
 set_settled s v h =
     let q = s.text.token in
-    let list = q.first in
+    let list = q.first.list in
     turned_settled set_value _ (λ x. length x.0 + 0) held_of_whole h.0 v h.2
-    (sequence_settled strict.ghosts.means byte.ghosts.means q.in_second list q.second (length list.ranges.items) 0 length (λ _. 0)
+    (sequence_settled list_text.ghosts.means byte.ghosts.means q.in_second q.first q.second (length list.ranges.items) 0 length (λ _. 0)
     (λ all k. ranges_settled list.ranges.items list.most list.low (number_rest list.number) all k) (λ u k. zero_least 0) h.0.0 h.0.1 h.1)
     (line_held (length h.0.0) 0 refl)
 

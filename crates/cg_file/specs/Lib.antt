@@ -1,6 +1,7 @@
 pub mod Branch
 pub mod BranchLaws
 pub mod DeviceLineLaws
+pub mod FileFrontLaws
 pub mod FileLaws
 pub mod FileText
 pub mod FileTextLaws

@@ -84,6 +84,10 @@ impl Token for ClampFile {
         self.text.run(bytes)
     }
 
+    fn whole(&self, bytes: &[u8]) -> Option<(Value, usize)> {
+        self.text.whole(bytes)
+    }
+
     fn allows(&self, byte: u8) -> bool {
         self.text.allows(byte)
     }

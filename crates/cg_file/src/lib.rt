@@ -8,6 +8,7 @@ pub mod device_limits;
 pub mod device_stats;
 pub mod device_targets;
 pub mod device_weights;
+pub mod file_front;
 pub mod file_text;
 pub mod flat;
 pub mod laws;

@@ -1,4 +1,5 @@
 pub mod AllowedLaws
+pub mod Begun
 pub mod Decode
 pub mod DecodeLaws
 pub mod DecodeWrite
@@ -16,5 +17,7 @@ pub mod RunsLaws
 pub mod SplitLaws
 pub mod Takes
 pub mod TakesLaws
+pub mod Took
+pub mod TookLaws
 pub mod Upgrading
 pub mod UpgradingLaws

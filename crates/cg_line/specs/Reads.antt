@@ -1,47 +1,71 @@
 -- What a reader took.
-use Rattle.std.specs.Prelude.{ℕ, Bool, true, false, ◌≤◌, length, List, ◌∷◌, ◌++◌, [], Result, Ok, Err}
-use Rattle.cg_text.specs.Texts.{Viable, Next}
-use Rattle.cg_value.specs.Files.{KindFile}
+use Rattle.std.proofs.Common.{◌≡◌, ℕ, List, ◌∷◌, ◌++◌, [], Result, Ok, Err, append-nil}
+use Rattle.cg_text.specs.Texts.{Next, Viable}
+use Rattle.cg_value.specs.Files.{KindText, KindFile}
+use Rattle.cg_value.specs.FirstLineLaws.{first_line}
+use Rattle.cg_value.specs.Held.{held_of_value}
 use Rattle.cg_value.specs.Kind.{IsReadForm}
 use Rattle.cg_value.specs.declared.kind.ReadForm.{ReadForm}
-use Rattle.cg_file.specs.Kinds.{TextsOf, HoldsLittle}
-use Rattle.cg_line.specs.Rests.{IsRead}
-use Rattle.cg_line.specs.Place.{IsPlace}
+use Rattle.cg_value.specs.declared.value.Value.{Value}
+use Rattle.cg_line.specs.Took.{Took, open_held, took_viable}
 use Rattle.cg_line.specs.declared.push.PushFault.{PushFault}
 use Rattle.cg_line.specs.declared.push.PushFault.TheVariants.{Refused, OutOfMemory}
+use Rattle.cg_line.specs.declared.reader.State.{State}
+use Rattle.cg_line.specs.declared.reader.State.TheVariants as state
 use Rattle.cg_line.specs.declared.reader.ValueReader.{ValueReader}
-use Rattle.cg_file.specs.contracts.file_text.FileTextToken.TheImpl.{ghosts}
 
--- The token has the rests of a file of this kind after these bytes, and the place is that of the bytes.
-pub record HasTaken (r : ValueReader) (kind : ReadForm) (taken : List ℕ) : Type 0 where
-  pub rests : IsRead (TextsOf kind) (ghosts.means r.text) taken
+-- The bytes are a file of the kind with the value, one line with which no longer file of the kind begins.
+pub record IsWholeFile (kind : ReadForm) (v : Value) (taken : List ℕ) : Type 0 where
+  pub text : KindText kind v taken
+  pub front : List ℕ
+  pub ends : taken ≡ front ++ 10 ∷ []
+  pub last : (byte : ℕ) → Next (KindFile kind) taken byte → ⊥
+
+-- The state is that of a reader of this kind that took these bytes.
+abbrev pub IsState : State → ReadForm → List ℕ → Type 0
+IsState (state.New alloc k) kind taken = (k ≡ kind) × (taken ≡ [])
+IsState (state.Whole file) kind taken = IsWholeFile kind file.value taken
+IsState (state.Open reader) kind taken = Took reader.value kind taken
+
+abbrev pub state_held : State → ℕ
+state_held (state.New alloc k) = 0
+state_held (state.Whole file) = held_of_value file.value
+state_held (state.Open reader) = open_held reader.value
+
+pub record HasRead (r : ValueReader) (kind : ReadForm) (taken : List ℕ) : Type 0 where
+  pub state : IsState r.state kind taken
   pub form : IsReadForm kind
-  pub place : IsPlace r.place taken
-  pub held : HoldsLittle (ghosts.size r.text) kind taken
-  pub few : ghosts.size r.text ≤ length taken
 
 -- The reader is of this kind and took these bytes, with which some file of the kind begins.
 unfoldable pub Reads : ValueReader → ReadForm → List ℕ → Type 0
-Reads r kind taken = HasTaken r kind taken
+Reads r kind taken = HasRead r kind taken
 
 -- The sum of the lengths of its vectors.
 unfoldable pub held_by : ValueReader → ℕ
-held_by r = ghosts.size r.text
+held_by r = state_held r.state
 
--- What a pushed byte leaves: it was taken; or no file of the kind goes on with it; or one does, and memory was refused.
+-- What a pushed byte leaves, where R tells which bytes were taken: it was taken; or no file of the kind goes on with it; or
+-- one does, and memory was refused.
+abbrev pub Leaves : (List ℕ → Type 0) → ReadForm → List ℕ → ℕ → Result Unit PushFault → Type 0
+Leaves R kind taken byte (Ok u) = R (taken ++ byte ∷ [])
+Leaves R kind taken byte (Err Refused) = R taken × (Next (KindFile kind) taken byte → ⊥)
+Leaves R kind taken byte (Err OutOfMemory) = R taken × Next (KindFile kind) taken byte
+
 abbrev pub IsPushed : ValueReader → ReadForm → List ℕ → ℕ → Result Unit PushFault → Type 0
-IsPushed r kind taken byte (Ok u) = Reads r kind (taken ++ byte ∷ [])
-IsPushed r kind taken byte (Err Refused) = Reads r kind taken × (Next (KindFile kind) taken byte → ⊥)
-IsPushed r kind taken byte (Err OutOfMemory) = Reads r kind taken × Next (KindFile kind) taken byte
+IsPushed r kind taken byte result = Leaves (Reads r kind) kind taken byte result
 
-pub reads_viable : (r : ValueReader) (kind : ReadForm) (taken : List ℕ) → Reads r kind taken → Viable (KindFile kind) taken
-unfolding Reads
-reads_viable r kind taken h = h.rests.viable
-
-pub reads_is : (r : ValueReader) (kind : ReadForm) (taken : List ℕ) → HasTaken r kind taken → Reads r kind taken
+pub reads_is : (r : ValueReader) (kind : ReadForm) (taken : List ℕ) → HasRead r kind taken → Reads r kind taken
 unfolding Reads
 reads_is r kind taken h = h
 
-pub is_reads : (r : ValueReader) (kind : ReadForm) (taken : List ℕ) → Reads r kind taken → HasTaken r kind taken
+pub is_reads : (r : ValueReader) (kind : ReadForm) (taken : List ℕ) → Reads r kind taken → HasRead r kind taken
 unfolding Reads
 is_reads r kind taken h = h
+
+state_viable : (s : State) (kind : ReadForm) (taken : List ℕ) → IsReadForm kind → IsState s kind taken → Viable (KindFile kind) taken
+state_viable (state.New alloc k) kind taken form h = let line = first_line kind form in rw h.1 (record { rest = line.0 ++ 10 ∷ []; whole = line.1.file })
+state_viable (state.Whole file) kind taken form h = record { rest = []; whole = (file.value, rw (append-nil taken) h.text) }
+state_viable (state.Open reader) kind taken form h = took_viable reader.value kind taken h
+
+pub reads_viable : (r : ValueReader) (kind : ReadForm) (taken : List ℕ) → Reads r kind taken → Viable (KindFile kind) taken
+reads_viable r kind taken h = let read = is_reads r kind taken h in state_viable r.state kind taken read.form read.state

@@ -1,63 +1,58 @@
--- What a byte does to a reader.
-use Rattle.std.proofs.Common.{◌≡◌, ℕ, ◌+◌, ◌≤◌, ◌↔◌, List, [], ◌∷◌, ◌++◌, Ok, Err, arith, length-append}
-use Rattle.cg_text.specs.Token.{Begins, Ends}
-use Rattle.cg_text.specs.Texts.{Next}
-use Rattle.cg_value.specs.Files.{KindText, KindFile}
-use Rattle.cg_value.specs.declared.value.Value.{Value}
+-- What a reader's state says of what it took.
+use Rattle.std.proofs.Common.{◌≡◌, ℕ, ◌<◌, ◌≤◌, List, [], ◌∷◌, ◌++◌, suc, zero, length, take, get_or, Ok, Err, ap, subst, arith, Result}
+use Rattle.cg_text.specs.Texts.{Next, Viable}
 use Rattle.cg_value.specs.declared.kind.ReadForm.{ReadForm}
-use Rattle.cg_line.specs.Rests.{Pushes, SameRests, IsRead}
-use Rattle.cg_line.specs.RestsLaws.{pushed, read_same, whole_is, value_is, next_is}
-use Rattle.cg_line.specs.Place.{IsPlace}
-use Rattle.cg_file.specs.Kinds.{TextsOf, HoldsLittle}
-use Rattle.cg_line.specs.Reads.{HasTaken, Reads, IsPushed, reads_is, is_reads}
-use Rattle.cg_file.specs.declared.file_text.FileText.{FileText}
+use Rattle.cg_value.specs.declared.value.Value.{Value}
+use Rattle.cg_file.specs.Front.{IsFileFront}
+use Rattle.cg_line.specs.Begun.{IsPushFault}
+use Rattle.cg_line.specs.Place.{TakesLine}
+use Rattle.cg_line.specs.PlaceLaws.{next_where_takes}
+use Rattle.cg_line.specs.Reads.{IsState, IsWholeFile, Leaves, Reads, held_by, is_reads, reads_is, state_held}
 use Rattle.cg_line.specs.declared.push.PushFault.{PushFault}
 use Rattle.cg_line.specs.declared.push.PushFault.TheVariants.{Refused, OutOfMemory}
-use Rattle.cg_line.specs.declared.place.Place.{Place}
+use Rattle.cg_line.specs.declared.reader.State.{State}
 use Rattle.cg_line.specs.declared.reader.ValueReader.{ValueReader}
-use Rattle.cg_file.specs.contracts.file_text.FileTextToken.TheImpl.{ghosts}
 
--- The byte was taken.
-pub pushed_on : (r : ValueReader) (m : FileText) (p : Place) (kind : ReadForm) (taken : List ℕ) (b : ℕ) → Pushes (ghosts.means r.text) b (ghosts.means m) (Ok tt) →
-    ghosts.size m ≤ ghosts.size r.text + 1 → IsPlace p (taken ++ b ∷ []) →
-    (IsRead (TextsOf kind) (ghosts.means m) (taken ++ b ∷ []) →
-    HoldsLittle (ghosts.size m) kind (taken ++ b ∷ [])) → Reads r kind taken →
-    Reads (record { text = m; place = p }) kind (taken ++ b ∷ [])
-pushed_on r m p kind taken b pushes more place held h =
-    let was = is_reads r kind taken h in
-    let now = pushed (TextsOf kind) (ghosts.means r.text) (ghosts.means m) taken b (Ok tt) pushes was.rests in
-    reads_is _ _ _ (record { rests = now; form = was.form; place = place; held = held now; few = omega (arith, more, was.few, length-append taken (b ∷ [])) })
+-- What is known of a reader's state.
+pub state_of : (r : ValueReader) (s : State) (kind : ReadForm) (taken : List ℕ) → r.state ≡ s → Reads r kind taken → IsState s kind taken
+state_of r s kind taken e h = subst (λ (q : State). IsState q kind taken) e (is_reads r kind taken h).state
 
-unchanged : (r : ValueReader) (m : FileText) (kind : ReadForm) (taken : List ℕ) →
-    ghosts.size m ≡ ghosts.size r.text → HasTaken r kind taken → IsRead (TextsOf kind) (ghosts.means m) taken →
-    Reads (record { text = m; place = r.place }) kind taken
-unchanged r m kind taken size was rests = reads_is _ _ _ (record { rests = rests; form = was.form; place = was.place; held = rw size was.held; few = rw size was.few })
+-- Another state of a reader.
+pub reads_on : (r new : ValueReader) (kind : ReadForm) (taken now : List ℕ) → Reads r kind taken → IsState new.state kind now → Reads new kind now
+reads_on r new kind taken now h s = reads_is new kind now (record { state = s; form = (is_reads r kind taken h).form })
 
--- A state that means the same.
-pub same_reads : (r : ValueReader) (m : FileText) (kind : ReadForm) (taken : List ℕ) → SameRests (ghosts.means r.text) (ghosts.means m) → ghosts.size m ≡ ghosts.size r.text → Reads r kind taken →
-    Reads (record { text = m; place = r.place }) kind taken
-same_reads r m kind taken same size h =
-    let was = is_reads r kind taken h in
-    unchanged r m kind taken size was (read_same (TextsOf kind) (ghosts.means r.text) (ghosts.means m) taken same was.rests)
+-- The first of some bytes with which a text of the set begins can come first.
+pub first_next : (L : List ℕ → Type 0) (bytes : List ℕ) (used : ℕ) → 0 < used → used ≤ length bytes → Viable L (take used bytes) → Next L [] (get_or bytes 0 0)
+first_next L [] used some within h = absurd (omega (arith, some, within))
+first_next L (x ∷ xs) zero some within h = absurd (omega (arith, some))
+first_next L (x ∷ xs) (suc k) some within h = record { rest = take k xs ++ h.rest; whole = h.whole }
 
--- It was not.
-pub refused_byte : (r : ValueReader) (m : FileText) (kind : ReadForm) (taken : List ℕ) (b : ℕ) (fault : PushFault) → Pushes (ghosts.means r.text) b (ghosts.means m) (Err fault) →
-    ghosts.size m ≡ ghosts.size r.text → Reads r kind taken → IsPushed (record { text = m; place = r.place }) kind taken b (Err fault)
-refused_byte r m kind taken b Refused pushes size h =
-    let was = is_reads r kind taken h in
-    let now = pushed (TextsOf kind) (ghosts.means r.text) (ghosts.means m) taken b (Err Refused) pushes was.rests in
-    (unchanged r m kind taken size was now.0, now.1)
-refused_byte r m kind taken b OutOfMemory pushes size h =
-    let was = is_reads r kind taken h in
-    let now = pushed (TextsOf kind) (ghosts.means r.text) (ghosts.means m) taken b (Err OutOfMemory) pushes was.rests in
-    (unchanged r m kind taken size was now.0, now.1)
+-- After a whole file of one line no other line comes.
+pub takes_none : (kind : ReadForm) (v : Value) (taken : List ℕ) → IsWholeFile kind v taken → TakesLine kind taken → ⊥
+takes_none kind v taken h takes = let some = next_where_takes kind taken takes in h.last some.byte some.next
 
--- What the reader's rests say of files.
-pub whole_file : (r : ValueReader) (kind : ReadForm) (taken : List ℕ) → Reads r kind taken → Ends ghosts.means r.text ↔ KindFile kind taken
-whole_file r kind taken h = whole_is (TextsOf kind) (ghosts.means r.text) taken (is_reads r kind taken h).rests
+-- A file in front of some bytes is what was taken.
+pub front_whole : (kind : ReadForm) (bytes : List ℕ) (v : Value) (used : ℕ) → IsFileFront kind bytes v used → IsWholeFile kind v (take used bytes)
+front_whole kind bytes v used h = record { text = h.text; front = h.line.0; ends = h.line.1; last = h.last }
 
-pub whole_value : (r : ValueReader) (v : Value) (kind : ReadForm) (taken : List ℕ) → ghosts.means r.text [] v → Reads r kind taken → KindText kind v taken
-whole_value r v kind taken p h = value_is (TextsOf kind) (ghosts.means r.text) taken v p (is_reads r kind taken h).rests
+-- How much is held, by the state.
+pub held_is : (r : ValueReader) (s : State) → r.state ≡ s → held_by r ≡ state_held s
+unfolding held_by
+held_is r s e = ap state_held e
 
-pub next_byte_is : (r : ValueReader) (kind : ReadForm) (taken : List ℕ) (b : ℕ) → Reads r kind taken → Begins ghosts.means r.text b ↔ Next (KindFile kind) taken b
-next_byte_is r kind taken b h = next_is (TextsOf kind) (ghosts.means r.text) taken b (is_reads r kind taken h).rests
+-- ---- What a byte leaves
+
+-- Why it was not taken.
+pub fault_is : (R : List ℕ → Type 0) (kind : ReadForm) (taken : List ℕ) (byte : ℕ) (fault : PushFault) → Leaves R kind taken byte (Err fault) → IsPushFault kind taken byte fault
+fault_is R kind taken byte Refused h = h.1
+fault_is R kind taken byte OutOfMemory h = h.1
+
+pub fault_leaves : (R : List ℕ → Type 0) (kind : ReadForm) (taken : List ℕ) (byte : ℕ) (fault : PushFault) → R taken → IsPushFault kind taken byte fault → Leaves R kind taken byte (Err fault)
+fault_leaves R kind taken byte Refused r h = (r, h)
+fault_leaves R kind taken byte OutOfMemory r h = (r, h)
+
+-- What follows from which bytes were taken.
+pub leaves_on : (R Q : List ℕ → Type 0) (kind : ReadForm) (taken : List ℕ) (byte : ℕ) (result : Result (Unit {0}) PushFault) → ((now : List ℕ) → R now → Q now) → Leaves R kind taken byte result → Leaves Q kind taken byte result
+leaves_on R Q kind taken byte (Ok u) on h = on (taken ++ byte ∷ []) h
+leaves_on R Q kind taken byte (Err Refused) on h = (on taken h.0, h.1)
+leaves_on R Q kind taken byte (Err OutOfMemory) on h = (on taken h.0, h.1)

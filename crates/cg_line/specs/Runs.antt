@@ -20,7 +20,10 @@ StopsAt L taken bytes used (Some OutOfMemory) = (used < length bytes) × Lacks 1
 abbrev pub RunStops : ReadForm → List ℕ → List ℕ → ℕ → Option PushFault → Type 0
 RunStops kind = StopsAt (KindFile kind)
 
--- The bytes that were taken, and why no more were.
-pub record IsPushedRun (r : ValueReader) (kind : ReadForm) (taken bytes : List ℕ) (run : PushedRun) : Type 0 where
-  pub reads : Reads r kind (taken ++ take run.used bytes)
+-- The bytes that were taken, and why no more were, where R tells which bytes were taken.
+pub record LeavesRun (R : List ℕ → Type 0) (kind : ReadForm) (taken bytes : List ℕ) (run : PushedRun) : Type 0 where
+  pub reads : R (taken ++ take run.used bytes)
   pub stops : RunStops kind taken bytes run.used run.fault
+
+abbrev pub IsPushedRun : ValueReader → ReadForm → List ℕ → List ℕ → PushedRun → Type 0
+IsPushedRun r kind taken bytes run = LeavesRun (Reads r kind) kind taken bytes run

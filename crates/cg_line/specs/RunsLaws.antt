@@ -12,9 +12,9 @@ use Rattle.cg_file.specs.contracts.file_text.FileTextToken.TheImpl.{ghosts}
 use Rattle.cg_file.specs.declared.file_text.FileText.{FileText}
 use Rattle.cg_line.specs.HeldLaws.{holds_line, holds_run}
 use Rattle.cg_line.specs.Place.{IsPlace}
-use Rattle.cg_line.specs.Reads.{Reads, is_reads, reads_is}
+use Rattle.cg_line.specs.Took.{Took, is_took, took_is}
 use Rattle.cg_line.specs.declared.place.Place.TheVariants.{InLine, LineEnd}
-use Rattle.cg_line.specs.declared.reader.ValueReader.{ValueReader}
+use Rattle.cg_line.specs.declared.open_reader.OpenReader.{OpenReader}
 
 -- The last of some bytes that have no newline is none.
 last_plain : (run : List ℕ) → 0 < length run → Lacks 10 run → (front : List ℕ) × (byte : ℕ) × (run ≡ front ++ byte ∷ []) × (byte ≢ 10)
@@ -43,12 +43,12 @@ module _ {V : Type 0} (Text P Q : List ℕ → V → Type 0) (taken run : List �
       ) in
       record { is = is; viable = elim runs.1 [ inl none ↦ rw (none, append-nil taken) h.viable | inr goes ↦ read_viable goes is ] }
 
-module _ (r : ValueReader) (m : FileText) (kind : ReadForm) (taken run : List ℕ) where
+module _ (r : OpenReader) (m : FileText) (kind : ReadForm) (taken run : List ℕ) where
   -- Some bytes were taken at once.
-  pub ran_on : Runs (ghosts.means r.text) run (ghosts.means m) → 0 < length run → Lacks 10 run → ghosts.size m ≤ ghosts.size r.text + length run → Reads r kind taken → Reads (record { text = m; place = InLine }) kind (taken ++ run)
+  pub ran_on : Runs (ghosts.means r.text) run (ghosts.means m) → 0 < length run → Lacks 10 run → ghosts.size m ≤ ghosts.size r.text + length run → Took r kind taken → Took (record { text = m; place = InLine }) kind (taken ++ run)
   ran_on runs some plain size h =
-      let was = is_reads r kind taken h in
-      reads_is _ _ _ (record {
+      let was = is_took r kind taken h in
+      took_is _ _ _ (record {
         rests = read_run (TextsOf kind) (ghosts.means r.text) (ghosts.means m) taken run runs was.rests;
         form = was.form;
         place = in_line taken run some plain;
@@ -58,12 +58,12 @@ module _ (r : ValueReader) (m : FileText) (kind : ReadForm) (taken run : List �
 
   -- A line and its newline were, which are the bytes.
   pub ran_line : (line : List ℕ) → run ≡ line ++ 10 ∷ [] → Runs (ghosts.means r.text) run (ghosts.means m) → ghosts.size m ≤ ghosts.size r.text + length run →
-      (IsRead (TextsOf kind) (ghosts.means m) (taken ++ run) → (v : Value) → KindText kind v (taken ++ run) → ghosts.size m ≤ held_of_whole v) → Reads r kind taken → Reads (record { text = m; place = LineEnd }) kind (taken ++ run)
+      (IsRead (TextsOf kind) (ghosts.means m) (taken ++ run) → (v : Value) → KindText kind v (taken ++ run) → ghosts.size m ≤ held_of_whole v) → Took r kind taken → Took (record { text = m; place = LineEnd }) kind (taken ++ run)
   ran_line line e runs size settled h =
-      let was = is_reads r kind taken h in
+      let was = is_took r kind taken h in
       let now = read_run (TextsOf kind) (ghosts.means r.text) (ghosts.means m) taken run runs was.rests in
       let same : taken ++ run ≡ (taken ++ line) ++ 10 ∷ [] = ap (λ t. taken ++ t) e ∙ sym (append_assoc taken line (10 ∷ [])) in
-      reads_is _ _ _ (record {
+      took_is _ _ _ (record {
         rests = now;
         form = was.form;
         place = (taken ++ line, same);
@@ -72,10 +72,10 @@ module _ (r : ValueReader) (m : FileText) (kind : ReadForm) (taken run : List �
       })
 
   -- None was.
-  pub ran_none : Runs (ghosts.means r.text) run (ghosts.means m) → run ≡ [] → ghosts.size m ≤ ghosts.size r.text → Reads r kind taken → Reads (record { text = m; place = r.place }) kind (taken ++ run)
+  pub ran_none : Runs (ghosts.means r.text) run (ghosts.means m) → run ≡ [] → ghosts.size m ≤ ghosts.size r.text → Took r kind taken → Took (record { text = m; place = r.place }) kind (taken ++ run)
   ran_none runs none size h =
-      let was = is_reads r kind taken h in
-      reads_is _ _ _ (record {
+      let was = is_took r kind taken h in
+      took_is _ _ _ (record {
         rests = read_run (TextsOf kind) (ghosts.means r.text) (ghosts.means m) taken run runs was.rests;
         form = was.form;
         place = rw (none, append-nil taken) was.place;
@@ -86,8 +86,8 @@ module _ (r : ValueReader) (m : FileText) (kind : ReadForm) (taken run : List �
 -- ---- How far a run got
 
 -- One more byte was taken.
-pub run_more : (Took : List ℕ → Type 0) (taken bytes : List ℕ) (i : ℕ) → i < length bytes → Took ((taken ++ take i bytes) ++ get_or bytes i 0 ∷ []) → Took (taken ++ take (i + 1) bytes)
-run_more Took taken bytes i within h = rw (take_more bytes i 0 within, ← append_assoc taken (take i bytes) (get_or bytes i 0 ∷ [])) h
+pub run_more : (R : List ℕ → Type 0) (taken bytes : List ℕ) (i : ℕ) → i < length bytes → R ((taken ++ take i bytes) ++ get_or bytes i 0 ∷ []) → R (taken ++ take (i + 1) bytes)
+run_more R taken bytes i within h = rw (take_more bytes i 0 within, ← append_assoc taken (take i bytes) (get_or bytes i 0 ∷ [])) h
 
 -- One more byte, which is no newline.
 pub plain_more : (bytes : List ℕ) (i : ℕ) → i < length bytes → get_or bytes i 0 ≢ 10 → Lacks 10 (take i bytes) → Lacks 10 (take (i + 1) bytes)

@@ -3,11 +3,13 @@
 
 pub mod decode;
 pub mod decode_write;
+pub mod open_reader;
 pub mod place;
 pub mod push;
 pub mod reader;
 pub mod setting_reader;
 pub mod upgrading;
+pub mod whole_file;
 
 pub use decode::{FileFault, decode_file};
 pub use decode_write::{SettingFault, decode_setting};

@@ -1,5 +1,5 @@
 //! Readers of one file.
-ghost use Rattle.std.specs.Prelude.{◌≡◌, ◌≤◌, ◌<◌, ◌+◌, ◌↔◌, ℕ, List, [], ◌++◌, length, take, MatchOption, MatchResult, IsTrue, IfNone, OnErr};
+ghost use Rattle.std.specs.Prelude.{◌≡◌, ◌≤◌, ◌<◌, ◌+◌, ◌↔◌, ℕ, List, [], ◌∷◌, ◌++◌, length, take, MatchOption, MatchResult, IsTrue, IfNone, IfSome, IfOk, IfErr, OnErr};
 ghost use Rattle.cg_text.specs.Bytes.{HasByte};
 ghost use Rattle.cg_file.specs.Front.{IsLineFront};
 ghost use Rattle.cg_text.specs.Texts.{Lacks, Next};
@@ -9,21 +9,36 @@ ghost use Rattle.cg_value.specs.Lines.{unlines};
 ghost use Rattle.cg_value.specs.Held.{held_of_lines};
 ghost use Rattle.cg_value.specs.declared.value.Value.{Value};
 ghost use Rattle.cg_value.specs.declared.kind.ReadForm.{ReadForm};
+ghost use Rattle.cg_line.specs.Begun.{IsFinished, IsPushFault};
 ghost use Rattle.cg_line.specs.Place.{TakesLine};
-ghost use Rattle.cg_line.specs.PlaceLaws.{SomeNext};
+ghost use Rattle.cg_line.specs.Reads.{IsState, state_held};
+ghost use Rattle.cg_line.specs.Runs.{RunStops};
+ghost use Rattle.cg_line.specs.Took.{Took, open_held};
 
-use crate::place::Place;
-use crate::push::{PushFault, push_to};
+use crate::open_reader::OpenReader;
+use crate::push::PushFault;
+use crate::whole_file::WholeFile;
 use cg_file::FileText;
-use cg_text::{ByteSet, Token};
+use cg_text::ByteSet;
 use cg_value::{ReadKind, Value};
 use std::alloc::Global;
 
-/// A reader of the text of one file, which takes line bytes and newlines.
+/// What a reader took.
+#[derive(Drop)]
+pub(crate) enum State {
+    /// Nothing.
+    New { alloc: Global, kind: ReadKind },
+    /// A whole file of one line, with which no longer file of the kind begins.
+    Whole(WholeFile),
+    /// Other bytes.
+    Open(Box<OpenReader>),
+}
+
+/// A reader of the text of one file, which takes line bytes and newlines. What it keeps of most files of one line is their value;
+/// of others it is their token, which lies on the heap.
 #[derive(Drop)]
 pub struct ValueReader {
-    text: FileText,
-    place: Place,
+    pub(crate) state: State,
 }
 
 /// What became of a run of bytes.
@@ -41,6 +56,166 @@ pub struct ReaderCut {
     pub reader: ValueReader,
 }
 
+/// What became of a run of bytes of a reader that took nothing, and the reader that took them where some were taken.
+#[derive(Drop)]
+struct Begun {
+    reader: Option<Box<OpenReader>>,
+    run: PushedRun,
+}
+
+/// The reader on the heap, if memory is left for it.
+fn boxed(alloc: Global, reader: OpenReader) -> Option<Box<OpenReader>>
+    ensures { IfSome result (λ boxed. boxed.value ≡ reader) }
+{
+    match Box::new(alloc, reader) {
+        Ok(boxed) => Some(boxed),
+        Err(_) => None,
+    }
+}
+
+/// The reader that took this byte alone.
+#[inline(never)]
+fn begin_by(alloc: Global, kind: ReadKind, byte: u8) -> Result<Box<OpenReader>, PushFault>
+    ensures begun { IfOk result (λ reader. Took reader.value kind (byte ∷ []) × (open_held reader.value ≤ 1)) }
+    ensures fault { IfErr result (λ fault. IsPushFault kind [] byte fault) }
+{
+    let mut reader = OpenReader::new(alloc, kind);
+    match reader.push(byte) {
+        Ok(()) => match boxed(alloc, reader) {
+            Some(reader) => Ok(reader),
+            None => Err(PushFault::OutOfMemory),
+        },
+        Err(fault) => Err(fault),
+    }
+}
+
+/// The reader that took bytes from the front of `bytes`, until a newline was taken, none is left, or one is refused or memory is.
+#[inline(never)]
+fn begin_run(alloc: Global, kind: ReadKind, bytes: &[u8]) -> Begun
+    ensures reader { MatchOption result.reader (result.run.used ≡ 0) (λ reader. (0 < result.run.used) × Took reader.value kind (take result.run.used bytes.now) × (open_held reader.value ≤ result.run.used)) }
+    ensures stops { RunStops kind [] bytes.now result.run.used result.run.fault }
+    ensures within { result.run.used ≤ length bytes.now }
+    ensures goes_on { IfNone result.run.fault (0 < length bytes.now → 0 < result.run.used) }
+{
+    let mut reader = OpenReader::new(alloc, kind);
+    let run = reader.push_run(bytes);
+    if run.used == 0 {
+        return Begun { reader: None, run };
+    }
+    match boxed(alloc, reader) {
+        Some(reader) => Begun {
+            reader: Some(reader),
+            run,
+        },
+        None => Begun {
+            reader: None,
+            run: PushedRun {
+                used: 0,
+                fault: Some(PushFault::OutOfMemory),
+            },
+        },
+    }
+}
+
+/// Takes the first bytes of a reader that took nothing: a whole file of one line, or what `begin_run` takes.
+#[inline(never)]
+fn begin(state: &mut State, alloc: Global, kind: ReadKind, bytes: &[u8]) -> PushedRun
+    ensures state { IsState state.old kind [] → IsState state.new kind (take result.used bytes.now) }
+    ensures stops { RunStops kind [] bytes.now result.used result.fault }
+    ensures within { result.used ≤ length bytes.now }
+    ensures goes_on { IfNone result.fault (0 < length bytes.now → 0 < result.used) }
+    ensures held { state_held state.new ≤ state_held state.old + result.used }
+    ensures same_held { result.used ≡ 0 → state_held state.new ≡ state_held state.old }
+{
+    if let Some((value, used)) = FileText::read_front(alloc, kind, bytes) {
+        *state = State::Whole(WholeFile { value });
+        return PushedRun { used, fault: None };
+    }
+    let Begun { reader, run } = begin_run(alloc, kind, bytes);
+    if let Some(reader) = reader {
+        *state = State::Open(reader);
+    }
+    run
+}
+
+/// What a run of bytes does after a whole file with which no other goes on: nothing.
+fn refuse(bytes: &[u8]) -> PushedRun
+    ensures used { result.used ≡ 0 }
+    ensures stops { (kind : ReadForm) (taken : List ℕ) → ((byte : ℕ) → Next (KindFile kind) taken byte → ⊥) → RunStops kind taken bytes.now result.used result.fault }
+    ensures goes_on { IfNone result.fault (0 < length bytes.now → 0 < result.used) }
+{
+    PushedRun {
+        used: 0,
+        fault: if bytes.is_empty() {
+            None
+        } else {
+            Some(PushFault::Refused)
+        },
+    }
+}
+
+/// Whether a file of the kind may have a line.
+#[inline(never)]
+fn begins_line(alloc: Global, kind: ReadKind) -> bool
+    ensures { IsTrue result ↔ TakesLine kind [] }
+{
+    OpenReader::new(alloc, kind).takes_line()
+}
+
+/// The bytes with which some file of the kind begins.
+#[inline(never)]
+fn first_allowed(alloc: Global, kind: ReadKind) -> ByteSet
+    ensures { (byte : ℕ) → HasByte result byte ↔ Next (KindFile kind) [] byte }
+{
+    OpenReader::new(alloc, kind).allowed()
+}
+
+/// Whether there is a file of the kind of no bytes.
+#[inline(never)]
+fn may_be_empty(alloc: Global, kind: ReadKind) -> bool
+    ensures { IsTrue result ↔ KindFile kind [] }
+{
+    OpenReader::new(alloc, kind).can_finish()
+}
+
+/// The value of the file of the kind of no bytes, if there is one.
+#[inline(never)]
+fn empty_value(alloc: Global, kind: ReadKind) -> Option<Value>
+    ensures { MatchOption result (KindFile kind [] → ⊥) (λ v. KindText kind v []) }
+{
+    let reader = OpenReader::new(alloc, kind);
+    if reader.can_finish() {
+        Some(reader.into_value())
+    } else {
+        None
+    }
+}
+
+/// The value of a whole file, or else the reader.
+fn finish_open(reader: Box<OpenReader>) -> Result<Value, State>
+    ensures { (kind : ReadForm) (taken : List ℕ) → Took reader.value kind taken → IsFinished kind taken (State.Open reader) result }
+{
+    if reader.can_finish() {
+        Ok(Box::into_inner(reader).into_value())
+    } else {
+        Err(State::Open(reader))
+    }
+}
+
+/// The value of a whole file, or else the state.
+fn finish_state(state: State) -> Result<Value, State>
+    ensures { (kind : ReadForm) (taken : List ℕ) → IsState state kind taken → IsFinished kind taken state result }
+{
+    match state {
+        State::New { alloc, kind } => match empty_value(alloc, kind) {
+            Some(value) => Ok(value),
+            None => Err(State::New { alloc, kind }),
+        },
+        State::Whole(file) => Ok(file.value),
+        State::Open(reader) => finish_open(reader),
+    }
+}
+
 impl ValueReader {
     ghost use Rattle.cg_line.specs.Reads.{Reads, IsPushed, held_by};
     ghost use Rattle.cg_line.specs.Runs.{IsPushedRun};
@@ -50,9 +225,9 @@ impl ValueReader {
         ensures reads { Reads result kind [] }
         ensures held { held_by result ≡ 0 }
     {
+        let _form = kind.form();
         ValueReader {
-            text: FileText::new(alloc, kind),
-            place: Place::Start,
+            state: State::New { alloc, kind },
         }
     }
 
@@ -63,28 +238,17 @@ impl ValueReader {
         ensures held { held_by self.new ≤ held_by self.old + 1 }
         ensures same_held { OnErr result (held_by self.new ≡ held_by self.old) }
     {
-        match push_to(&mut self.text, byte) {
-            Ok(()) => {
-                self.place = Place::after(byte);
-                Ok(())
-            }
-            Err(fault) => Err(fault),
+        match &mut self.state {
+            State::New { alloc, kind } => match begin_by(*alloc, *kind, byte) {
+                Ok(reader) => {
+                    self.state = State::Open(reader);
+                    Ok(())
+                }
+                Err(fault) => Err(fault),
+            },
+            State::Whole(_) => Err(PushFault::Refused),
+            State::Open(reader) => reader.push(byte),
         }
-    }
-
-    /// Takes bytes of a line from the front of `bytes` at once, where the kind gains by it, and answers how many.
-    fn scan(&mut self, bytes: &[u8]) -> usize
-        ensures within { result ≤ length bytes.now }
-        ensures plain { Lacks 10 (take result bytes.now) }
-        ensures reads { (kind : ReadForm) (taken : List ℕ) → Reads self.old kind taken → Reads self.new kind (taken ++ take result bytes.now) }
-        ensures held { held_by self.new ≤ held_by self.old + result }
-        ensures same_held { result ≡ 0 → held_by self.new ≡ held_by self.old }
-    {
-        let used = self.text.run(bytes);
-        if used > 0 {
-            self.place = Place::InLine;
-        }
-        used
     }
 
     /// Takes a whole line with its newline from the front of `bytes`, where no line is begun; or nothing, which it may do with any
@@ -96,11 +260,10 @@ impl ValueReader {
         ensures held { held_by self.new ≤ held_by self.old + result }
         ensures same_held { result ≡ 0 → held_by self.new ≡ held_by self.old }
     {
-        let used = self.text.take_front(bytes);
-        if used > 0 {
-            self.place = Place::LineEnd;
+        match &mut self.state {
+            State::Open(reader) => reader.push_front(bytes),
+            _ => 0,
         }
-        used
     }
 
     /// Takes bytes from the front of `bytes` as `push` would take one after another: until a newline was taken, none is
@@ -112,35 +275,13 @@ impl ValueReader {
         ensures held { held_by self.new ≤ held_by self.old + result.used }
         ensures same_held { result.used ≡ 0 → held_by self.new ≡ held_by self.old }
     {
-        let line = self.push_front(bytes);
-        if line > 0 {
-            return PushedRun {
-                used: line,
-                fault: None,
-            };
-        }
-        let begun = self.scan(bytes);
-        for used in begun..bytes.len() {
-            let byte = bytes[used];
-            match self.push(byte) {
-                Ok(()) => {}
-                Err(fault) => {
-                    return PushedRun {
-                        used,
-                        fault: Some(fault),
-                    };
-                }
+        match &mut self.state {
+            State::New { alloc, kind } => {
+                let (alloc, kind) = (*alloc, *kind);
+                begin(&mut self.state, alloc, kind, bytes)
             }
-            if byte == b'\n' {
-                return PushedRun {
-                    used: used + 1,
-                    fault: None,
-                };
-            }
-        }
-        PushedRun {
-            used: bytes.len(),
-            fault: None,
+            State::Whole(_) => refuse(bytes),
+            State::Open(reader) => reader.push_run(bytes),
         }
     }
 
@@ -148,49 +289,33 @@ impl ValueReader {
     pub fn takes_line(&self) -> bool
         ensures { (kind : ReadForm) (taken : List ℕ) → Reads self.now kind taken → (IsTrue result ↔ TakesLine kind taken) }
     {
-        if self.place.is_in_line() {
-            return false;
+        match &self.state {
+            State::New { alloc, kind } => begins_line(*alloc, *kind),
+            State::Whole(_) => false,
+            State::Open(reader) => reader.takes_line(),
         }
-        self.goes_on()
-    }
-
-    /// Whether any byte may come next.
-    fn goes_on(&self) -> bool
-        ensures { (kind : ReadForm) (taken : List ℕ) → Reads self.now kind taken → (IsTrue result ↔ SomeNext kind taken) }
-    {
-        // Nearly every line can begin with a 0, and others begin with a letter; the second line of pressure begins with an f.
-        for likely in b"0af" {
-            if self.text.allows(*likely) {
-                return true;
-            }
-        }
-        for number in 0..256u16 {
-            if self.text.allows(number as u8) {
-                return true;
-            }
-        }
-        false
     }
 
     /// Whether the bytes so far are a whole file. It takes no memory.
     pub fn can_finish(&self) -> bool
         ensures { (kind : ReadForm) (taken : List ℕ) → Reads self.now kind taken → (IsTrue result ↔ KindFile kind taken) }
     {
-        self.text.can_end()
+        match &self.state {
+            State::New { alloc, kind } => may_be_empty(*alloc, *kind),
+            State::Whole(_) => true,
+            State::Open(reader) => reader.can_finish(),
+        }
     }
 
     /// The bytes with which some file of the kind goes on. It takes no memory.
     pub fn allowed(&self) -> ByteSet
         ensures { (kind : ReadForm) (taken : List ℕ) → Reads self.now kind taken → (byte : ℕ) → HasByte result byte ↔ Next (KindFile kind) taken byte }
     {
-        let mut set = ByteSet::new();
-        for number in 0..256u16 {
-            let byte = number as u8;
-            if self.text.allows(byte) {
-                set.insert(byte);
-            }
+        match &self.state {
+            State::New { alloc, kind } => first_allowed(*alloc, *kind),
+            State::Whole(_) => ByteSet::new(),
+            State::Open(reader) => reader.allowed(),
         }
-        set
     }
 
     /// The sum of the lengths of its vectors, or `u64::MAX` where that is more. It takes no memory.
@@ -199,17 +324,20 @@ impl ValueReader {
         ensures few { (kind : ReadForm) (taken : List ℕ) → Reads self.now kind taken → held_by self.now ≤ length taken }
         ensures most { (kind : ReadForm) (lines : List (List ℕ)) (line : List ℕ) (v : Value) → Reads self.now kind (unlines lines ++ line) → Lacks 10 line → ReadLines kind v lines → held_by self.now ≤ held_of_lines v lines + length line }
     {
-        self.text.held()
+        match &self.state {
+            State::New { .. } => 0,
+            State::Whole(_) => 0,
+            State::Open(reader) => reader.held(),
+        }
     }
 
     /// The value of a whole file, and none of other bytes, where the reader isn't wanted again. It takes no memory.
     pub fn into_value(self) -> Option<Value>
         ensures { (kind : ReadForm) (taken : List ℕ) → Reads self kind taken → MatchOption result (KindFile kind taken → ⊥) (λ v. KindText kind v taken) }
     {
-        if self.text.can_end() {
-            Some(self.text.take())
-        } else {
-            None
+        match self.finish() {
+            Ok(value) => Some(value),
+            Err(_) => None,
         }
     }
 
@@ -217,10 +345,11 @@ impl ValueReader {
     pub fn finish(self) -> Result<Value, ReaderCut>
         ensures { (kind : ReadForm) (taken : List ℕ) → Reads self kind taken → MatchResult result (λ v. KindText kind v taken) (λ cut. (cut.reader ≡ self) × (KindFile kind taken → ⊥)) }
     {
-        if self.text.can_end() {
-            Ok(self.text.take())
-        } else {
-            Err(ReaderCut { reader: self })
+        match finish_state(self.state) {
+            Ok(value) => Ok(value),
+            Err(state) => Err(ReaderCut {
+                reader: ValueReader { state },
+            }),
         }
     }
 }

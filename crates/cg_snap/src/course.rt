@@ -90,8 +90,24 @@ fn skip_line<R: Records>(records: &mut R, meter: &mut Meter, piece: &[u8]) -> Li
     line
 }
 
-/// Takes at once the path of one more record with its NUL, and what comes of its line with the newline, as far as it can.
-/// Answers how many bytes, and whether a line was ended.
+/// Takes at once one more record whole, and answers how many bytes.
+fn skip_whole<R: Records>(records: &mut R, meter: &mut Meter, piece: &[u8]) -> usize
+    ensures skipped { (form : Profile) (p : List ℕ) (es : List R.Part) →
+        IsAlong (R.language form) (R.breaks form) (R.many form) (R.closes form) (λ s. R.at s form) records.old meter.old p es →
+        IsAlong (R.language form) (R.breaks form) (R.many form) (R.closes form) (λ s. R.at s form) records.new meter.new (p ++ take result piece.now) es }
+    ensures within { result ≤ length piece.now }
+    ensures profile { R.profile records.new ≡ R.profile records.old }
+    ensures limits { meter.new.limits ≡ meter.old.limits }
+{
+    let whole = records.take_record(piece, meter.room(), meter.limits.max_lines);
+    if whole > 0 {
+        meter.count_line(whole);
+    }
+    whole
+}
+
+/// Takes at once one more record whole; or its path with its NUL, and what comes of its line with the newline, as far as it
+/// can. Answers how many bytes, and whether a line was ended.
 fn skip_record<R: Records>(records: &mut R, meter: &mut Meter, piece: &[u8]) -> (usize, bool)
     ensures skipped { (form : Profile) (p : List ℕ) (es : List R.Part) →
         IsAlong (R.language form) (R.breaks form) (R.many form) (R.closes form) (λ s. R.at s form) records.old meter.old p es →
@@ -101,6 +117,10 @@ fn skip_record<R: Records>(records: &mut R, meter: &mut Meter, piece: &[u8]) -> 
     ensures profile { R.profile records.new ≡ R.profile records.old }
     ensures limits { meter.new.limits ≡ meter.old.limits }
 {
+    let whole = skip_whole(records, meter, piece);
+    if whole > 0 {
+        return (whole, true);
+    }
     let head = skip_head(records, meter, piece);
     let (_, rest) = piece.split_at(head);
     let line = skip_line(records, meter, rest);

@@ -5,14 +5,14 @@ ghost use Rattle.cg_value.specs.Entry.{EntryData};
 ghost use Rattle.cg_value.specs.declared.profile.Profile.{Profile};
 ghost use Rattle.cg_snap.specs.Course.{AreFew};
 ghost use Rattle.cg_snap.specs.DecoderState.{At};
-ghost use Rattle.cg_snap.specs.HeadState.{Repeats};
+ghost use Rattle.cg_snap.specs.HeadState.{HasHead, Repeats};
 ghost use Rattle.cg_snap.specs.SnapStop.{IsManyRecords};
 
 use crate::present::Present;
 
-/// Whether the piece begins with one more record of the entry: its path and a NUL, for which there is room and which may come.
-fn repeats(present: &Present, piece: &[u8], room: u64, max_lines: u64) -> bool
-    ensures { IsTrue result → Repeats present.now piece.now room max_lines }
+/// Whether the piece begins with the entry's path and a NUL, for which there is room, and one more record isn't one too many.
+pub(crate) fn has_head(present: &Present, piece: &[u8], room: u64, max_lines: u64) -> bool
+    ensures { IsTrue result → HasHead present.now piece.now room max_lines }
 {
     let size = present.path.len();
     if size >= piece.len() || piece[size] != 0 {
@@ -22,10 +22,14 @@ fn repeats(present: &Present, piece: &[u8], room: u64, max_lines: u64) -> bool
         return false;
     }
     let (path, _) = piece.split_at(size);
-    if path != present.path.as_slice() {
-        return false;
-    }
-    present.reader.takes_line()
+    path == present.path.as_slice()
+}
+
+/// Whether the same holds and one more record may come.
+fn repeats(present: &Present, piece: &[u8], room: u64, max_lines: u64) -> bool
+    ensures { IsTrue result → Repeats present.now piece.now room max_lines }
+{
+    has_head(present, piece, room, max_lines) && present.reader.takes_line()
 }
 
 /// Takes the present entry's path with the NUL after it, where the piece begins with them, no path is begun, there is room for

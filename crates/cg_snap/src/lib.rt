@@ -16,6 +16,7 @@ pub mod plan_decoder;
 mod plan_front;
 mod plan_records;
 mod present;
+mod record;
 mod records;
 mod refusal;
 pub mod rows;

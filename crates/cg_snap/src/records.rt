@@ -73,6 +73,19 @@ pub(crate) trait Records: Drop {
         ensures did { (form : Profile) (p : List ℕ) (es : List Self.Part) → at self.old form p es → DidStep (language form) (breaks form) (many form) (closes form) (λ s. at s form) self.new p es byte result }
         ensures profile { profile self.new ≡ profile self.old };
 
+    /// Takes one more record of what is being made, whole, where the piece begins with it, there is room for it and it is no
+    /// record too many of its path. Answers how many bytes it took; it may take none.
+    fn take_record(&mut self, _piece: &[u8], _room: u64, _max_lines: u64) -> usize
+        ensures taken { (form : Profile) (p : List ℕ) (es : List Self.Part) → at self.old form p es → at self.new form (p ++ take result _piece.now) es }
+        ensures few { (form : Profile) (p : List ℕ) (es : List Self.Part) → at self.old form p es → AreFew (many form _max_lines) p (take result _piece.now) }
+        ensures line { (form : Profile) (p : List ℕ) (es : List Self.Part) → at self.old form p es → 0 < result → IsLineFront _piece.now result }
+        ensures within { result ≤ length _piece.now }
+        ensures room { result ≤ _room }
+        ensures profile { profile self.new ≡ profile self.old }
+    {
+        0
+    }
+
     /// Takes the path of one more record of what is being made, with the NUL after it, where the piece begins with them, there
     /// is room for them and it is no record too many of its path. Answers how many bytes it took.
     fn take_head(&mut self, piece: &[u8], room: u64, max_lines: u64) -> usize

@@ -5,6 +5,7 @@ ghost use Rattle.cg_snap.specs.PathBytes.{ArePathBytes, path_bytes_prop};
 use crate::entry_step::{is_full, step};
 use crate::head::take_head;
 use crate::present::Present;
+use crate::record::take_record;
 use crate::records::{LineTaken, Records, Stepped};
 use crate::refusal::refusal;
 use crate::run::{take_begun_line, take_run};
@@ -89,6 +90,10 @@ impl Records for SnapshotRecords {
             &mut self.present,
             byte,
         )
+    }
+
+    fn take_record(&mut self, piece: &[u8], room: u64, max_lines: u64) -> usize {
+        take_record(&self.begun, &mut self.present, piece, room, max_lines)
     }
 
     fn take_head(&mut self, piece: &[u8], room: u64, max_lines: u64) -> usize {

@@ -31,7 +31,7 @@ returns-else-not-repeats-clause-few c = λ profile p es h.
     let a = subst (λ (b : List ℕ). AtPath profile b x p es) empty (between_path profile begun c.args.present.now x p es c.in-Some.is c.if-x.false h) in
     let same = head_is x.path.items t.rest piece (c.len.result + 1) t.begins (omega (arith, c.len.ensures, x.path.ok.0)) in
     subst (λ (q : List ℕ). AreFew (IsManyRecords profile c.args.max_lines) p q) (sym same)
-    (head_few profile x p es a piece c.args.room c.args.max_lines (omega (arith, c.ranges.max_lines.fits)) c.if-x.false t)
+    (head_few profile x p es a c.args.max_lines (omega (arith, c.ranges.max_lines.fits)) c.if-x.false t.few)
 
 pub returns-else-not-repeats-clause-plain : goal.returns-else-not-repeats-clause-plain
 returns-else-not-repeats-clause-plain c = λ profile p es h.

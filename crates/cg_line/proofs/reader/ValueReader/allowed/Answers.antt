@@ -1,21 +1,16 @@
-use Rattle.std.proofs.Common.{◌≡◌, ◌≤◌, true, arith}
-use Rattle.cg_value.specs.Files.{KindFile}
-use Rattle.cg_value.specs.LineLaws.{file_bytes}
-use Rattle.cg_line.specs.AllowedLaws.{allowed_more, allowed_same, allowed_all}
-use Rattle.cg_line.specs.ReadsLaws.{next_byte_is}
+use Rattle.std.proofs.Common.{sym, subst}
+use Rattle.cg_line.specs.ReadsLaws.{state_of}
+use Rattle.cg_line.specs.Took.{Took}
+use Rattle.cg_line.specs.declared.open_reader.OpenReader.{OpenReader}
 use Rattle.cg_line.proofs.reader.ValueReader.allowed.Goals as goal
-use Rattle.cg_line.proofs.reader.ValueReader.allowed.Goals.{then-allows, else-allows}
 
-pub loop-number-preserved : goal.loop-number-preserved
-loop-number-preserved c kind taken h =
-    let number = c.loop-number.number in
-    let before = c.loop-number.invariant kind taken h in
-    let next = next_byte_is c.args.self.now kind taken number h in
-    elim c.if-allows.branch [
-      | then-allows w ↦ rw w.set-is (allowed_more (KindFile kind) taken c.loop-number.set w.insert.new.self number before w.insert.ensures.added (next.0 (c.allows.ensures.0 w.if-allows.true)))
-      | else-allows w ↦ rw w.set-is (allowed_same (KindFile kind) taken c.loop-number.set number before
-          (λ goes. (let allowed : c.allows.result ≡ true = c.allows.ensures.1 (next.1 goes) in let refused = w.if-allows.false in cc)))
-    ]
+pub returns-in-New : goal.returns-in-New
+returns-in-New c kind taken h byte = let new = state_of c.args.self.now _ kind taken c.in-New.is h in rw (new.1, ← new.0) (c.first_allowed.ensures byte)
 
-pub returns : goal.returns
-returns c kind taken h = let done : 256 ≤ c.loop-number.number = omega arith in allowed_all (KindFile kind) taken (file_bytes kind) c.loop-number.set c.loop-number.number done (c.loop-number.invariant kind taken h)
+pub returns-in-Whole : goal.returns-in-Whole
+returns-in-Whole c kind taken h byte =
+    let whole = state_of c.args.self.now _ kind taken c.in-Whole.is h in
+    (λ has. absurd (c.new.ensures.empty byte has), λ next. absurd (whole.last byte next))
+
+pub returns-in-Open : goal.returns-in-Open
+returns-in-Open c kind taken h byte = c.allowed.ensures kind taken (subst (λ (o : OpenReader). Took o kind taken) (sym c.deref.ensures) (state_of c.args.self.now _ kind taken c.in-Open.is h)) byte

@@ -1,9 +1,16 @@
-use Rattle.std.proofs.Common.{sym, ◌∙◌}
-use Rattle.cg_file.specs.contracts.file_text.FileTextToken.TheImpl.{ghosts}
-use Rattle.cg_line.specs.ReadsLaws.{whole_file}
+use Rattle.std.proofs.Common.{refl, sym, subst}
+use Rattle.cg_line.specs.ReadsLaws.{state_of}
+use Rattle.cg_line.specs.Took.{Took}
+use Rattle.cg_line.specs.declared.open_reader.OpenReader.{OpenReader}
 use Rattle.cg_line.proofs.reader.ValueReader.can_finish.Goals as goal
 
-pub returns : goal.returns
-returns c kind taken h =
-    let whole = whole_file c.args.self.now kind taken h in
-    (λ e. whole.0 ((ghosts.ends_is c.args.self.now.text).0 (sym c.can_end.ensures ∙ e)), λ f. c.can_end.ensures ∙ (ghosts.ends_is c.args.self.now.text).1 (whole.1 f))
+pub returns-in-New : goal.returns-in-New
+returns-in-New c kind taken h = let new = state_of c.args.self.now _ kind taken c.in-New.is h in rw (new.1, ← new.0) c.may_be_empty.ensures
+
+pub returns-in-Whole : goal.returns-in-Whole
+returns-in-Whole c kind taken h =
+    let whole = state_of c.args.self.now _ kind taken c.in-Whole.is h in
+    (λ e. (c.in-Whole.field-0.value, whole.text), λ file. refl)
+
+pub returns-in-Open : goal.returns-in-Open
+returns-in-Open c kind taken h = c.can_finish.ensures.whole kind taken (subst (λ (o : OpenReader). Took o kind taken) (sym c.deref.ensures) (state_of c.args.self.now _ kind taken c.in-Open.is h))

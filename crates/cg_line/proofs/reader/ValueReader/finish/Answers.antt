@@ -1,15 +1,17 @@
-use Rattle.cg_file.specs.contracts.file_text.FileTextToken.TheImpl.{ghosts}
-use Rattle.std.proofs.Common.{◌≡◌, true, refl, ◌∙◌}
-use Rattle.cg_line.specs.ReadsLaws.{whole_file, whole_value}
+use Rattle.std.proofs.Common.{ap}
+use Rattle.cg_line.specs.Reads.{is_reads}
+use Rattle.cg_line.specs.declared.reader.State.{State}
+use Rattle.cg_line.specs.declared.reader.ValueReader.{ValueReader}
 use Rattle.cg_line.proofs.reader.ValueReader.finish.Goals as goal
 
-pub returns-then-can_end : goal.returns-then-can_end
-returns-then-can_end c kind taken h = whole_value c.args.self c.take.result kind taken c.take.ensures.value h
+-- A reader by its state.
+abbrev of_state : State → ValueReader
+of_state s = record { state = s }
 
-pub returns-else-can_end : goal.returns-else-can_end
-returns-else-can_end c kind taken h = (
-  refl,
-  λ file. (
-      let whole : c.can_end.result ≡ true = c.can_end.ensures ∙ (ghosts.ends_is c.args.self.text).1 ((whole_file c.args.self kind taken h).1 file) in
-      let differs = c.if-can_end.false in cc),
-)
+pub returns-in-Ok : goal.returns-in-Ok
+returns-in-Ok c kind taken h = c.in-Ok.ensures kind taken (is_reads c.args.self kind taken h).state
+
+pub returns-in-Err : goal.returns-in-Err
+returns-in-Err c kind taken h =
+    let left = c.in-Err.ensures kind taken (is_reads c.args.self kind taken h).state in
+    (ap of_state left.0, left.1)

@@ -1,42 +1,23 @@
-use Rattle.std.proofs.Common.{◌≡◌, ◌≤◌, ◌+◌, ◌++◌, [], inr, refl, length, take, length-take, arith}
-use Rattle.cg_file.specs.HeldLaws.{file_settled}
-use Rattle.cg_file.specs.Kinds.{TextsOf}
-use Rattle.cg_file.specs.contracts.file_text.FileTextToken.TheImpl.{ghosts}
+use Rattle.std.proofs.Common.{◌≡◌, ◌∙◌, ◌++◌, sym, ap, subst, take}
 use Rattle.cg_line.specs.Reads.{held_by}
-use Rattle.cg_line.specs.RestsLaws.{is_value}
-use Rattle.cg_line.specs.RunsLaws.{ran_line, ran_none}
+use Rattle.cg_line.specs.ReadsLaws.{held_is, reads_on, state_of}
+use Rattle.cg_line.specs.Took.{Took, open_held}
+use Rattle.cg_line.specs.declared.open_reader.OpenReader.{OpenReader}
 use Rattle.cg_line.proofs.reader.ValueReader.push_front.Goals as goal
 
-pub returns-then-used-gt0-clause-reads : goal.returns-then-used-gt0-clause-reads
-returns-then-used-gt0-clause-reads c kind taken h =
-    let n = c.take_front-used.result in
-    let run = take n c.args.bytes.now in
-    let new = c.take_front-used.new.self in
-    let front = c.take_front-used.ensures.line c.if-used-gt0.true in
-    let size : ghosts.size new ≤ ghosts.size c.args.self.now.text + length run = omega (arith, c.take_front-used.ensures.size, c.take_front-used.ensures.within, length-take n c.args.bytes.now) in
-    ran_line c.args.self.now new kind taken run (front.0) (front.1) (c.take_front-used.ensures.taken, inr (ghosts.completes new)) size
-    (λ now v t. file_settled new v (is_value (TextsOf kind) (ghosts.means new) (taken ++ run) v t now)) h
+pub returns-in-Open-clause-reads : goal.returns-in-Open-clause-reads
+returns-in-Open-clause-reads c kind taken h =
+    let took = subst (λ (o : OpenReader). Took o kind taken) (sym c.deref_mut.ensures.value) (state_of c.args.self.now _ kind taken c.in-Open.is h) in
+    reads_on c.args.self.now _ kind taken (taken ++ take c.push_front.result c.args.bytes.now) h (c.push_front.ensures.reads kind taken took)
 
-pub returns-else-used-gt0-clause-reads : goal.returns-else-used-gt0-clause-reads
-returns-else-used-gt0-clause-reads c kind taken h =
-    let n = c.take_front-used.result in
-    let none : n ≡ 0 = omega (arith, c.if-used-gt0.false) in
-    let empty : take n c.args.bytes.now ≡ [] = rw none refl in
-    let size : ghosts.size c.take_front-used.new.self ≤ ghosts.size c.args.self.now.text = omega (arith, none, c.take_front-used.ensures.size) in
-    ran_none c.args.self.now c.take_front-used.new.self kind taken (take n c.args.bytes.now) (c.take_front-used.ensures.taken, inr (ghosts.completes c.take_front-used.new.self)) empty size h
-
-pub returns-then-used-gt0-clause-held : goal.returns-then-used-gt0-clause-held
+pub returns-in-Open-clause-held : goal.returns-in-Open-clause-held
 unfolding held_by
-returns-then-used-gt0-clause-held c = c.take_front-used.ensures.size
+returns-in-Open-clause-held c =
+    let old : held_by c.args.self.now ≡ open_held c.deref_mut.result.now = held_is c.args.self.now _ c.in-Open.is ∙ ap open_held (sym c.deref_mut.ensures.value) in
+    rw old c.push_front.ensures.held
 
-pub returns-else-used-gt0-clause-held : goal.returns-else-used-gt0-clause-held
+pub returns-in-Open-clause-same_held : goal.returns-in-Open-clause-same_held
 unfolding held_by
-returns-else-used-gt0-clause-held c = c.take_front-used.ensures.size
-
-pub returns-then-used-gt0-clause-same_held : goal.returns-then-used-gt0-clause-same_held
-unfolding held_by
-returns-then-used-gt0-clause-same_held c = c.take_front-used.ensures.same_size
-
-pub returns-else-used-gt0-clause-same_held : goal.returns-else-used-gt0-clause-same_held
-unfolding held_by
-returns-else-used-gt0-clause-same_held c = c.take_front-used.ensures.same_size
+returns-in-Open-clause-same_held c none =
+    let old : held_by c.args.self.now ≡ open_held c.deref_mut.result.now = held_is c.args.self.now _ c.in-Open.is ∙ ap open_held (sym c.deref_mut.ensures.value) in
+    rw old (c.push_front.ensures.same_held none)

@@ -1,15 +1,16 @@
-use Rattle.cg_line.specs.PlaceLaws.{takes_where_next, next_where_takes, at_line_start, not_in_line}
-use Rattle.cg_line.specs.Reads.{is_reads}
+use Rattle.std.proofs.Common.{sym, subst}
+use Rattle.cg_line.specs.ReadsLaws.{state_of, takes_none}
+use Rattle.cg_line.specs.Took.{Took}
+use Rattle.cg_line.specs.declared.open_reader.OpenReader.{OpenReader}
 use Rattle.cg_line.proofs.reader.ValueReader.takes_line.Goals as goal
 
-pub returns-then-is_in_line : goal.returns-then-is_in_line
-returns-then-is_in_line c kind taken h =
-    let was = is_reads c.args.self.now kind taken h in
-    (λ e. absurd (cc), λ takes. absurd (not_in_line c.args.self.now.place taken was.place takes.not_begun (c.is_in_line.ensures.0 c.if-is_in_line.true)))
+pub returns-in-New : goal.returns-in-New
+returns-in-New c kind taken h = let new = state_of c.args.self.now _ kind taken c.in-New.is h in rw (new.1, ← new.0) c.begins_line.ensures
 
-pub returns : goal.returns
-returns c kind taken h =
-    let was = is_reads c.args.self.now kind taken h in
-    let at = at_line_start c.args.self.now.place taken was.place (λ e. (let in_line = c.is_in_line.ensures.1 e in let not = c.if-is_in_line.false in cc)) in
-    let some = c.goes_on.ensures kind taken h in
-    (λ e. (let byte = some.0 e in takes_where_next kind taken byte.byte at byte.next), λ takes. some.1 (next_where_takes kind taken takes))
+pub returns-in-Whole : goal.returns-in-Whole
+returns-in-Whole c kind taken h =
+    let whole = state_of c.args.self.now _ kind taken c.in-Whole.is h in
+    (λ e. absurd (cc), λ takes. absurd (takes_none kind c.in-Whole.field-0.value taken whole takes))
+
+pub returns-in-Open : goal.returns-in-Open
+returns-in-Open c kind taken h = c.takes_line.ensures kind taken (subst (λ (o : OpenReader). Took o kind taken) (sym c.deref.ensures) (state_of c.args.self.now _ kind taken c.in-Open.is h))

@@ -1,8 +1,8 @@
 use Rattle.std.proofs.Common.{◌≡◌, ◌<◌, ◌≤◌, ◌+◌, [], inr, refl, length, take, length-take, arith}
-use Rattle.cg_line.specs.Reads.{held_by}
+use Rattle.cg_line.specs.Took.{open_held}
 use Rattle.cg_line.specs.RunsLaws.{ran_none, ran_on}
 use Rattle.cg_file.specs.contracts.file_text.FileTextToken.TheImpl.{ghosts}
-use Rattle.cg_line.proofs.reader.ValueReader.scan.Goals as goal
+use Rattle.cg_line.proofs.open_reader.OpenReader.scan.Goals as goal
 
 pub returns-then-used-gt0-clause-reads : goal.returns-then-used-gt0-clause-reads
 returns-then-used-gt0-clause-reads c kind taken h =
@@ -14,7 +14,7 @@ returns-then-used-gt0-clause-reads c kind taken h =
     ran_on c.args.self.now c.run-used.new.self kind taken (take n bytes) (c.run-used.ensures.follows, inr (ghosts.completes c.run-used.new.self)) some c.run-used.ensures.plain size h
 
 pub returns-then-used-gt0-clause-held : goal.returns-then-used-gt0-clause-held
-unfolding held_by
+unfolding open_held
 returns-then-used-gt0-clause-held c = c.run-used.ensures.size
 
 pub returns-else-used-gt0-clause-reads : goal.returns-else-used-gt0-clause-reads
@@ -27,13 +27,13 @@ returns-else-used-gt0-clause-reads c kind taken h =
     ran_none c.args.self.now c.run-used.new.self kind taken (take n bytes) (c.run-used.ensures.follows, inr (ghosts.completes c.run-used.new.self)) empty size h
 
 pub returns-else-used-gt0-clause-held : goal.returns-else-used-gt0-clause-held
-unfolding held_by
+unfolding open_held
 returns-else-used-gt0-clause-held c = c.run-used.ensures.size
 
 pub returns-then-used-gt0-clause-same_held : goal.returns-then-used-gt0-clause-same_held
-unfolding held_by
+unfolding open_held
 returns-then-used-gt0-clause-same_held c = c.run-used.ensures.same_size
 
 pub returns-else-used-gt0-clause-same_held : goal.returns-else-used-gt0-clause-same_held
-unfolding held_by
+unfolding open_held
 returns-else-used-gt0-clause-same_held c = c.run-used.ensures.same_size

@@ -4,8 +4,8 @@ use Prim.{yes, no}
 use Rattle.cg_value.specs.Files.{KindFile}
 use Rattle.cg_value.specs.LineLaws.{file_bytes}
 use Rattle.cg_line.specs.AllowedLaws.{next_is_byte}
-use Rattle.cg_line.specs.ReadsLaws.{next_byte_is}
-use Rattle.cg_line.proofs.reader.ValueReader.goes_on.Goals as goal
+use Rattle.cg_line.specs.TookLaws.{next_byte_is}
+use Rattle.cg_line.proofs.open_reader.OpenReader.goes_on.Goals as goal
 
 pub returns-then-allows : goal.returns-then-allows
 returns-then-allows c kind taken h =
