@@ -84,6 +84,7 @@ fn text_of(alloc: Global, form: ReadForm) -> FileText
 
 impl FileText {
     /// The text of a file of this kind, of which nothing was taken. It takes no memory.
+    #[inline(always)]
     pub fn new(alloc: Global, kind: ReadKind) -> FileText
         ensures spells { Spells ⟦<FileText as Token>⟧.means result (TextsOf kind) }
         ensures size { ⟦<FileText as Token>⟧.size result ≡ 0 }
@@ -162,6 +163,7 @@ impl FileText {
 
     /// Takes a whole line with its newline from the front of `bytes`, where no line is begun; or nothing, which it may do with any
     /// line. Answers how many bytes it took.
+    #[inline(always)]
     pub fn take_front(&mut self, bytes: &[u8]) -> usize
         ensures within { result ≤ length bytes.now }
         ensures line { 0 < result → IsLineFront bytes.now result }

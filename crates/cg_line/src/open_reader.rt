@@ -33,6 +33,7 @@ impl OpenReader {
     ghost use Rattle.cg_line.specs.Took.{Took, open_held};
 
     /// A reader of a file of this kind, of which nothing was taken. It takes no memory.
+    #[inline(always)]
     pub(crate) fn new(alloc: Global, kind: ReadKind) -> OpenReader
         ensures reads { Took result kind [] }
         ensures held { open_held result ≡ 0 }
@@ -76,6 +77,7 @@ impl OpenReader {
 
     /// Takes a whole line with its newline from the front of `bytes`, where no line is begun; or nothing, which it may do with any
     /// line. Answers how many bytes it took.
+    #[inline(always)]
     pub(crate) fn push_front(&mut self, bytes: &[u8]) -> usize
         ensures within { result ≤ length bytes.now }
         ensures line { 0 < result → IsLineFront bytes.now result }
@@ -160,6 +162,7 @@ impl OpenReader {
     }
 
     /// Whether the bytes so far are a whole file. It takes no memory.
+    #[inline(always)]
     pub(crate) fn can_finish(&self) -> bool
         ensures whole { (kind : ReadForm) (taken : List ℕ) → Took self.now kind taken → (IsTrue result ↔ KindFile kind taken) }
         ensures ends { result ≡ ⟦<FileText as Token>⟧.ends self.now.text }
@@ -191,6 +194,7 @@ impl OpenReader {
     }
 
     /// The value of a whole file. It takes no memory.
+    #[inline(always)]
     pub(crate) fn into_value(self) -> Value
         requires { IsTrue (⟦<FileText as Token>⟧.ends self.text) }
         ensures { (kind : ReadForm) (taken : List ℕ) → Took self kind taken → KindText kind result taken }

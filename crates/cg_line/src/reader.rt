@@ -64,6 +64,7 @@ struct Begun {
 }
 
 /// The reader on the heap, if memory is left for it.
+#[inline(always)]
 fn boxed(alloc: Global, reader: OpenReader) -> Option<Box<OpenReader>>
     ensures { IfSome result (λ boxed. boxed.value ≡ reader) }
 {
@@ -192,6 +193,7 @@ fn empty_value(alloc: Global, kind: ReadKind) -> Option<Value>
 }
 
 /// The value of a whole file, or else the reader.
+#[inline(never)]
 fn finish_open(reader: Box<OpenReader>) -> Result<Value, State>
     ensures { (kind : ReadForm) (taken : List ℕ) → Took reader.value kind taken → IsFinished kind taken (State.Open reader) result }
 {
@@ -203,6 +205,7 @@ fn finish_open(reader: Box<OpenReader>) -> Result<Value, State>
 }
 
 /// The value of a whole file, or else the state.
+#[inline(always)]
 fn finish_state(state: State) -> Result<Value, State>
     ensures { (kind : ReadForm) (taken : List ℕ) → IsState state kind taken → IsFinished kind taken state result }
 {
@@ -253,6 +256,7 @@ impl ValueReader {
 
     /// Takes a whole line with its newline from the front of `bytes`, where no line is begun; or nothing, which it may do with any
     /// line. Answers how many bytes it took.
+    #[inline(always)]
     pub fn push_front(&mut self, bytes: &[u8]) -> usize
         ensures within { result ≤ length bytes.now }
         ensures line { 0 < result → IsLineFront bytes.now result }
@@ -268,6 +272,7 @@ impl ValueReader {
 
     /// Takes bytes from the front of `bytes` as `push` would take one after another: until a newline was taken, none is
     /// left, or one is refused or memory is.
+    #[inline(always)]
     pub fn push_run(&mut self, bytes: &[u8]) -> PushedRun
         ensures pushed { (kind : ReadForm) (taken : List ℕ) → Reads self.old kind taken → IsPushedRun self.new kind taken bytes.now result }
         ensures within { result.used ≤ length bytes.now }
@@ -332,6 +337,7 @@ impl ValueReader {
     }
 
     /// The value of a whole file, and none of other bytes, where the reader isn't wanted again. It takes no memory.
+    #[inline(always)]
     pub fn into_value(self) -> Option<Value>
         ensures { (kind : ReadForm) (taken : List ℕ) → Reads self kind taken → MatchOption result (KindFile kind taken → ⊥) (λ v. KindText kind v taken) }
     {
@@ -342,6 +348,7 @@ impl ValueReader {
     }
 
     /// The value of a whole file, or else the reader. It takes no memory.
+    #[inline(always)]
     pub fn finish(self) -> Result<Value, ReaderCut>
         ensures { (kind : ReadForm) (taken : List ℕ) → Reads self kind taken → MatchResult result (λ v. KindText kind v taken) (λ cut. (cut.reader ≡ self) × (KindFile kind taken → ⊥)) }
     {

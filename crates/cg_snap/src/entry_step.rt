@@ -62,6 +62,7 @@ fn is_lineless(value: &Value) -> bool
 }
 
 /// The entry of the whole records. There always is one.
+#[inline(always)]
 pub(crate) fn ended(present: Present) -> Option<Entry>
     ensures { (profile : Profile) (begun p : List ℕ) (es : List EntryData) (h : AtPath profile begun present p es) →
         MatchOption result ⊥ (λ e. (e.path ≡ present.path.items) × AreEntryLines profile e h.lines) }
