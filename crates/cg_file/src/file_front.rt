@@ -24,7 +24,7 @@ fn begins_empty(bytes: &[u8]) -> bool
     }
 }
 
-/// The same by the form.
+/// What `FileText::read_front` finds of a kind of this form.
 fn value_in_front(alloc: Global, form: ReadForm, bytes: &[u8]) -> Option<(Value, usize)>
     requires { IsReadForm form }
     ensures { IfSome result (λ r. IsFileFront form bytes.now r.0 r.1) }
