@@ -1,5 +1,5 @@
 -- What holds of the tokens over flat keyed files.
-use Rattle.std.proofs.Common.{◌≡◌, ℕ, ◌≤◌, ◌<◌, ◌+◌, ◌↔◌, Bool, true, false, ◌||◌, nat_eq, Option, Some, None, is_some, is_err, is_ok, Result, Ok, Err, cond, option_map, List, [], ◌∷◌, map, length, refl, sym, ◌∙◌, ap, arith, add-one}
+use Rattle.std.proofs.Common.{◌≡◌, ℕ, ◌<◌, ◌+◌, ◌↔◌, Bool, true, false, ◌||◌, nat_eq, Option, Some, None, is_some, is_err, is_ok, Result, Ok, Err, cond, option_map, List, [], ◌∷◌, map, length, refl, sym, ◌∙◌, ap, arith, add-one}
 use Rattle.std.proofs.lemmas.Bool.{cond-false, false_from_ne_true}
 use Rattle.std.proofs.lemmas.Cmp.{nat_list_eq_equiv}
 use Rattle.std.proofs.lemmas.Slice.Eq.{bytes_eq-Decides}
@@ -27,9 +27,6 @@ use Rattle.cg_file.specs.KeyedFileLaws.{key_parts, keyed_is}
 -- How pairs are turned into a file's value.
 abbrev pub flat_value : List FlatPair → Value
 flat_value ps = Flat ps
-
-pub two_few : 2 ≤ 2
-two_few = omega arith
 
 -- Keys that are looked for.
 

@@ -1,6 +1,6 @@
 -- How much is held of files, by their values.
-use Rattle.std.proofs.Common.{◌≡◌, ℕ, suc, refl, ◌+◌, ◌≤◌, ◌⊎◌, inl, inr, List, [], ◌∷◌, length, map, Result, Ok, Err, OnOk, arith}
-use Rattle.std.proofs.lemmas.List.Sums.{sum_by-cons}
+use Rattle.std.proofs.Common.{◌≡◌, ℕ, suc, refl, ◌+◌, ◌≤◌, List, [], ◌∷◌, length, map, arith}
+use Rattle.std.proofs.lemmas.List.Sums.{sum_by-cons, sum_by-le-sum_by}
 use Rattle.std.specs.List.{sum_by}
 use Rattle.cg_join.specs.Pairs.{pair_size}
 use Rattle.cg_join.specs.Repeat.{items_size}
@@ -14,18 +14,8 @@ use Rattle.cg_value.specs.declared.value.NestedPair.{NestedPair}
 use Rattle.cg_value.specs.declared.value.Value.TheVariants.{Flat, Nested}
 use Rattle.cg_join.specs.SettledLaws.{joined_bound}
 
--- What each of two gives.
-pub either : {A B P : Type 0} → (A → P) → (B → P) → A ⊎ B → P
-either f g (inl a) = f a
-either f g (inr b) = g b
-
 pub same : {A : Type 0} → A → A
 same a = a
-
--- What follows, where the result is one.
-pub on_ok_as : {A E P Q : Type 0} (r : Result A E) → (P → Q) → OnOk r P → OnOk r Q
-on_ok_as (Ok a) f h = f h
-on_ok_as (Err e) f h = h
 
 one_more : (all sum m n p q r : ℕ) → sum ≡ q + r → all ≡ 1 + m + n → m ≤ q → n ≤ p + r → all ≤ suc p + sum
 one_more all sum m n p q r e a h k = omega (arith, e, a, h, k)
@@ -82,11 +72,12 @@ pub words_held : (ws : List (List ℕ)) → joined_bound length length ws + 0 �
 words_held ws = one_place (joined_bound length length ws) (sum_by (λ w. length w + 1) ws) 0 refl (joined_within ws)
 
 -- Of flat pairs.
-more_of : (m n : ℕ) → n ≤ m + n
-more_of m n = omega arith
+more_of : (m n k : ℕ) → n ≤ k → n ≤ m + k
+more_of m n k h = omega (arith, h)
 
 pub flat_held : (ps : List FlatPair) → flat_size ps ≤ held_of_whole (Flat ps)
-flat_held ps = more_of (length (map print_flat_line ps)) (flat_size ps)
+flat_held ps = more_of (length (map print_flat_line ps)) (flat_size ps) (sum_by (λ (p : FlatPair). held_of_key p.key) ps)
+    (sum_by-le-sum_by (λ (p : FlatPair). length p.key + 1) (λ p. held_of_key p.key) ps (λ p. omega arith))
 
 -- Of nested lines.
 nested_pair : (p : NestedPair) → 1 + (length p.key + 0) ≤ held_of_key p.key

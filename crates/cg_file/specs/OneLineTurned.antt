@@ -1,5 +1,5 @@
 -- How the values of a file's only line are turned into those of files.
-use Rattle.std.specs.Prelude.{ℕ, ℤ, List, length, codes}
+use Rattle.std.specs.Prelude.{ℕ, ℤ, List, codes}
 use Rattle.cg_text.specs.declared.values.Clamp.{Clamp}
 use Rattle.cg_text.specs.declared.values.Limit.{Limit}
 use Rattle.cg_join.specs.Spelling.{IsEither}
@@ -19,11 +19,6 @@ clamp_value v = ClampOf v.0
 
 abbrev pub set_value : List (ℕ × ℕ) × Unit {0} → Value
 set_value v = Set v.0
-
--- The number of ranges in a set.
-abbrev pub set_size : Value → ℕ
-set_size (Set set) = length set
-set_size _ = 0
 
 -- Which of four words.
 abbrev pub OneOfFour : Type 0

@@ -126,9 +126,6 @@ module _ {V : Type 0} (R : List ℕ → V → Type 0) (ready : V) where
     λ h. (let k = after_byte b n rest (v.0) (v.1) (spaced_from (b ∷ rest) (v.0) (v.1) h) in (k.0, (f rest (v.1)).1 k.1)),
   )
 
-  pub perhaps_refused : (b : ℕ) → b ≢ 32 → ((rest : List ℕ) (w : V) → R (b ∷ rest) w → ⊥) → (rest : List ℕ) (v : Bool × V) → PadRest Perhaps R ready (b ∷ rest) v → ⊥
-  perhaps_refused b n none rest v h = none rest (v.1) (after_byte b n rest (v.0) (v.1) (spaced_from (b ∷ rest) (v.0) (v.1) h)).1
-
   -- ---- Which bytes begin a rest
 
   pub before_begins : (n : Bool) (b : ℕ) → IsTrue n ↔ (b ≡ 32) → IsTrue n ↔ ((rest : List ℕ) × (v : Bool × V) × PadRest Before R ready (b ∷ rest) v)

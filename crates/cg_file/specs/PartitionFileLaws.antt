@@ -20,7 +20,7 @@ use Rattle.cg_value.specs.declared.value.Role.TheVariants.{Member, Root, Isolate
 use Rattle.cg_file.specs.Kinds.{held_of_whole}
 use Rattle.cg_file.specs.OneOrBoth.{Differ}
 use Rattle.cg_file.specs.PartitionTurned.{RootValue, InvalidValue, PartitionValue, ReasonValue, IsRootWord, IsReasonText, IsInvalidText, IsRootText, IsPartitionText, root_role, root_parts}
-use Rattle.cg_file.specs.PartitionTurned.{partition_parts, partition_value, partition_size, reason_of}
+use Rattle.cg_file.specs.PartitionTurned.{partition_parts, partition_value, reason_of}
 
 -- ---- Texts
 
@@ -121,22 +121,6 @@ partition_lacking =
 -- Of a token's value, where a word of a role has a size of its own and a reason one.
 abbrev Held : (RootValue → ℕ) → (List ℕ → ℕ) → PartitionValue → ℕ
 Held f g v = either_size (λ _. 0) (λ w. f w.0 + maybe_size (λ x. maybe_size (λ y. g y.1) x.1) w.1) v
-
-reason_more : (n : ℕ) (v : Option ReasonValue) → held_of_reason (reason_of v) ≤ n + maybe_size (λ y. length y.1) v + 0
-reason_more n None = omega arith
-reason_more n (Some y) = omega arith
-
-root_more : (n : ℕ) (role : Role) (v : Option InvalidValue) → held_of_reason ((root_parts role v).2) ≤ n + maybe_size (λ x. maybe_size (λ y. length y.1) x.1) v + 0
-root_more n role None = omega arith
-root_more n role (Some x) = reason_more n x.1
-
-value_more : (f : RootValue → ℕ) (v : PartitionValue) → held_of_reason ((partition_parts v).2) ≤ Held f length v + 0
-value_more f (Left u) = omega arith
-value_more f (Right w) = root_more (f w.0) (root_role w.0) w.1
-
--- No vector is made.
-pub partition_no_more : (v : PartitionValue × Unit {0}) → partition_size (partition_value v) ≤ Held (either_size (λ _. 0) (λ _. 0)) length v.0 + 0
-partition_no_more v = value_more (either_size (λ _. 0) (λ _. 0)) v.0
 
 reason_held : (v : Option ReasonValue) → 0 + maybe_size (λ y. length y.1 + 1) v + 0 ≤ 1 + held_of_reason (reason_of v)
 reason_held None = omega arith

@@ -93,12 +93,3 @@ raw_file_held taken h =
     let n = unlines_length ls in
     let m : length (unlines ls) ≡ length taken = ap length all in
     omega (arith, n, m)
-
--- The value of a text that is ended.
-pub raw_file_value : (taken : List ℕ) (lines : List (List ℕ)) → lines ≡ lines_of taken → AreWholeLines taken → IsRawFileRest taken [] (Raw lines)
-raw_file_value taken lines e h =
-    let all = sym (append-nil taken) in
-    record { value = ap (λ ls. Raw ls) (e ∙ ap (λ t. lines_of t) all); whole = subst AreWholeLines all h; bytes = tt }
-
-pub raw_file_byte : (taken rest : List ℕ) (v : Value) (byte : ℕ) → IsRawFileRest taken (byte ∷ rest) v → 0 < byte
-raw_file_byte taken rest v byte h = h.bytes.0

@@ -1,8 +1,7 @@
 -- How the words of a file are turned into its value.
-use Rattle.std.specs.Prelude.{ℕ, true, List, [], ◌∷◌, length}
+use Rattle.std.specs.Prelude.{ℕ, true, List, [], ◌∷◌}
 use Rattle.cg_join.specs.Distinct.{AreDistinctJoined}
 use Rattle.cg_join.specs.Ready.{IsOrReady}
-use Rattle.cg_join.specs.Repeat.{out_size}
 use Rattle.cg_join.specs.Spelling.{IsConcat}
 use Rattle.cg_join.specs.TextBytes.{IsFixed}
 use Rattle.cg_join.specs.WordStartLaws.{SpellsWord}
@@ -19,8 +18,3 @@ IsWordsText text v = IsOrReady (IsConcat AreSpacedWords (IsFixed (10 ∷ []))) (
 
 abbrev pub words_value : List (List ℕ) × Unit {0} → Value
 words_value v = Words v.0
-
--- The lengths of the words, and the spaces between.
-abbrev pub words_size : Value → ℕ
-words_size (Words words) = out_size length words
-words_size _ = 0

@@ -9,7 +9,7 @@ use cg_text::{DecimalText, Key, OutOfMemory, Token, WordText};
 use cg_value::{Flat, FlatBuilder, FlatPair, Value};
 use std::alloc::Global;
 
-/// The pairs so far. A key is looked for in an index of their keys.
+/// The pairs so far.
 #[derive(Drop)]
 pub struct FlatPairs {
     building: FlatBuilder,
@@ -34,7 +34,6 @@ impl Collection<DecimalText> for FlatPairs {
 
     ghost use Rattle.std.specs.Prelude.{IsTrue, refl};
     ghost use Rattle.cg_value.specs.Flat.{flat_size};
-    ghost use Rattle.cg_file.specs.FlatFileLaws.{two_few};
 
     ghost key_of = { λ p. p.key };
 
@@ -51,8 +50,6 @@ impl Collection<DecimalText> for FlatPairs {
     ghost size = { λ s. flat_size s.building.pairs };
 
     ghost value_size = { flat_size };
-
-    ghost places = { 2 };
 
     fn has(&self, key: &WordText) -> bool {
         let taken = key.bytes();
@@ -85,8 +82,6 @@ impl Collection<DecimalText> for FlatPairs {
     fn held_in(out: &Flat) -> u64 {
         out.held()
     }
-
-    ghost few = { two_few };
 
     ghost has_key = { λ _ _. refl };
 

@@ -1,11 +1,10 @@
--- How the forks of an index grow by one.
-use Rattle.std.proofs.Common.{◌≡◌, ◌≢◌, ℕ, ◌+◌, ◌<◌, ◌≤◌, ◌^◌, ◌⊎◌, inl, inr, List, [], ◌∷◌, ◌++◌, length, get_or, set, Option, Some, None, IfSome, Bool, true, false, not}
+-- How the forks of a tree grow by one.
+use Rattle.std.proofs.Common.{◌≡◌, ◌≢◌, ℕ, ◌+◌, ◌<◌, ◌^◌, ◌⊎◌, inl, inr, List, [], ◌∷◌, ◌++◌, length, set, Option, Some, None, IfSome, Bool, true, false, not}
 use Rattle.std.proofs.Common.{refl, sym, ap, ◌∙◌, arith}
 use Rattle.std.proofs.Math.ListN.{length-set}
 use Rattle.std.proofs.Math.Seq.{get_or-append_seam}
 use Rattle.std.proofs.lemmas.Bool.{cases_lt, cases_order}
 use Rattle.std.proofs.lemmas.List.{nil_from_length, get_or_append_left, length_push, get_or-set_other, get_or-set_same}
-use Rattle.cg_index.specs.Packed.{place_of}
 use Rattle.cg_index.specs.Position.{number, side}
 use Rattle.cg_index.specs.declared.position.Position.{Position}
 use Rattle.cg_index.specs.declared.fork.Fork.{Fork}
@@ -13,7 +12,7 @@ use Rattle.cg_index.specs.declared.fork.Edge.{Edge}
 use Rattle.cg_index.specs.declared.fork.Link.{Link}
 use Rattle.cg_index.specs.declared.fork.Link.TheVariants as link
 use Rattle.cg_index.specs.Tree.{at, child, way, turned, fork_at, no_fork, key_at, IsBelow, IsTree, stop, Leads, IsOf, IsStep, IsFrom, IsTurn, IsEdge, IsParting, IsRedirected, led_from, root_from, Indexed, Indexes, IsNear, IsSeat}
-use Rattle.cg_index.specs.TreeLaws.{IsGrown, IsFirst, IsFound, StandsFor, side_cases, nearest_within, above, fork_here, IsTree-grown, IsOf-grown}
+use Rattle.cg_index.specs.TreeLaws.{IsGrown, IsFirst, IsFound, StandsFor, side_cases, nearest_within, above, IsTree-grown, IsOf-grown}
 
 -- The fork that is added is the last.
 
@@ -233,12 +232,6 @@ first_of fork key = record {
   agree = λ f j k p some h m w r s less. absurd (omega (arith, some, h));
 }
 
--- A fork is turned where it lies.
-pub turned_at_place : (forks : List Fork) (place : ℕ) (fork new : Fork) (digit : Bool) (l : Link) → place < length forks → fork ≡ get_or forks place fork →
-    new ≡ turned fork digit l → set forks place new ≡ set forks place (turned (fork_at forks place) digit l)
-turned_at_place forks place fork new digit l h is new_is =
-    ap (set forks place) (new_is ∙ ap (λ (x : Fork). turned x digit l) (sym (fork_here forks place fork h is)))
-
 -- Seats.
 
 redirected_at : (forks : List Fork) (root : Link) (key : List ℕ) (from : Option ℕ) (digit : Bool) (l : Link) → IsTurn forks key from digit →
@@ -250,29 +243,12 @@ from_within : (forks : List Fork) (root : Link) (key : List ℕ) (position : ℕ
 from_within forks root key position None to from = tt
 from_within forks root key position (Some f) to from = from.within
 
--- The links of a new fork lead to what is there, and to the new key.
-
-below_place : (forks : List Fork) (low : ℕ) (l : Link) → IsBelow forks low l → place_of l ≤ length forks
-below_place forks low (link.Key k) below = omega (arith, below)
-below_place forks low (link.Fork f) below = omega (arith, below.1)
-
-parting_links : (fork : Fork) (key : List ℕ) (position : Position) (n : ℕ) (to : Link) (most : ℕ) → IsParting fork key position (link.Key n) to → n ≤ most → place_of to ≤ most → n ≤ most →
-    (place_of fork.zero ≤ most) × (place_of fork.one ≤ most) × (n ≤ most)
-parting_links fork key position n to most parting own other new =
-    let go : (digit : Bool) → way fork digit ≡ link.Key n → way fork (not digit) ≡ to → (place_of fork.zero ≤ most) × (place_of fork.one ≤ most) =
-    elim [
-      | true ↦ λ a b. (rw b other, rw a own)
-      | false ↦ λ a b. (rw a own, rw b other)
-    ] in
-    let both = go (side key (number position)) parting.to_own parting.to_other in
-    (both.0, both.1, new)
-
 -- The seat that the edge gives.
 pub edge_seat : (view : Indexed) (keys : List (List ℕ)) (key near : List ℕ) (position : Position) (edge : Edge) (n : ℕ) (fork : Fork) →
-    IsTree view.forks view.root → Indexes view keys → IsNear view keys key near → n ≡ length view.forks → 0 < length view.forks →
+    Indexes view keys → IsNear view keys key near → n ≡ length view.forks → 0 < length view.forks →
     IsFirst key near (number position) → IsEdge view.forks view.root key (number position) edge → IsParting fork key position (link.Key n) edge.to →
     position.digit < 8 → position.byte < 2 ^ 64 → IsSeat view keys key (record { fork = fork; from = edge.from; digit = edge.digit; link = link.Fork n })
-edge_seat view keys key near position edge n fork tree of is_near count some first along parting digit byte =
+edge_seat view keys key near position edge n fork of is_near count some first along parting digit byte =
     let inserted : IsInserted view.forks view.root key near position edge n (led_from view.forks edge.from edge.digit (link.Fork n)) (root_from view.root edge.from (link.Fork n)) fork = record {
       count = count;
       some = some;
@@ -283,10 +259,9 @@ edge_seat view keys key near position edge n fork tree of is_near count some fir
     } in
     let known = known_in view key near of is_near some in
     record {
-      links = parting_links fork key position n edge.to (length view.forks) parting (omega (arith, count)) (below_place view.forks (number position) edge.to along.behind) (omega (arith, count));
       within = from_within view.forks view.root key (number position) edge.from edge.to along.from;
-      tree = inserted_tree tree inserted known digit byte;
-      of = inserted_of tree inserted known;
+      tree = inserted_tree of.sound inserted known digit byte;
+      of = inserted_of of.sound inserted known;
     }
 
 first_tree : IsTree (no_fork ∷ []) (link.Key 0)
@@ -305,7 +280,6 @@ first_seat view keys key fork of none is =
     let no_keys = nil_from_length keys (sym of.tree.count ∙ none) in
     rw is (record {
       within = tt;
-      links = (omega arith, omega arith, omega arith);
       tree = rw no_forks first_tree;
       of = rw (no_forks, no_keys) (first_of no_fork key);
     })

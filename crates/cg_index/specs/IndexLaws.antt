@@ -1,15 +1,9 @@
--- What holders of keys cite of an index.
+-- What holders of keys cite of a tree.
 use Rattle.std.proofs.Common.{◌≡◌, ◌≢◌, ℕ, zero, suc, ◌<◌, List, [], ◌∷◌, length, get_or, Option, Some, None, is_none, IfSome, true, ◌==◌, sym, ap, ◌∙◌, arith}
 use Rattle.std.proofs.lemmas.Bool.Decides.{nat_tests}
 use Rattle.cg_text.specs.Word.{AreWordBytes}
 use Rattle.cg_index.specs.Position.{HasNoZero}
-use Rattle.cg_index.specs.declared.fork.Seat.{Seat}
-use Rattle.cg_index.specs.Tree.{Indexed, Indexes, IsNear, IsNearest, IsOnlyFor, IsSameBut, IsSeat, key_at}
-
--- The bytes are the key at the place, and none of no place.
-abbrev pub IsKeyThere : List (List ℕ) → Option ℕ → List ℕ → Type 0
-IsKeyThere keys None bytes = bytes ≡ []
-IsKeyThere keys (Some place) bytes = bytes ≡ key_at keys place
+use Rattle.cg_index.specs.Tree.{Indexed, Indexes, IsKeyThere, IsNear, IsNearest, IsOnlyFor, key_at}
 
 pub no_length : (n : ℕ) → true ≡ (n == 0) → n ≡ 0
 no_length n e = grind (arith, nat_tests)
@@ -17,21 +11,6 @@ no_length n e = grind (arith, nat_tests)
 pub some_length : (seen n : ℕ) → seen ≡ n → (seen ≡ 0 → ⊥) → 0 < n
 some_length seen zero e h = absurd (h e)
 some_length seen (suc n) e h = omega arith
-
--- What is the same but for the room is the index of the same keys.
-pub same_indexes : {old new : Indexed} → IsSameBut old new → {keys : List (List ℕ)} → Indexes old keys → Indexes new keys
-same_indexes same of = record {
-  tree = rw (same.forks, same.root) of.tree;
-}
-
--- A seat stays one.
-pub same_seat : {old new : Indexed} → IsSameBut old new → {keys : List (List ℕ)} {key : List ℕ} {seat : Seat} → IsSeat old keys key seat → IsSeat new keys key seat
-same_seat same is = record {
-  within = rw (same.forks) is.within;
-  links = rw (same.forks) is.links;
-  tree = rw (same.forks, same.root) is.tree;
-  of = rw (same.forks, same.root) is.of;
-}
 
 module _ {index : Indexed} {keys : List (List ℕ)} (of : Indexes index keys) (near : Option ℕ) (there key : List ℕ) where
   -- The key there is the one that is looked for, which isn't empty: it has a place among the keys.
@@ -56,14 +35,13 @@ module _ {index : Indexed} {keys : List (List ℕ)} (of : Indexes index keys) (n
             apart (i ∙ ap (key_at keys) (sym same) ∙ e))
       ] none only is
 
-  -- The key there is the nearest one, also where room has been made.
-  pub near_is : {new : Indexed} → IsSameBut index new → is_none near ≡ (length index.forks == 0) → IfSome near (IsNearest index key) →
-      IsKeyThere keys near there → IsNear new keys key there
-  near_is {new} same none nearest is = λ some. elim near as
+  -- The key there is the nearest one.
+  pub near_is : is_none near ≡ (length index.forks == 0) → IfSome near (IsNearest index key) → IsKeyThere keys near there → IsNear index keys key there
+  near_is none nearest is = λ some. elim near as
       (λ near. is_none near ≡ (length index.forks == 0) → IfSome near (IsNearest index key) → IsKeyThere keys near there →
-      (k : ℕ) × IsNearest new key k × (key_at keys k ≡ there)) [
+      (k : ℕ) × IsNearest index key k × (key_at keys k ≡ there)) [
         | None ↦ λ n o i. absurd (omega (arith, of.tree.count, no_length (length index.forks) n, some))
-        | Some place ↦ λ n o i. (place, rw (same.forks, same.root) o, sym i)
+        | Some place ↦ λ n o i. (place, o, sym i)
       ] none nearest is
 
 -- Words have no byte 0.

@@ -1,14 +1,13 @@
+pub mod CellLaws
+pub mod Cells
 pub mod GrownLaws
 pub mod IndexLaws
 pub mod Keyed
 pub mod KeyedLaws
 pub mod Marked
 pub mod MarkedLaws
-pub mod Packed
 pub mod PlaceLaws
 pub mod Position
 pub mod PositionLaws
-pub mod Table
-pub mod TableLaws
 pub mod Tree
 pub mod TreeLaws

@@ -1,7 +1,6 @@
--- The tree of an index, and the keys of which it is the index.
-use Rattle.std.specs.Prelude.{◌≡◌, ℕ, ◌+◌, ◌<◌, ◌≤◌, ◌^◌, List, [], ◌∷◌, ◌++◌, Bool, Option, Some, None, IfSome, if◌then◌else◌, length, slice_index_or, slice_set, not, nat_lt}
+-- The tree of keys: where a walk by the digits of a key leads, and which keys it is of.
+use Rattle.std.specs.Prelude.{◌≡◌, ℕ, ◌+◌, ◌<◌, ◌≤◌, ◌^◌, List, [], ◌∷◌, ◌++◌, Bool, Option, Some, None, IfSome, if◌then◌else◌, length, slice_index_or, slice_set, not}
 use Rattle.cg_index.specs.Position.{number, side}
-use Rattle.cg_index.specs.Packed.{place_of}
 use Rattle.cg_index.specs.declared.position.Position.{Position}
 use Rattle.cg_index.specs.declared.fork.Fork.{Fork}
 use Rattle.cg_index.specs.declared.fork.Edge.{Edge}
@@ -9,18 +8,12 @@ use Rattle.cg_index.specs.declared.fork.Seat.{Seat}
 use Rattle.cg_index.specs.declared.fork.Link.{Link}
 use Rattle.cg_index.specs.declared.fork.Link.TheVariants as link
 
--- What contracts see of an index.
+-- The forks of a tree and its root.
 pub record Indexed : Type 0 where
   -- The forks that came with the keys, in the order of the keys. That of the first key counts for nothing.
   pub forks : List Fork
   -- Where a walk begins.
   pub root : Link
-  -- Up to how many keys in all take no memory.
-  pub room : ℕ
-
--- Whether one more key takes no memory.
-abbrev pub has_room : Indexed → Bool
-has_room index = nat_lt (length index.forks) index.room
 
 -- Where keys with this digit go on.
 abbrev pub way : Fork → Bool → Link
@@ -110,22 +103,23 @@ pub record IsOf (forks : List Fork) (root : Link) (keys : List (List ℕ)) : Typ
       Reaches forks (link.Fork f) (link.Key j) → Reaches forks (link.Fork f) (link.Key k) → p < at forks f →
       side (key_at keys j) p ≡ side (key_at keys k) p
 
--- It is the index of these keys.
+-- It is the tree of these keys.
 pub record Indexes (index : Indexed) (keys : List (List ℕ)) : Type 0 where
+  pub sound : IsTree index.forks index.root
   pub tree : IsOf index.forks index.root keys
 
 -- The walk by the sides of the key leads to the key of this number.
 abbrev pub IsNearest : Indexed → List ℕ → ℕ → Type 0
 IsNearest index key k = Leads index.forks key index.root k
 
--- Of whichever keys it is the index, none but the key of this number can be this key.
+-- Of whichever keys it is the tree, none but the key of this number can be this key.
 abbrev pub IsOnlyFor : Indexed → List ℕ → ℕ → Type 0
 IsOnlyFor index key k = (keys : List (List ℕ)) → Indexes index keys → (j : ℕ) → j < length keys → key_at keys j ≡ key → j ≡ k
 
--- The same but for the room.
-pub record IsSameBut (old new : Indexed) : Type 0 where
-  pub forks : new.forks ≡ old.forks
-  pub root : new.root ≡ old.root
+-- The bytes are the key at the place, and none of no place.
+abbrev pub IsKeyThere : List (List ℕ) → Option ℕ → List ℕ → Type 0
+IsKeyThere keys None bytes = bytes ≡ []
+IsKeyThere keys (Some place) bytes = bytes ≡ key_at keys place
 
 -- To whichever of the keys the walk by the sides of the key leads, it is this one.
 abbrev pub IsNear : Indexed → List (List ℕ) → List ℕ → List ℕ → Type 0
@@ -154,9 +148,8 @@ pub record IsEdge (forks : List Fork) (root : Link) (key : List ℕ) (position :
   pub behind : IsBelow forks position edge.to
   pub leads : (k : ℕ) → Leads forks key root k → Leads forks key edge.to k
 
--- The seat is one of the key in the index of these keys: where it is taken, the tree is one of these keys and this one.
+-- The seat is one of the key in the tree of these keys: where it is taken, the tree is one of these keys and this one.
 pub record IsSeat (index : Indexed) (keys : List (List ℕ)) (key : List ℕ) (seat : Seat) : Type 0 where
   pub within : IfSome seat.from (λ f. f < length index.forks)
-  pub links : (place_of seat.fork.zero ≤ length index.forks) × (place_of seat.fork.one ≤ length index.forks) × (place_of seat.link ≤ length index.forks)
   pub tree : IsTree (led_forks index.forks seat ++ seat.fork ∷ []) (led_root index.root seat)
   pub of : IsOf (led_forks index.forks seat ++ seat.fork ∷ []) (led_root index.root seat) (keys ++ key ∷ [])

@@ -1,5 +1,5 @@
--- What follows for the tree of an index, and what becomes of it where a key is added.
-use Rattle.std.proofs.Common.{◌≡◌, ℕ, zero, suc, ◌+◌, ◌-◌, ◌<◌, ◌≤◌, ◌^◌, ◌⊎◌, inl, inr, List, [], ◌∷◌, ◌++◌, length, get_or, Some, Bool, true, false, not, IsTrue}
+-- What follows for the tree of keys, and what becomes of it where a key is added.
+use Rattle.std.proofs.Common.{◌≡◌, ℕ, ◌+◌, ◌-◌, ◌<◌, ◌≤◌, ◌^◌, ◌⊎◌, inl, inr, List, [], ◌∷◌, ◌++◌, length, Some, Bool, true, false, not, IsTrue}
 use Rattle.std.proofs.Common.{refl, sym, ap, subst, ◌∙◌, arith}
 use Rattle.std.proofs.Math.Seq.{get_or-append_seam}
 use Rattle.std.proofs.lemmas.Bool.{cases_lt, cases_order}
@@ -401,14 +401,6 @@ module _ {forks : List Fork} {root : Link} (tree : IsTree forks root) (f : ℕ) 
   goes_on l is = rw is (below_weaker forks (at forks f + 1) 0 (child forks f digit) (omega arith) (tree.rising f digit some within))
 
 -- What is read of a fork.
-
-fork_read : (forks : List Fork) (i : ℕ) (d : Fork) → i < length forks → fork_at forks i ≡ get_or forks i d
-fork_read [] i d h = absurd (omega (arith, h))
-fork_read (x ∷ xs) zero d h = refl
-fork_read (x ∷ xs) (suc i) d h = fork_read xs i d (omega (arith, h))
-
-pub fork_here : (forks : List Fork) (i : ℕ) (fork : Fork) → i < length forks → fork ≡ get_or forks i fork → fork_at forks i ≡ fork
-fork_here forks i fork h is = fork_read forks i fork h ∙ sym is
 
 module _ (forks : List Fork) (f : ℕ) (fork : Fork) (read : fork_at forks f ≡ fork) where
   pub at_read : at forks f ≡ number fork.at

@@ -1,10 +1,10 @@
-//! The forks of an index, and walks over them.
-ghost use Rattle.std.specs.Prelude.{◌≡◌, ◌<◌, length, vec_len, vec_capacity, IfSome};
+//! The forks of the tree of keys, and walks over them.
+ghost use Rattle.std.specs.Prelude.{◌≡◌, ◌<◌, ◌++◌, ◌∷◌, [], length, map, vec_len, vec_capacity, IfSome};
 ghost use Rattle.cg_index.specs.Position.{number, side};
-ghost use Rattle.cg_index.specs.Packed.{most_keys, place_of};
-ghost use Rattle.cg_index.specs.Tree.{no_fork, IsTree, IsEdge, IsParting, Leads, led_forks, led_root};
+ghost use Rattle.cg_index.specs.Cells.{item_of, fork_of};
+ghost use Rattle.cg_index.specs.Tree.{no_fork, IsTree, IsEdge, IsParting, Leads, way, turned, led_forks, led_root};
 
-use crate::packed::Packed;
+use crate::cell::Cell;
 use crate::position::{Position, side};
 
 /// Where a walk goes on.
@@ -54,6 +54,32 @@ impl Fork {
             }
         }
     }
+
+    /// Where a key with this digit goes on.
+    pub(crate) fn toward(self, digit: bool) -> Link
+        ensures { result ≡ way self digit }
+    {
+        if digit { self.one } else { self.zero }
+    }
+
+    /// The fork from which keys with this digit go on elsewhere.
+    pub(crate) fn turned(self, digit: bool, link: Link) -> Fork
+        ensures { result ≡ turned self digit link }
+    {
+        if digit {
+            Fork {
+                at: self.at,
+                zero: self.zero,
+                one: link,
+            }
+        } else {
+            Fork {
+                at: self.at,
+                zero: link,
+                one: self.one,
+            }
+        }
+    }
 }
 
 /// The last step of a walk before a position.
@@ -66,7 +92,7 @@ pub(crate) struct Edge {
     pub(crate) to: Link,
 }
 
-/// Where a key goes into an index.
+/// Where a key goes into a tree.
 #[derive(Clone, Copy, Debug)]
 pub(crate) struct Seat {
     /// The fork that comes with the key.
@@ -80,30 +106,30 @@ pub(crate) struct Seat {
 }
 
 /// The key to which a walk by the sides of this one leads.
-pub(crate) fn key_of_walk(forks: &[Packed], root: Link, key: &[u8]) -> usize
-    requires tree { IsTree forks.now root }
-    requires some { 0 < length forks.now }
-    ensures within { result < length forks.now }
-    ensures leads { Leads forks.now key.now root result }
+pub(crate) fn key_of_walk<T>(cells: &[Cell<T>], root: Link, key: &[u8]) -> usize
+    requires tree { IsTree (map fork_of cells.now) root }
+    requires some { 0 < length cells.now }
+    ensures within { result < length cells.now }
+    ensures leads { Leads (map fork_of cells.now) key.now root result }
 {
     let mut link = root;
     loop {
         match link {
             Link::Key(place) => return place,
             Link::Fork(place) => {
-                let fork = &forks[place];
-                link = fork.toward(side(key, fork.at()));
+                let fork = cells[place].fork;
+                link = fork.toward(side(key, fork.at));
             }
         }
     }
 }
 
 /// The last step, before the position, of a walk by the sides of the key.
-pub(crate) fn edge_before(forks: &[Packed], root: Link, key: &[u8], at: Position) -> Edge
-    requires tree { IsTree forks.now root }
-    requires some { 0 < length forks.now }
+pub(crate) fn edge_before<T>(cells: &[Cell<T>], root: Link, key: &[u8], at: Position) -> Edge
+    requires tree { IsTree (map fork_of cells.now) root }
+    requires some { 0 < length cells.now }
     requires digit { at.digit < 8 }
-    ensures { IsEdge forks.now root key.now (number at) result }
+    ensures { IsEdge (map fork_of cells.now) root key.now (number at) result }
 {
     let mut edge = Edge {
         from: None,
@@ -111,11 +137,11 @@ pub(crate) fn edge_before(forks: &[Packed], root: Link, key: &[u8], at: Position
         to: root,
     };
     while let Link::Fork(place) = edge.to {
-        let fork = &forks[place];
-        if !fork.at().is_before(at) {
+        let fork = cells[place].fork;
+        if !fork.at.is_before(at) {
             break;
         }
-        let digit = side(key, fork.at());
+        let digit = side(key, fork.at);
         edge = Edge {
             from: Some(place),
             digit,
@@ -126,18 +152,18 @@ pub(crate) fn edge_before(forks: &[Packed], root: Link, key: &[u8], at: Position
 }
 
 /// Lets the step that the seat names go on at the seat's link. It returns the new root.
-pub(crate) fn redirect(forks: &mut Vec<Packed>, root: Link, seat: Seat) -> Link
-    requires from { IfSome seat.from (λ f. f < length forks.old.items) }
-    requires link { place_of seat.link < most_keys }
-    ensures forks { forks.new.items ≡ led_forks forks.old.items seat }
+pub(crate) fn redirect<T: Drop>(cells: &mut Vec<Cell<T>>, root: Link, seat: Seat) -> Link
+    requires { IfSome seat.from (λ f. f < length cells.old.items) }
+    ensures items { map item_of cells.new.items ≡ map item_of cells.old.items }
+    ensures forks { map fork_of cells.new.items ≡ led_forks (map fork_of cells.old.items) seat }
     ensures root { result ≡ led_root root seat }
-    ensures len { vec_len forks.new ≡ vec_len forks.old }
-    ensures capacity { vec_capacity forks.new ≡ vec_capacity forks.old }
+    ensures len { vec_len cells.new ≡ vec_len cells.old }
+    ensures capacity { vec_capacity cells.new ≡ vec_capacity cells.old }
 {
     match seat.from {
         None => seat.link,
         Some(place) => {
-            forks[place].turn(seat.digit, seat.link);
+            cells[place].fork = cells[place].fork.turned(seat.digit, seat.link);
             root
         }
     }

@@ -1,12 +1,11 @@
-//! An index of distinct keys, and items that are found by their keys.
+//! Items that are found by their keys, which are all different.
 #![tactic(auto)]
 
+mod cell;
 mod fork;
-mod index;
 pub mod keyed;
-mod packed;
 mod position;
-mod table;
+mod tree;
 
-pub use index::KeyIndex;
+pub use cell::Cell;
 pub use keyed::{Change, HasKey, KeyedBuilder, KeyedItems, Refused};

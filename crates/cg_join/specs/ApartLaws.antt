@@ -1,32 +1,19 @@
 -- Texts that stand one after another in one way.
-use Rattle.std.proofs.Common.{◌≡◌, ℕ, ◌≤◌, List, [], ◌∷◌, ◌++◌, sym, ◌∙◌, append_assoc, arith}
+use Rattle.std.proofs.Common.{◌≡◌, ℕ, List, [], ◌∷◌, ◌++◌, sym, ◌∙◌, append_assoc}
 use Rattle.std.proofs.lemmas.List.{append_cancel_left}
-use Rattle.cg_text.specs.AboveSpace.{AreAboveSpace}
 use Rattle.cg_text.specs.Texts.{Lacks}
 use Rattle.cg_text.specs.TextsLaws.{only_at_end}
 use Rattle.cg_join.specs.Line.{IsLine}
 use Rattle.cg_text.specs.Token.{Spells}
 use Rattle.cg_join.specs.Join.{AreApart}
 use Rattle.cg_join.specs.Spelling.{IsConcat, IsTurned, Apart, apart_spells}
-use Rattle.cg_join.specs.TextBytes.{IsFixed, HasOnly, BeginsBy, Lacking}
-use Rattle.cg_join.specs.BeginsLaws.{above_only, label_begins}
+use Rattle.cg_join.specs.TextBytes.{IsFixed, BeginsBy, Lacking}
+use Rattle.cg_join.specs.BeginsLaws.{label_begins}
 
 module _ {V W : Type 0} {R : List ℕ → V → Type 0} {Q : List ℕ → W → Type 0} where
   -- The one lacks the byte with which the other begins.
   pub lacking_apart : {b : ℕ} → Lacking R b → BeginsBy (λ c. c ≡ b) Q → Apart R Q
   lacking_apart {b} lacks first front more back byte v u w h k l = let e : byte ≡ b = first.is byte back w l in lacks.is front more u (rw e at k)
-
-  -- The one has only bytes with none of which the other begins.
-  pub only_apart : {F G : ℕ → Type 0} → HasOnly F R → BeginsBy G Q → ((c : ℕ) → F c → G c → ⊥) → Apart R Q
-  only_apart only first none front more back byte v u w h k l = none byte (only.is front more byte u k) (first.is byte back w l)
-
-  -- The one has only bytes above the space, and the other begins with none.
-  pub above_apart : ((text : List ℕ) (v : V) → R text v → AreAboveSpace text) → BeginsBy (λ c. c ≤ 32) Q → Apart R Q
-  above_apart above first front more back byte v u w h k l = omega (arith, (above_only R above).is front more byte u k, first.is byte back w l)
-
-  -- The one has only digits, and the other begins with none.
-  pub digits_apart : {G : ℕ → Type 0} → HasOnly (λ c. (48 ≤ c) × (c ≤ 57)) R → BeginsBy G Q → ((c : ℕ) → 48 ≤ c → c ≤ 57 → G c → ⊥) → Apart R Q
-  digits_apart only first none front more back byte v u w h k l = let d = only.is front more byte u k in none byte d.0 d.1 (first.is byte back w l)
 
   -- A fixed text, and what it leads, lack no byte between: the other begins with a byte that the rest of the one lacks.
   pub labelled_apart : {b : ℕ} {fixed : List ℕ} → Lacking R b → BeginsBy (λ c. c ≡ b) Q → Apart (IsConcat (IsFixed fixed) R) Q
@@ -72,14 +59,6 @@ ended_apart {b = b} Q lacks front more back byte v u w h k l =
 -- A line goes on with nothing.
 pub lines_apart : {V W X : Type 0} {R : List ℕ → V → Type 0} (f : V × Unit {0} → X) (Q : List ℕ → W → Type 0) → Lacking R 10 → Apart (IsTurned (IsLine R) f) Q
 lines_apart f Q lacks front more back byte v u w h k l = ended lacks h.1.front k.1.front front more byte k.0.0 k.1.spells h.1.whole k.1.whole
-
--- States whose texts go on with nothing, before any other.
-module _ {S T U W : Type 0} {B : T → List ℕ → W → Type 0} {s : S} {t : T} {Q : List ℕ → W → Type 0} where
-  pub ended_spells : {A : S → List ℕ → U × Unit {0} → Type 0} {R : List ℕ → U → Type 0} {b : ℕ} → Spells A s (IsConcat R (IsFixed (b ∷ []))) → Spells B t Q → Lacking R b → AreApart A B s t
-  ended_spells a b lacks = apart_spells a b (ended_apart Q lacks)
-
-  pub line_spells_apart : {V : Type 0} {A : S → List ℕ → V → Type 0} {R : List ℕ → U → Type 0} {f : U × Unit {0} → V} → Spells A s (IsTurned (IsLine R) f) → Spells B t Q → Lacking R 10 → AreApart A B s t
-  line_spells_apart {f = f} a b lacks = apart_spells a b (lines_apart f Q lacks)
 
 pub fixed_spells : {S T W : Type 0} {A : S → List ℕ → Unit {0} → Type 0} {B : T → List ℕ → W → Type 0} {s : S} {t : T} {Q : List ℕ → W → Type 0} {fixed : List ℕ} → Spells A s (IsFixed fixed) → Spells B t Q → AreApart A B s t
 fixed_spells {Q = Q} {fixed = fixed} a b = apart_spells a b (fixed_apart fixed Q)

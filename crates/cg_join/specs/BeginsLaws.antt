@@ -1,16 +1,11 @@
 -- The bytes with which texts begin, by their parts.
-use Rattle.std.proofs.Common.{◌≡◌, ℕ, ◌≤◌, ◌<◌, inl, inr, List, [], ◌∷◌, ◌++◌, Option, Some, None, refl, arith, ◌≢◌, sym, ◌∙◌}
-use Rattle.cg_text.specs.AboveSpace.{AreAboveSpace}
-use Rattle.cg_text.specs.AboveSpaceLaws.{above_inside}
+use Rattle.std.proofs.Common.{◌≡◌, ℕ, ◌≤◌, inl, inr, List, [], ◌∷◌, ◌++◌, Option, Some, None, refl, arith, ◌≢◌, sym, ◌∙◌}
 use Rattle.cg_text.specs.Decimal.{IsDecimal, IsNumeral}
 use Rattle.cg_text.specs.DecimalLaws.{number_digits}
-use Rattle.cg_text.specs.Device.{IsDevice}
 use Rattle.cg_text.specs.Size.{HasSize, IsSize}
 use Rattle.cg_text.specs.declared.decimal.Progress.TheVariants.{Start}
 use Rattle.cg_join.specs.FilledLaws.{fixed_filled, first_filled}
 use Rattle.cg_join.specs.Maybe.{IsMaybe}
-use Rattle.cg_join.specs.Pairs.{AreLed, ArePairs}
-use Rattle.cg_join.specs.Ready.{IsOrReady}
 use Rattle.cg_join.specs.Repeat.{AreJoined}
 use Rattle.cg_join.specs.Distinct.{AreDistinctJoined}
 use Rattle.cg_join.specs.Spelling.{IsConcat, IsEither, IsTurned}
@@ -18,10 +13,6 @@ use Rattle.cg_join.specs.StartLaws.{digit_inside}
 use Rattle.cg_join.specs.TextBytes.{IsFixed, HasOnly, BeginsBy, Filled}
 use Rattle.cg_join.specs.declared.choice.Either.{Either}
 use Rattle.cg_join.specs.declared.choice.Either.TheVariants.{Left, Right}
-
--- Texts whose bytes are above the space.
-pub above_only : {V : Type 0} (R : List ℕ → V → Type 0) → ((text : List ℕ) (v : V) → R text v → AreAboveSpace text) → HasOnly (λ c. 32 < c) R
-above_only R f = record { is = λ front more byte v h. above_inside byte front more (f (front ++ byte ∷ more) v h) }
 
 -- A number's text has digits alone.
 pub digits_only : (lo hi : ℕ) → HasOnly (λ c. (48 ≤ c) × (c ≤ 57)) (λ text n. IsDecimal lo hi n text)
@@ -56,9 +47,6 @@ cut_begins n byte back (x ∷ xs) ys e h = let s : x ≡ byte = cc in rw s at (n
 -- A number, a device and a size begin with a digit.
 pub decimal_begins : (lo hi : ℕ) → BeginsBy (λ c. (48 ≤ c) × (c ≤ 57)) (λ text n. IsDecimal lo hi n text)
 decimal_begins lo hi = only_begins (digits_only lo hi)
-
-pub device_begins : BeginsBy (λ c. (48 ≤ c) × (c ≤ 57)) (λ text v. IsDevice v text)
-device_begins = record { is = λ byte back v h. cut_begins v.major byte back h.major (58 ∷ h.minor) h.text_is h.major_is.2 }
 
 pub size_begins : BeginsBy (λ c. (48 ≤ c) × (c ≤ 57)) (λ text n. IsSize n text)
 size_begins = record { is = λ byte back n h. at_size h.count h.factor byte back h.spelled }
@@ -110,9 +98,6 @@ module _ {V : Type 0} {F : ℕ → Type 0} {R : List ℕ → V → Type 0} where
       at_maybe byte back None h = absurd (let e : byte ∷ back ≡ [] = h in cc)
       at_maybe byte back (Some v) h = f.is byte back v h
 
-  pub or_ready_begins : {value : V} → BeginsBy F R → BeginsBy F (IsOrReady R value)
-  or_ready_begins f = record { is = λ byte back v. elim [ inl h ↦ f.is byte back v h | inr h ↦ absurd (let e : byte ∷ back ≡ [] = h.0 in cc) ] }
-
   joined_at : (separator : ℕ) → Filled R → BeginsBy F R → (byte : ℕ) (back : List ℕ) (vs : List V) → AreJoined R separator (byte ∷ back) vs → F byte
   joined_at separator some f byte back [] h = absurd h
   joined_at separator some f byte back (v ∷ []) h = f.is byte back v h
@@ -125,11 +110,3 @@ module _ {V : Type 0} {F : ℕ → Type 0} {R : List ℕ → V → Type 0} where
 
   pub distinct_begins : (separator : ℕ) → Filled R → BeginsBy F R → BeginsBy F (AreDistinctJoined R separator)
   distinct_begins separator some f = record { is = λ byte back vs h. joined_at separator some f byte back vs h.0 }
-
--- Pairs begin with the separator.
-pub pairs_begin : {V X : Type 0} {word : X → V} {R : List ℕ → X → Type 0} (separator : ℕ) → BeginsBy (λ c. c ≡ separator) (ArePairs word R separator)
-pairs_begin {word = word} {R = R} separator = record { is = λ byte back ps h. led_at byte back ps h.0 }
-  where
-    led_at : (byte : ℕ) (back : List ℕ) (ps : List _) → AreLed R separator (byte ∷ back) ps → byte ≡ separator
-    led_at byte back [] h = absurd (let e : byte ∷ back ≡ [] = h in cc)
-    led_at byte back (p ∷ ps) h = let e : byte ∷ back ≡ separator ∷ h.0 = h.1 in cc

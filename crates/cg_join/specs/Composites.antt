@@ -53,19 +53,6 @@ IsWrittenQuota text v = IsConcat (IsLimitIn 1000 18446744073709551615) (IsMaybe 
 abbrev pub IsDeviceTarget : List ℕ → Device × (Unit {0} × ℕ) → Type 0
 IsDeviceTarget text v = IsConcat IsADevice (IsLabelled keyword.Target IsAnyNumber) text v
 
--- A device, a space and its weight.
-abbrev pub IsDeviceWeight : List ℕ → Device × (Unit {0} × ℕ) → Type 0
-IsDeviceWeight text v = IsConcat IsADevice (IsSpaced (IsNumberIn 1 10000)) text v
-
--- Four limits, each with its label.
-abbrev pub AreFourLimits : List ℕ → (Unit {0} × Limit) × ((Unit {0} × Limit) × ((Unit {0} × Limit) × (Unit {0} × Limit))) → Type 0
-AreFourLimits text v =
-    IsConcat (IsLabelled keyword.Rbps IsAnyLimit) (IsConcat (IsLabelled keyword.Wbps IsAnyLimit) (IsConcat (IsLabelled keyword.Riops IsAnyLimit) (IsLabelled keyword.Wiops IsAnyLimit))) text v
-
--- A device and its four limits.
-abbrev pub IsDeviceLimits : List ℕ → Device × ((Unit {0} × Limit) × ((Unit {0} × Limit) × ((Unit {0} × Limit) × (Unit {0} × Limit)))) → Type 0
-IsDeviceLimits text v = IsConcat IsADevice AreFourLimits text v
-
 -- Three averages and a total, each with its label.
 abbrev pub AreAverages : List ℕ → (Unit {0} × Hundredths) × ((Unit {0} × Hundredths) × ((Unit {0} × Hundredths) × (Unit {0} × ℕ))) → Type 0
 AreAverages text v =

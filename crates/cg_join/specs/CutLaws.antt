@@ -3,7 +3,7 @@ use Rattle.std.proofs.Common.{◌≡◌, ℕ, ◌↔◌, List, [], ◌++◌, Som
 use Rattle.std.proofs.lemmas.List.{append-nil}
 use Rattle.cg_text.specs.Token.{Spells}
 use Rattle.cg_join.specs.Maybe.{IsMaybe}
-use Rattle.cg_join.specs.Spelling.{IsConcat, IsEither, IsTurned, spells_as}
+use Rattle.cg_join.specs.Spelling.{IsConcat, IsEither, spells_as}
 use Rattle.cg_join.specs.TextBytes.{IsFixed}
 use Rattle.cg_join.specs.declared.choice.Either.{Either}
 use Rattle.cg_join.specs.declared.choice.Either.TheVariants.{Left, Right}
@@ -18,9 +18,6 @@ module _ {V W : Type 0} {P R : List ℕ → V → Type 0} {O Q : List ℕ → W 
   pub either_as : ((text : List ℕ) (v : V) → P text v ↔ R text v) → ((text : List ℕ) (w : W) → O text w ↔ Q text w) → (text : List ℕ) (v : Either V W) → IsEither P O text v ↔ IsEither R Q text v
   either_as e f text (Left v) = e text v
   either_as e f text (Right w) = f text w
-
-pub turned_as : {V W : Type 0} {P R : List ℕ → V → Type 0} (f : V → W) → ((text : List ℕ) (v : V) → P text v ↔ R text v) → (text : List ℕ) (w : W) → IsTurned P f text w ↔ IsTurned R f text w
-turned_as f e text w = (λ h. (h.0, (e text h.0).0 h.1, h.2), λ h. (h.0, (e text h.0).1 h.1, h.2))
 
 -- A fixed text and a text that a relation gives.
 pub label_spells : {S X V : Type 0} {A : S → List ℕ → V → Type 0} {s : S} {R : List ℕ → V → Type 0} {M : X → List ℕ → Unit {0} × V → Type 0} {x : X} {fixed : List ℕ} →
@@ -81,10 +78,6 @@ pub record HasFour {V W X Y : Type 0} (A : List ℕ → V → Type 0) (B : List 
 
 four_joined : (k a l b m c n d : List ℕ) → k ++ a ++ (l ++ b ++ (m ++ c ++ (n ++ d))) ≡ k ++ a ++ l ++ b ++ m ++ c ++ n ++ d
 four_joined k a l b m c n d = simp append_assoc refl
-
--- The same after another text.
-pub four_after : (front k a l b m c n d : List ℕ) → front ++ (k ++ a ++ l ++ b ++ m ++ c ++ n ++ d) ≡ front ++ k ++ a ++ l ++ b ++ m ++ c ++ n ++ d
-four_after front k a l b m c n d = simp append_assoc refl
 
 module _ {V W X Y : Type 0} (A : List ℕ → V → Type 0) (B : List ℕ → W → Type 0) (C : List ℕ → X → Type 0) (D : List ℕ → Y → Type 0) (k l m n : List ℕ) where
   pub four_is : (text : List ℕ) (v : (Unit {0} × V) × ((Unit {0} × W) × ((Unit {0} × X) × (Unit {0} × Y)))) →

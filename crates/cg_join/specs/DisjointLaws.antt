@@ -1,8 +1,8 @@
 -- Texts that are none of others.
-use Rattle.std.proofs.Common.{◌≡◌, ◌≢◌, ◌≤◌, ℕ, ◌⊎◌, inl, inr, Bool, true, false, ◌&&◌, nat_eq, List, [], ◌∷◌, ◌++◌, refl, sym, ◌∙◌, ap, append_assoc, eq-eqb}
-use Rattle.std.proofs.lemmas.List.{append_cancel_left, append-nil}
+use Rattle.std.proofs.Common.{◌≡◌, ◌≤◌, ℕ, ◌⊎◌, inl, inr, Bool, true, false, ◌&&◌, nat_eq, List, [], ◌∷◌, ◌++◌, refl, sym, ◌∙◌, ap, append_assoc, eq-eqb}
+use Rattle.std.proofs.lemmas.List.{append-nil}
 use Rattle.cg_text.specs.Device.{IsDevice}
-use Rattle.cg_join.specs.Spelling.{IsConcat, IsEither, IsTurned, Disjoint}
+use Rattle.cg_join.specs.Spelling.{IsConcat, IsEither, Disjoint}
 use Rattle.cg_join.specs.TextBytes.{IsFixed, BeginsBy, HasByte, Lacking, Filled}
 use Rattle.cg_join.specs.declared.choice.Either.{Either}
 use Rattle.cg_join.specs.declared.choice.Either.TheVariants.{Left, Right}
@@ -37,30 +37,6 @@ not_both b e f = cc
 pub fixed_disjoint : (xs ys : List ℕ) → is_front xs ys ≡ false → Disjoint (IsFixed xs) (IsFixed ys)
 fixed_disjoint xs ys e text v w h k = not_both (is_front xs ys) (front_of xs ys [] (sym k ∙ h ∙ sym (append-nil xs))) e
 
--- The one text, and texts that begin with another, with which it doesn't begin.
-pub fixed_not_label : {W : Type 0} {Q : List ℕ → W → Type 0} (xs ys : List ℕ) → is_front ys xs ≡ false → Disjoint (IsFixed xs) (IsConcat (IsFixed ys) Q)
-fixed_not_label xs ys e text v w h k =
-    let t : text ≡ ys ++ k.back = rw k.begins at k.whole in
-    not_both (is_front ys xs) (front_of ys xs k.back (sym h ∙ t)) e
-
--- Texts that begin with two texts, neither of which begins with the other.
-pub labels_disjoint : {V W : Type 0} {R : List ℕ → V → Type 0} {Q : List ℕ → W → Type 0} (xs ys : List ℕ) → is_front xs ys ≡ false → is_front ys xs ≡ false → Disjoint (IsConcat (IsFixed xs) R) (IsConcat (IsFixed ys) Q)
-labels_disjoint xs ys e f text v w h k =
-    let s : text ≡ xs ++ h.back = rw h.begins at h.whole in
-    let t : text ≡ ys ++ k.back = rw k.begins at k.whole in
-    elim (one_front xs ys h.back k.back (sym s ∙ t)) [
-      | inl a ↦ not_both (is_front xs ys) a e
-      | inr a ↦ not_both (is_front ys xs) a f
-    ]
-
--- The same text before texts that are none of each other.
-pub label_disjoint : {V W : Type 0} {R : List ℕ → V → Type 0} {Q : List ℕ → W → Type 0} (fixed : List ℕ) → Disjoint R Q → Disjoint (IsConcat (IsFixed fixed) R) (IsConcat (IsFixed fixed) Q)
-label_disjoint {R = R} fixed none text v w h k =
-    let s : text ≡ fixed ++ h.back = rw h.begins at h.whole in
-    let t : text ≡ fixed ++ k.back = rw k.begins at k.whole in
-    let same : h.back ≡ k.back = append_cancel_left fixed h.back k.back (sym s ∙ t) in
-    none k.back v.1 w.1 (rw same at h.ends) k.ends
-
 module _ {V W : Type 0} {R : List ℕ → V → Type 0} {Q : List ℕ → W → Type 0} where
   -- The one lacks a byte that the other has.
   pub lacking_disjoint : {b : ℕ} → Lacking R b → HasByte Q b → Disjoint R Q
@@ -78,10 +54,6 @@ module _ {V W : Type 0} {R : List ℕ → V → Type 0} {Q : List ℕ → W → 
   pub digits_disjoint : {b : ℕ} → Filled R → BeginsBy (λ c. c ≡ b) R → BeginsBy (λ c. (48 ≤ c) × (c ≤ 57)) Q → (48 ≤ b → b ≤ 57 → ⊥) → Disjoint R Q
   digits_disjoint {b} some f g none text v w h k = at_first some f g (λ c e d. none (rw e at d.0) (rw e at d.1)) text v w h k
 
-  -- The one doesn't begin with the byte with which the other does.
-  pub other_disjoint : {b : ℕ} → Filled R → BeginsBy (λ c. c ≢ b) R → BeginsBy (λ c. c ≡ b) Q → Disjoint R Q
-  other_disjoint some f g text v w h k = at_first some f g (λ c n e. n e) text v w h k
-
   -- The first part has the byte, or the second.
   pub first_has : {b : ℕ} → HasByte R b → HasByte (IsConcat R Q) b
   first_has {b} f = record {
@@ -91,20 +63,9 @@ module _ {V W : Type 0} {R : List ℕ → V → Type 0} {Q : List ℕ → W → 
         (there.0, there.1 ++ h.back, h.whole ∙ first ∙ append_assoc there.0 (b ∷ there.1) h.back);
   }
 
-  pub second_has : {b : ℕ} → HasByte Q b → HasByte (IsConcat R Q) b
-  second_has {b} f = record {
-    is = λ text v h.
-        let there = f.is h.back v.1 h.ends in
-        let second : h.front ++ h.back ≡ h.front ++ (there.0 ++ b ∷ there.1) = ap (λ x. h.front ++ x) there.2 in
-        (h.front ++ there.0, there.1, h.whole ∙ second ∙ sym (append_assoc h.front there.0 (b ∷ there.1)));
-  }
-
 module _ {V W : Type 0} (R : List ℕ → V → Type 0) (Q : List ℕ → W → Type 0) where
   pub disjoint_swap : Disjoint R Q → Disjoint Q R
   disjoint_swap none text w v k h = none text v w h k
-
-  pub turned_disjoint : {X : Type 0} (f : V → X) → Disjoint R Q → Disjoint (IsTurned R f) Q
-  turned_disjoint f none text x w h k = none text h.0 w h.1 k
 
   pub either_disjoint : {X : Type 0} (P : List ℕ → X → Type 0) → Disjoint P R → Disjoint P Q → Disjoint P (IsEither R Q)
   either_disjoint {X} P f g text x v h k = at_either text x v h k
@@ -112,10 +73,6 @@ module _ {V W : Type 0} (R : List ℕ → V → Type 0) (Q : List ℕ → W → 
       at_either : (text : List ℕ) (x : X) (v : Either V W) → P text x → IsEither R Q text v → ⊥
       at_either text x (Left v) h k = f text x v h k
       at_either text x (Right w) h k = g text x w h k
-
--- A fixed text has each of its bytes.
-pub fixed_has : (front : List ℕ) (b : ℕ) (more : List ℕ) → HasByte (IsFixed (front ++ b ∷ more)) b
-fixed_has front b more = record { is = λ text v h. (front, more, h) }
 
 -- A device has a colon.
 pub device_has : HasByte (λ text v. IsDevice v text) 58

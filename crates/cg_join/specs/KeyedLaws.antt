@@ -1,5 +1,5 @@
 -- What holds of lines of a key and what follows it.
-use Rattle.std.proofs.Common.{◌≡◌, ℕ, ◌+◌, ◌<◌, ◌≤◌, ◌↔◌, inl, inr, Bool, true, false, not, ◌&&◌, Option, Some, None, List, [], ◌∷◌, ◌++◌, map, length, length-append, refl, sym, ◌∙◌, ap, append-nil, arith, IsTrue, IsFalse}
+use Rattle.std.proofs.Common.{◌≡◌, ℕ, ◌+◌, ◌<◌, ◌↔◌, inl, inr, Bool, true, false, not, ◌&&◌, Option, Some, None, List, [], ◌∷◌, ◌++◌, map, length, length-append, refl, sym, ◌∙◌, ap, append-nil, arith, IsTrue, IsFalse}
 use Rattle.cg_text.specs.Token.{AreBytes, Spells, HasOneText}
 use Rattle.cg_join.specs.Distinct.{AreDistinct, LacksValue, any_value}
 use Rattle.cg_join.specs.DistinctLaws.{lacks_value}
@@ -200,9 +200,6 @@ module _ {V X : Type 0} (key : X → V) (items : List X) (P R : List ℕ → X �
 -- The keys of one pair more, where none is kept.
 pub distinct_added : {V X : Type 0} (key : X → V) (items new : List X) (p : X) (kept : List V) → new ≡ items ++ p ∷ [] → kept ≡ [] → AreDistinct (map key items) → LacksValue (key p) (map key items) → AreDistinct (map key new ++ kept)
 distinct_added key items new p kept e f d lacks = rw (e, f, append-nil (map key (items ++ p ∷ []))) (words_push key items p d lacks)
-
-pub one_few : 1 ≤ 2
-one_few = omega arith
 
 -- Where no key stands alone, each has the mark and a value.
 pub flat_is : {V W X : Type 0} (key : X → V) (value : X → W) (K : List ℕ → V → Type 0) (D : List ℕ → W → Type 0) (mark : ℕ) (text : List ℕ) (p : X) → IsKeyed key value K D None mark text p ↔ IsPairText key value K D mark text p

@@ -24,7 +24,6 @@ use Rattle.cg_text.specs.declared.hundredths.Form.{Form}
 use Rattle.cg_text.specs.declared.keyword.Keyword.{Keyword}
 use Rattle.cg_join.specs.Distinct.{AreDistinctJoined}
 use Rattle.cg_join.specs.Maybe.{IsMaybe}
-use Rattle.cg_join.specs.Pairs.{IsPairText, AreLed, ArePairs}
 use Rattle.cg_join.specs.Ready.{IsOrReady}
 use Rattle.cg_join.specs.Repeat.{IsList, AreJoined}
 use Rattle.cg_join.specs.Spelling.{IsConcat, IsEither, IsTurned}
@@ -171,24 +170,3 @@ module _ {V : Type 0} {R : List ℕ → V → Type 0} {b : ℕ} where
 
   pub distinct_lacking : (separator : ℕ) → separator ≢ b → Lacking R b → Lacking (AreDistinctJoined R separator) b
   distinct_lacking separator n f = record { is = λ front more vs h. list_lacks separator n f front more vs h.0 }
-
-  led_lacks : (separator : ℕ) → separator ≢ b → Lacking R b → (front more : List ℕ) (vs : List V) → AreLed R separator (front ++ b ∷ more) vs → ⊥
-  led_lacks separator n f front more [] h = not_inside b front more h
-  led_lacks separator n f front more (v ∷ vs) h =
-      elim (inside_parts b separator n [] h.0 front more h.1) [
-        | inl k ↦ not_inside b front k.0 (sym k.1)
-        | inr k ↦ list_lacks separator n f k.0 more (v ∷ vs) (rw k.1 at h.2)
-      ]
-
-  pub pairs_lacking : {W : Type 0} {word : V → W} (separator : ℕ) → separator ≢ b → Lacking R b → Lacking (ArePairs word R separator) b
-  pairs_lacking separator n f = record { is = λ front more ps h. led_lacks separator n f front more ps h.0 }
-
--- A word, a mark and a value.
-pub pair_lacking : {V W X : Type 0} {word : X → V} {value : X → W} {K : List ℕ → V → Type 0} {D : List ℕ → W → Type 0} {b : ℕ} (mark : ℕ) → mark ≢ b → Lacking K b → Lacking D b → Lacking (IsPairText word value K D mark) b
-pair_lacking {b = b} mark n f g = record {
-  is = λ front more p h.
-      elim (inside_parts b mark n h.front h.back front more h.whole) [
-        | inl k ↦ f.is front k.0 _ (rw k.1 at h.begins)
-        | inr k ↦ g.is k.0 more _ (rw k.1 at h.ends)
-      ];
-}

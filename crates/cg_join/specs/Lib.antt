@@ -49,8 +49,6 @@ pub mod PairsStateLaws
 pub mod PartRunLaws
 pub mod Proper
 pub mod ProperLaws
-pub mod Reading
-pub mod ReadingLaws
 pub mod Ready
 pub mod ReadyLaws
 pub mod Repeat

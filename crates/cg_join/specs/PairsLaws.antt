@@ -7,7 +7,7 @@ use Rattle.cg_text.specs.Token.{HasOneText, AreBytes, IfTaken, IfRefused, Unless
 use Rattle.cg_text.specs.TokenLaws.{bytes_append}
 use Rattle.cg_join.specs.Line.{LacksByte}
 use Rattle.cg_join.specs.Repeat.{Stops, IsList, IsListAfter}
-use Rattle.cg_join.specs.RepeatLaws.{not_nil, same_front, list_one, list_after_one, list_as, list_taken, list_same, list_none, list_next, list_begun}
+use Rattle.cg_join.specs.RepeatLaws.{not_nil, same_front, list_one, list_after_one, list_taken, list_same, list_none, list_next, list_begun}
 use Rattle.cg_join.specs.Distinct.{LacksValue, AreDistinct, any_value}
 use Rattle.cg_join.specs.DistinctLaws.{distinct_push, twice, lacks_value, or_is, with_distinct}
 use Rattle.cg_join.specs.ByteLaws.{list_bytes}
@@ -159,10 +159,6 @@ module _ {X : Type 0} (separator : ℕ) where
   pub led_new : (F R : List ℕ → X → Type 0) → ((rest : List ℕ) (p : X) → F rest p ↔ R rest p) → (rest : List ℕ) (all : List X) → AreLedAfter Before [] F R separator rest all ↔ AreLed R separator rest all
   led_new F R f rest all =
       (λ h. rw h.1 (led_first F R R (λ r p. (f r p).0) rest h.0 h.2), λ h. (all, refl, led_first R F R (λ r p. (f r p).1) rest all h))
-
-  pub led_as : (R Q : List ℕ → X → Type 0) → ((text : List ℕ) (p : X) → R text p → Q text p) → (text : List ℕ) (ps : List X) → AreLed R separator text ps → AreLed Q separator text ps
-  led_as R Q f text [] h = h
-  led_as R Q f text (p ∷ ps) h = (h.0, h.1, list_as separator f h.0 (p ∷ ps) h.2)
 
   led_one : (P R : List ℕ → X → Type 0) → Stops P separator → Stops R separator → HasOneText P → HasOneText R →
       (text : List ℕ) (ps qs : List X) → AreLedFrom P R separator text ps → AreLedFrom P R separator text qs → ps ≡ qs

@@ -1,44 +1,30 @@
 -- Texts of which a repetition can be made, by their parts.
-use Rattle.std.proofs.Common.{◌≡◌, ℕ, ◌≤◌, ◌↔◌, Bool, false, List, [], ◌∷◌, ◌++◌, Option, Some, None, refl, sym, ◌∙◌, ap, arith}
+use Rattle.std.proofs.Common.{◌≡◌, ℕ, ◌≤◌, ◌↔◌, false, List, [], ◌∷◌, ◌++◌, refl, sym, ◌∙◌, ap, arith}
 use Rattle.cg_text.specs.Keyword.{text_of}
 use Rattle.cg_text.specs.KeywordLaws.{keyword_bytes}
-use Rattle.cg_text.specs.Raw.{IsRawLine}
 use Rattle.cg_text.specs.Token.{AreBytes}
 use Rattle.cg_text.specs.declared.keyword.Keyword.{Keyword}
 use Rattle.cg_text.specs.declared.keyword.Keyword.TheVariants as keyword
-use Rattle.cg_join.specs.ApartLaws.{lacking_apart, label_apart, labelled_apart, fixed_apart}
-use Rattle.cg_join.specs.BeginsLaws.{label_begins, lead_begins}
+use Rattle.cg_join.specs.ApartLaws.{label_apart, fixed_apart}
 use Rattle.cg_join.specs.ByteLaws.{sequence_bytes}
-use Rattle.cg_join.specs.Composites.{IsADevice, IsAnyLimit, IsLimitIn, IsAnyNumber, IsNumberIn, IsDeviceTarget, IsDeviceWeight, IsDeviceLimits, AreFourLimits}
+use Rattle.cg_join.specs.Composites.{IsADevice, IsLimitIn, IsAnyNumber, IsNumberIn, IsDeviceTarget}
 use Rattle.cg_join.specs.DeviceLaws.{IsMajor, IsColon, IsMinor, colon_apart, major_apart, device_is, device_of}
 use Rattle.cg_join.specs.DeviceState.{numbers_of}
 use Rattle.cg_join.specs.Join.{IsPair}
-use Rattle.cg_join.specs.LackingLaws.{device_lacking, limit_lacking}
+use Rattle.cg_join.specs.LackingLaws.{device_lacking}
 use Rattle.cg_join.specs.LimitLaws.{limit_is}
 use Rattle.cg_join.specs.LimitState.{limit_of}
-use Rattle.cg_join.specs.Maybe.{IsMaybe}
 use Rattle.cg_join.specs.MaxLaws.{max_not_decimal}
 use Rattle.cg_join.specs.Proper.{IsProper}
 use Rattle.cg_join.specs.SequenceLaws.{sequence_one, both_same}
 use Rattle.cg_join.specs.Spelling.{IsConcat, IsEither, IsTurned, Apart, Disjoint}
 use Rattle.cg_join.specs.StartLaws.{some_decimal, one_decimal, decimal_bytes}
-use Rattle.cg_join.specs.TextBytes.{IsFixed, Filled}
-use Rattle.cg_join.specs.WordStartLaws.{SpellsWord, some_word, one_word, word_text_bytes}
+use Rattle.cg_join.specs.TextBytes.{IsFixed}
 use Rattle.cg_join.specs.declared.choice.Either.{Either}
 use Rattle.cg_join.specs.declared.choice.Either.TheVariants.{Left, Right}
 
 pub decimal_proper : (lo hi : ℕ) → lo ≤ hi → IsProper (IsNumberIn lo hi)
 decimal_proper lo hi le = record { some_text = some_decimal lo hi le; one_text = one_decimal lo hi; text_bytes = decimal_bytes lo hi }
-
-pub word_proper : (controller : Bool) → IsProper (SpellsWord controller)
-word_proper controller = record { some_text = some_word controller; one_text = one_word controller; text_bytes = word_text_bytes controller }
-
-pub raw_proper : IsProper (λ text line. (line ≡ text) × IsRawLine text)
-raw_proper = record { some_text = ([], [], (refl, tt)); one_text = λ text v w h k. h.0 ∙ sym k.0; text_bytes = λ text line h. raw_bytes text h.1 }
-  where
-    raw_bytes : (text : List ℕ) → IsRawLine text → AreBytes text
-    raw_bytes [] h = tt
-    raw_bytes (c ∷ cs) h = (h.1, raw_bytes cs h.3)
 
 pub fixed_proper : (fixed : List ℕ) → AreBytes fixed → IsProper (IsFixed fixed)
 fixed_proper fixed bytes = record { some_text = (fixed, tt, refl); one_text = λ text v w h k. refl; text_bytes = λ text v h. rw h bytes }
@@ -97,19 +83,6 @@ module _ {V : Type 0} {R : List ℕ → V → Type 0} where
     text_bytes = λ text w h. r.text_bytes text h.0 h.1;
   }
 
-  maybe_one_text : Filled R → IsProper R → (text : List ℕ) (v w : Option V) → IsMaybe R text v → IsMaybe R text w → v ≡ w
-  maybe_one_text f r text None None h k = refl
-  maybe_one_text f r text None (Some w) h k = absurd (f.is w (rw h at k))
-  maybe_one_text f r text (Some v) None h k = absurd (f.is v (rw k at h))
-  maybe_one_text f r text (Some v) (Some w) h k = ap Some (r.one_text text v w h k)
-
-  maybe_text_bytes : IsProper R → (text : List ℕ) (v : Option V) → IsMaybe R text v → AreBytes text
-  maybe_text_bytes r text None h = rw h tt
-  maybe_text_bytes r text (Some v) h = r.text_bytes text v h
-
-  pub maybe_proper : Filled R → IsProper R → IsProper (IsMaybe R)
-  maybe_proper f r = record { some_text = ([], None, refl); one_text = maybe_one_text f r; text_bytes = maybe_text_bytes r }
-
 pub limit_proper : (lo hi : ℕ) → lo ≤ hi → IsProper (IsLimitIn lo hi)
 limit_proper lo hi le =
     proper_as (limit_is lo hi) (turned_proper limit_of (either_proper (decimal_proper lo hi le) (keyword_proper keyword.Max) (λ text n u h k. max_not_decimal lo hi n text k h)))
@@ -127,23 +100,5 @@ device_proper = record {
 any_number_proper : IsProper IsAnyNumber
 any_number_proper = decimal_proper 0 18446744073709551615 (omega arith)
 
-any_limit_proper : IsProper IsAnyLimit
-any_limit_proper = limit_proper 0 18446744073709551615 (omega arith)
-
 pub device_target_proper : IsProper IsDeviceTarget
 device_target_proper = concat_proper device_proper (label_proper (keyword_proper keyword.Target) any_number_proper) (label_apart (device_lacking 32 (omega arith)))
-
-pub device_weight_proper : IsProper IsDeviceWeight
-device_weight_proper = concat_proper device_proper (label_proper space_proper (decimal_proper 1 10000 (omega arith))) (label_apart (device_lacking 32 (omega arith)))
-
-pub four_limits_proper : IsProper AreFourLimits
-four_limits_proper =
-    concat_proper (label_proper (keyword_proper keyword.Rbps) any_limit_proper)
-    (concat_proper (label_proper (keyword_proper keyword.Wbps) any_limit_proper)
-    (concat_proper (label_proper (keyword_proper keyword.Riops) any_limit_proper) (label_proper (keyword_proper keyword.Wiops) any_limit_proper)
-    (labelled_apart (limit_lacking 32 0 18446744073709551615 (omega arith)) (label_begins 32 _)))
-    (labelled_apart (limit_lacking 32 0 18446744073709551615 (omega arith)) (lead_begins 32 _)))
-    (labelled_apart (limit_lacking 32 0 18446744073709551615 (omega arith)) (lead_begins 32 _))
-
-pub device_limits_proper : IsProper IsDeviceLimits
-device_limits_proper = concat_proper device_proper four_limits_proper (lacking_apart (device_lacking 32 (omega arith)) (lead_begins 32 _))

@@ -1,29 +1,12 @@
 -- What holds of the empty text with a value.
 use Rattle.std.proofs.Common.{◌≡◌, ℕ, ◌↔◌, inl, inr, Bool, true, false, not, ◌||◌, List, [], ◌∷◌, refl, sym, ◌∙◌, IsTrue, IsFalse}
 use Rattle.cg_text.specs.Token.{AreBytes, Spells}
-use Rattle.cg_join.specs.Ready.{IsReady, IsOrReady, OrReadyRest}
+use Rattle.cg_join.specs.Ready.{IsOrReady, OrReadyRest}
 use Rattle.cg_join.specs.Repeat.{LacksEmpty}
-use Rattle.cg_join.specs.Spelling.{Disjoint, spells_as}
+use Rattle.cg_join.specs.Spelling.{spells_as}
 
 no_text : (byte : ℕ) (rest : List ℕ) → byte ∷ rest ≡ [] → ⊥
 no_text byte rest e = cc
-
-module _ {V : Type 0} (value : V) where
-  pub ready_completes : (rest : List ℕ) × (v : V) × IsReady value rest v
-  ready_completes = ([], value, (refl, refl))
-
-  pub ready_ends : IsTrue true ↔ ((v : V) × IsReady value [] v)
-  ready_ends = (λ h. (value, (refl, refl)), λ h. refl)
-
-  pub ready_one : (rest : List ℕ) (v w : V) → IsReady value rest v → IsReady value rest w → v ≡ w
-  ready_one rest v w h k = h.1 ∙ sym k.1
-
-  pub ready_bytes : (rest : List ℕ) (v : V) → IsReady value rest v → AreBytes rest
-  ready_bytes rest v h = rw h.0 tt
-
-  -- A text that isn't empty.
-  pub ready_disjoint : {W : Type 0} (R : List ℕ → W → Type 0) → LacksEmpty R → Disjoint R (IsReady value)
-  ready_disjoint R filled text w v h k = filled w (rw k.0 at h)
 
 module _ {V : Type 0} (P : List ℕ → V → Type 0) (value : V) where
   -- Every state can be completed.

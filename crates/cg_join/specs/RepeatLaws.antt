@@ -1,5 +1,13 @@
 -- What holds of lists of texts.
-use Rattle.std.proofs.Common.{◌≡◌, ℕ, ◌+◌, ◌↔◌, ◌⊎◌, inl, inr, Bool, true, false, ◌&&◌, ◌||◌, List, [], ◌∷◌, ◌++◌, refl, sym, ◌∙◌, ap, arith, append_assoc, IsTrue, min}
+use Rattle.std.proofs.Common.{◌≡◌, ℕ, ◌+◌, ◌≤◌, ◌↔◌, ◌⊎◌, inl, inr, Bool, true, false, ◌&&◌, ◌||◌, List, [], ◌∷◌, ◌++◌, ◌-◌, ◌<◌, length, get_or, take, map, refl, sym, ◌∙◌, ap, arith, append_assoc, IsTrue, min}
+use Rattle.std.specs.List.{sum_by}
+use Rattle.std.proofs.lemmas.List.{length-map, get_or-map, take_more}
+use Rattle.std.proofs.lemmas.List.Sums.{sum_by_push, sum_by-cons}
+use Rattle.std.specs.Prelude.{Result, Ok, Err, OnOk, OnErr, is_ok}
+use Rattle.cg_index.specs.Keyed.{is_among, is_repeated}
+use Rattle.cg_index.specs.KeyedLaws.{not_among}
+use Rattle.cg_index.specs.declared.keyed.Refused.{Refused}
+use Rattle.cg_join.specs.Distinct.{LacksValue}
 use Rattle.cg_text.specs.Token.{HasOneText, told}
 use Rattle.cg_join.specs.SequenceLaws.{cuts}
 use Rattle.cg_join.specs.Repeat.{Stops, IsList, IsListAfter, AreJoined, items_size, out_size}
@@ -206,8 +214,47 @@ size_pushed f new vs v e = rw e (items_size_push f vs v)
 pub out_size_pushed : {V : Type 0} (f : V → ℕ) (new vs : List V) (v : V) → new ≡ vs ++ v ∷ [] → out_size f new ≡ items_size f vs + f v
 out_size_pushed f new vs v e = rw e (out_size_push f vs v)
 
+-- The places of values, and the vectors in them.
+pub size_summed : {V : Type 0} (f : V → ℕ) (vs : List V) → items_size f vs ≡ length vs + sum_by f vs
+size_summed f [] = refl
+size_summed f (v ∷ vs) = omega (arith, size_summed f vs, sum_by-cons f v vs)
+
+pub out_size_summed : {V : Type 0} (f : V → ℕ) (vs : List V) → out_size f vs ≡ (length vs - 1) + sum_by f vs
+out_size_summed f [] = refl
+out_size_summed f (v ∷ vs) = omega (arith, size_summed f vs, sum_by-cons f v vs)
+
+-- What is told of the places and what the values hold.
+pub told_size : {V : Type 0} (f : V → ℕ) (xs vs : List V) (places result : ℕ) → xs ≡ vs → places ≡ length vs → result ≡ told (places + sum_by f xs) → result ≡ told (items_size f vs)
+told_size f xs vs places result same is told_is =
+    let sum = ap (sum_by f) same in
+    omega (arith, sum, is, told_is, size_summed f vs)
+
+pub told_out_size : {V : Type 0} (f : V → ℕ) (xs vs : List V) (places result : ℕ) → xs ≡ vs → places ≡ length vs - 1 → result ≡ told (places + sum_by f xs) → result ≡ told (out_size f vs)
+told_out_size f xs vs places result same is told_is =
+    let sum = ap (sum_by f) same in
+    omega (arith, sum, is, told_is, out_size_summed f vs)
+
+-- One more item is told.
+pub told_item : {V X : Type 0} (f : X → ℕ) (g : V → X) (vs : List V) (i : ℕ) (v : V) (places total size more : ℕ) → i < length vs → v ≡ get_or vs i v →
+    total ≡ told (places + sum_by f (take i (map g vs))) → size ≡ told (f (g v)) → more ≡ min (total + size) 18446744073709551615 → more ≡ told (places + sum_by f (take (i + 1) (map g vs)))
+told_item f g vs i v places total size more h is before one sum =
+    let within : i < length (map g vs) = omega (arith, h, length-map vs g) in
+    let read : get_or (map g vs) i (g v) ≡ g v = get_or-map g vs i v (g v) h ∙ sym (ap g is) in
+    let grown : sum_by f (take (i + 1) (map g vs)) ≡ sum_by f (take i (map g vs)) + f (g v) =
+    ap (sum_by f) (take_more (map g vs) i (g v) within ∙ ap (λ x. take i (map g vs) ++ x ∷ []) read) ∙ sum_by_push f (take i (map g vs)) (g v) in
+    omega (arith, before, one, sum, grown)
+
 -- Lists of texts by a relation that holds alike.
 pub list_as : {V : Type 0} {P Q : List ℕ → V → Type 0} (separator : ℕ) → ((text : List ℕ) (v : V) → P text v → Q text v) → (text : List ℕ) (vs : List V) → AreJoined P separator text vs → AreJoined Q separator text vs
 list_as separator f text [] h = h
 list_as separator f text (v ∷ []) h = f text v h
 list_as separator f text (v ∷ w ∷ vs) h = (h.0, h.1, h.2, f h.0 v h.3, list_as separator f h.1 (w ∷ vs) h.4)
+
+-- An item that was added is new, and it alone adds to the size.
+pub added_new : {U T : Type 0} (r : Result U (Refused T)) (key : List ℕ) (keys : List (List ℕ)) → is_repeated r ≡ is_among key keys → is_ok r ≡ true → LacksValue key keys
+added_new (Ok u) key keys repeated ok = not_among key keys (sym repeated)
+added_new (Err e) key keys repeated ok = cc
+
+pub added_size : {U E V : Type 0} (f : V → ℕ) (r : Result U E) (old new : List V) (v : V) → OnOk r (new ≡ old ++ v ∷ []) → OnErr r (new ≡ old) → items_size f new ≤ items_size f old + (1 + f v)
+added_size f (Ok u) old new v more same = omega (arith, size_pushed f new old v more)
+added_size f (Err e) old new v more same = (let size = ap (items_size f) same in omega (arith, size))

@@ -1,21 +1,14 @@
 -- What holds of joined tokens that take a run of bytes.
-use Rattle.std.proofs.Common.{◌≡◌, ℕ, ◌+◌, ◌<◌, ◌↔◌, inl, inr, Bool, true, List, [], ◌∷◌, ◌++◌, length, take, drop, Option, Some, None, sym, ◌∙◌, ap, append_assoc, append-nil, arith, IsFalse}
+use Rattle.std.proofs.Common.{◌≡◌, ℕ, ◌+◌, ◌<◌, ◌↔◌, inl, inr, Bool, true, List, [], ◌∷◌, ◌++◌, length, take, drop, Option, Some, None, sym, ◌∙◌, ap, append_assoc, append-nil, arith}
 use Rattle.std.proofs.Math.Seq.{take-add}
 use Rattle.cg_text.specs.Scan.{FollowsRun}
 use Rattle.cg_text.specs.Token.{Completes}
-use Rattle.cg_join.specs.Choice.{IsChoice}
 use Rattle.cg_join.specs.Join.{IsPair, AreApart}
 use Rattle.cg_join.specs.Maybe.{MaybeRest}
 use Rattle.cg_join.specs.Ready.{OrReadyRest}
 use Rattle.cg_join.specs.SequenceLaws.{cuts}
-use Rattle.cg_join.specs.declared.choice.Either.{Either}
-use Rattle.cg_join.specs.declared.choice.Either.TheVariants.{Left, Right}
 
 module _ {S T V W : Type 0} (first : S → List ℕ → V → Type 0) (second : T → List ℕ → W → Type 0) where
-  pub apart_run : (s s' : S) (t : T) (run : List ℕ) → FollowsRun first s run s' → AreApart first second s t → AreApart first second s' t
-  apart_run s s' t run f apart front more back x v u w h k l =
-      apart (run ++ front) more back x v u w ((f front v).0 h) (rw (append_assoc run front (x ∷ more)) ((f (front ++ x ∷ more) u).0 k)) l
-
   run_first : (s s' : S) (t : T) (run : List ℕ) → AreApart first second s t → Completes first s' → FollowsRun first s run s' →
       (rest : List ℕ) (v : V) (w : W) (front back : List ℕ) → run ++ rest ≡ front ++ back → first s front v → second t back w → IsPair first second s' t rest v w
   run_first s s' t run apart c f rest v w front back e h k =
@@ -35,16 +28,6 @@ module _ {S T V W : Type 0} (first : S → List ℕ → V → Type 0) (second : 
     λ h. record { front = run ++ h.front; back = h.back; whole = ap (λ x. run ++ x) h.whole ∙ sym (append_assoc run h.front h.back); begins = (f h.front v).0 h.begins; ends = h.ends },
     λ h. run_first s s' t run apart c f rest v w h.front h.back h.whole h.begins h.ends,
   )
-
--- What one of two takes, where the other doesn't live.
-module _ {S T V W : Type 0} (left : S → List ℕ → V → Type 0) (right : T → List ℕ → W → Type 0) where
-  pub left_run : (l r : Bool) (s s' : S) (t : T) (run : List ℕ) → IsFalse r → FollowsRun left s run s' → (rest : List ℕ) (e : Either V W) → IsChoice left right l r s' t rest e ↔ IsChoice left right l r s t (run ++ rest) e
-  left_run l r s s' t run dead f rest (Left v) = (λ h. (h.0, (f rest v).0 h.1), λ h. (h.0, (f rest v).1 h.1))
-  left_run l r s s' t run dead f rest (Right w) = (λ h. absurd (let k = h.0 in cc), λ h. absurd (let k = h.0 in cc))
-
-  pub right_run : (l r : Bool) (s : S) (t t' : T) (run : List ℕ) → IsFalse l → FollowsRun right t run t' → (rest : List ℕ) (e : Either V W) → IsChoice left right l r s t' rest e ↔ IsChoice left right l r s t (run ++ rest) e
-  right_run l r s t t' run dead f rest (Left v) = (λ h. absurd (let k = h.0 in cc), λ h. absurd (let k = h.0 in cc))
-  right_run l r s t t' run dead f rest (Right w) = (λ h. (h.0, (f rest w).0 h.1), λ h. (h.0, (f rest w).1 h.1))
 
 no_run : (run rest : List ℕ) → 0 < length run → run ++ rest ≡ [] → ⊥
 no_run [] rest some e = omega (arith, some)

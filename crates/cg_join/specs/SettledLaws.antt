@@ -3,12 +3,10 @@ use Rattle.std.proofs.Common.{◌≡◌, ℕ, ◌+◌, ◌≤◌, ◌<◌, inl, 
 use Rattle.cg_text.specs.ListState.{IsListRest}
 use Rattle.cg_text.specs.RangesState.{RangesRest, front}
 use Rattle.cg_text.specs.Raw.{IsReason}
-use Rattle.cg_text.specs.RawState.{IsRawRest}
 use Rattle.cg_text.specs.WordState.{IsWordRest}
 use Rattle.cg_join.specs.Join.{IsSequence}
 use Rattle.cg_join.specs.KeyedState.{AreKeyedAfter, is_begun, is_marked, kept_keys}
 use Rattle.cg_join.specs.Lines.{AreLinesFrom, AreLinesAfter}
-use Rattle.cg_join.specs.Mapped.{IsMapped}
 use Rattle.cg_join.specs.Maybe.{MaybeRest, maybe_size}
 use Rattle.cg_join.specs.Ready.{OrReadyRest}
 use Rattle.cg_join.specs.Repeat.{IsList, IsListAfter, items_size}
@@ -44,11 +42,6 @@ sequence_settled first second false s t m n f g h k v w pair =
     let both = nil_pair first second s t v w pair.front pair.back pair.whole pair.begins pair.ends in
     both_least m n (f v) (g w) (h v both.0) (k w both.1)
 
--- Of a token with another value.
-pub mapped_settled : {S V W : Type 0} (means : S → List ℕ → V → Type 0) (turned : V → W) (s : S) (n : ℕ) (f : V → ℕ) (g : W → ℕ) →
-    ((v : V) → means s [] v → n ≤ f v) → ((v : V) → f v ≤ g (turned v)) → (w : W) → IsMapped means turned s [] w → n ≤ g w
-mapped_settled means turned s n f g h k w m = rw (← m.2) (least_most n (f m.0) (g (turned m.0)) (h m.0 m.1) (k m.0))
-
 not_after : (b : ℕ) (front back : List ℕ) → [] ≡ front ++ b ∷ back → ⊥
 not_after b [] back e = cc
 not_after b (x ∷ front) back e = cc
@@ -65,10 +58,6 @@ lines_settled P R end items begun f n fresh all h =
     let over = lines_over_all P R end begun h.0 h.2 in
     let same : all ≡ items = h.1 ∙ ap (λ t. items ++ t) over.1 ∙ append-nil items in
     rw same (nothing_more (items_size f items) n (fresh over.0))
-
--- Of raw bytes.
-pub raw_settled : (taken line : List ℕ) → IsRawRest taken [] line → length taken ≤ length line
-raw_settled taken line h = same_settled (length taken) (length line) (sym (ap length (h.whole ∙ append-nil taken)))
 
 -- Of a word.
 pub word_settled : (controller : Bool) (taken word : List ℕ) → IsWordRest controller taken [] word → length taken ≤ length word

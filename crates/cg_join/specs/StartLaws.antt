@@ -5,7 +5,7 @@ use Rattle.cg_text.specs.Decimal.{AreDigits, IsDecimal}
 use Rattle.cg_text.specs.DecimalLaws.{IsDecimalRest_completes, IsDecimalRest_one, number_digits, digits_bytes}
 use Rattle.cg_text.specs.declared.decimal.Progress.TheVariants.{Start}
 use Rattle.cg_join.specs.Line.{LacksByte}
-use Rattle.cg_join.specs.Repeat.{LacksEmpty, Stops}
+use Rattle.cg_join.specs.Repeat.{Stops}
 
 -- Where no text has the byte, none goes on with it.
 pub lacks_stops : {V : Type 0} (R : List ℕ → V → Type 0) (separator : ℕ) → LacksByte R separator → Stops R separator
@@ -27,10 +27,6 @@ digit_inside (x ∷ front) more b h = digit_inside front more b h.2
 -- A number's text has digits alone.
 pub decimal_only : (lo hi b : ℕ) → (48 ≤ b → b ≤ 57 → ⊥) → LacksByte (λ text n. IsDecimal lo hi n text) b
 decimal_only lo hi b other front more n h = let d = digit_inside front more b (number_digits lo hi Start (front ++ b ∷ more) n h) in other d.0 d.1
-
--- A number's text isn't empty.
-pub decimal_filled : (lo hi : ℕ) → LacksEmpty (λ text n. IsDecimal lo hi n text)
-decimal_filled lo hi n h = h.2
 
 pub zero_least : (n : ℕ) → 0 ≤ n
 zero_least n = omega arith

@@ -38,12 +38,6 @@ pub trait Collection<V: Token>: Drop {
     /// The sum of the lengths of the vectors in what is handed out.
     ghost value_size: { Self.Out → ℕ };
 
-    /// How many elements a pair has in the vectors, beside those in its key and its value.
-    ghost places: { ℕ };
-
-    /// A pair adds no more than two elements.
-    ghost few: { places ≤ 2 };
-
     /// A pair has the key that it is made of.
     ghost has_key: { (key : List ℕ) (value : V.Out) → key_of (paired key value) ≡ key };
 
@@ -68,14 +62,14 @@ pub trait Collection<V: Token>: Drop {
         requires room { has_room self.old }
         requires new { LacksValue key (map key_of (pairs_of self.old)) }
         ensures pairs { pairs_of self.new ≡ pairs_of self.old ++ paired key value ∷ [] }
-        ensures size { size self.new ≤ size self.old + (places + (⟦<WordText as Token>⟧.value_size key + V.value_size value)) };
+        ensures size { size self.new ≤ size self.old + (1 + (⟦<WordText as Token>⟧.value_size key + V.value_size value)) };
 
     /// Adds a pair, unless a pair has its key or no memory is left for it. Answers whether it did.
     fn add(&mut self, key: Key, value: V::Out) -> bool
         ensures added { IsTrue result → pairs_of self.new ≡ pairs_of self.old ++ paired key value ∷ [] }
         ensures new { IsTrue result → LacksValue key (map key_of (pairs_of self.old)) }
         ensures left { IsFalse result → pairs_of self.new ≡ pairs_of self.old }
-        ensures size { size self.new ≤ size self.old + (places + (⟦<WordText as Token>⟧.value_size key + V.value_size value)) }
+        ensures size { size self.new ≤ size self.old + (1 + (⟦<WordText as Token>⟧.value_size key + V.value_size value)) }
         ensures same_size { IsFalse result → size self.new ≡ size self.old };
 
     /// The sum of the lengths of its vectors.

@@ -1,6 +1,8 @@
 //! One or more words, all different, with a byte between.
 ghost use Rattle.std.specs.Prelude.{◌≡◌, ◌+◌, ◌<◌, true, false, not, ◌&&◌, [], IsTrue, map};
+ghost use Rattle.std.specs.List.{sum_by};
 ghost use Rattle.cg_text.specs.Token.{Spells, told};
+ghost use Rattle.cg_index.specs.Cells.{item_of};
 ghost use Rattle.cg_join.specs.Repeat.{LacksEmpty, Stops, items_size, out_size};
 ghost use Rattle.cg_join.specs.Distinct.{AreDistinct, AreDistinctJoined, any_value, IsDistinctAfter};
 ghost use Rattle.cg_join.specs.DistinctLaws.{AreDistinct_prop};
@@ -9,7 +11,7 @@ ghost use Rattle.cg_text.specs.WordState.{is_taken};
 
 use crate::start::Start;
 use crate::words::{WordStart, has};
-use cg_index::{KeyedBuilder, KeyedItems};
+use cg_index::{Cell, KeyedBuilder, KeyedItems};
 use cg_text::{Key, OutOfMemory, Token, WordText};
 use std::alloc::Global;
 use std::mem;
@@ -22,8 +24,6 @@ pub struct DistinctWords {
     separator: u8,
     items: KeyedBuilder<Key>,
     current: WordText,
-    items_held: u64,
-    ghost counted: { items_held ≡ told (items_size ⟦<WordText as Token>⟧.value_size items.items) },
     ghost stops: { Stops (⟦<WordText as Token>⟧.means current) separator },
     ghost starts: { Stops (SpellsWord start.controller) separator },
     ghost filled: { LacksEmpty (SpellsWord start.controller) },
@@ -46,32 +46,19 @@ impl DistinctWords {
             separator,
             items: KeyedBuilder::new(alloc),
             current,
-            items_held: 0,
         }
     }
 }
 
-/// The sum of the lengths of words, and a place for each.
-fn held_in_words(words: &[Key]) -> u64
-    ensures { result ≡ told (items_size ⟦<WordText as Token>⟧.value_size words.now) }
+/// The places, and the sum of the lengths of the words.
+fn held_in_words(places: usize, cells: &[Cell<Key>]) -> u64
+    ensures { result ≡ told (places + sum_by ⟦<WordText as Token>⟧.value_size (map item_of cells.now)) }
 {
-    let mut total: u64 = 0;
-    for word in words {
-        total = total
-            .saturating_add(1)
-            .saturating_add(WordText::held_in(word));
+    let mut total = places as u64;
+    for cell in cells {
+        total = total.saturating_add(WordText::held_in(&cell.item));
     }
     total
-}
-
-/// The same, but that the first has no place.
-fn held_in_joined_words(words: &[Key]) -> u64
-    ensures { result ≡ told (out_size ⟦<WordText as Token>⟧.value_size words.now) }
-{
-    match words.split_first() {
-        Some((first, rest)) => held_in_words(rest).saturating_add(WordText::held_in(first)),
-        None => 0,
-    }
 }
 
 impl Token for DistinctWords {
@@ -119,9 +106,7 @@ impl Token for DistinctWords {
         let next = self.start.start();
         let done = mem::replace(&mut self.current, next);
         let value = done.take();
-        let new_size = WordText::held_in(&value);
         self.items.push(value);
-        self.items_held = self.items_held.saturating_add(1).saturating_add(new_size);
         Ok(true)
     }
 
@@ -147,7 +132,7 @@ impl Token for DistinctWords {
     }
 
     fn held(&self) -> u64 {
-        self.items_held.saturating_add(self.current.held())
+        held_in_words(self.items.places(), self.items.cells()).saturating_add(self.current.held())
     }
 
     fn take(self) -> KeyedItems<Key> {
@@ -157,7 +142,7 @@ impl Token for DistinctWords {
     }
 
     fn held_in(value: &KeyedItems<Key>) -> u64 {
-        held_in_joined_words(value.items())
+        held_in_words(value.places().saturating_sub(1), value.cells())
     }
 
     ghost completes = { λ s. distinct_completes (⟦<WordText as Token>⟧.means s.current)

@@ -50,7 +50,6 @@ pub struct KeyedLines<V: Token, B: Follow<V>, C: Collection<V>> {
     ghost apart: { mark ≡ end → ⊥ },
     ghost small_mark: { mark < 256 },
     ghost small_end: { end < 256 },
-    ghost alone: { (v : V.Out) → B.alone values ≡ Some v → C.places ≤ 1 },
     ghost new_key: { IsFalse (is_begun stage) → ⟦<WordText as Token>⟧.size key ≡ 0 },
     ghost new_value: { IsFalse (is_marked stage) → V.size value ≡ 0 },
     ghost kept: { length ended.items ≡ kept_keys (is_marked stage) },
@@ -72,7 +71,6 @@ impl<V: Token, B: Follow<V>, C: Collection<V>> KeyedLines<V, B, C> {
         requires keys_end { LacksByte (SpellsWord keys.controller) end }
         requires values_end { LacksByte (B.texts values) end }
         requires apart { mark ≡ end → ⊥ }
-        requires alone { (v : V.Out) → B.alone values ≡ Some v → C.places ≤ 1 }
         requires empty { C.pairs_of pairs ≡ [] }
         ensures spells { Spells ⟦<KeyedLines<V, B, C> as Token>⟧.means result (IsTurned (AreKeyedLines C.key_of (IsKeyed C.key_of C.value_of (SpellsWord keys.controller) (B.texts values) (B.alone values) mark) end) C.given) }
         ensures size { ⟦<KeyedLines<V, B, C> as Token>⟧.size result ≡ C.size pairs }

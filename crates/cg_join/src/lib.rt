@@ -23,7 +23,6 @@ pub mod pairs;
 pub mod pairs_start;
 pub mod pressure;
 pub mod quota;
-pub mod reading;
 pub mod ready;
 pub mod repeat;
 pub mod run;
@@ -40,10 +39,7 @@ pub use choice::{Choice, Either};
 pub use clamp::ClampText;
 pub use collection::Collection;
 pub use device::DeviceText;
-pub use devices::{
-    DeviceLimits, DeviceTarget, DeviceWeight, FourLimits, device_limits, device_target,
-    device_weight, four_limits,
-};
+pub use devices::{DeviceTarget, device_target};
 pub use distinct::DistinctWords;
 pub use follow::Follow;
 pub use keyed::KeyedLines;
@@ -59,8 +55,7 @@ pub use pairs::DistinctPairs;
 pub use pairs_start::PairsStart;
 pub use pressure::{Averages, averages};
 pub use quota::{QuotaAndPeriod, WrittenQuota, quota_and_period, written_quota};
-pub use reading::{Found, read};
-pub use ready::{OrReady, Ready};
+pub use ready::OrReady;
 pub use repeat::Repeat;
 pub use run::{run_line, run_parts};
 pub use sequence::Sequence;

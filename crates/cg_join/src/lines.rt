@@ -23,8 +23,6 @@ pub struct Lines<T: Token, S: Start<T>> {
     items: Vec<T::Out>,
     current: T,
     begun: bool,
-    items_held: u64,
-    ghost counted: { items_held ≡ told (items_size T.value_size items.items) },
     ghost lacks: { LacksByte (T.means current) end },
     ghost starts: { LacksByte (S.texts start) end },
     ghost small: { end < 256 },
@@ -56,7 +54,6 @@ impl<T: Token, S: Start<T>> Lines<T, S> {
             items: Vec::new(alloc),
             current,
             begun: false,
-            items_held: 0,
         }
     }
 }
@@ -100,9 +97,7 @@ impl<T: Token, S: Start<T>> Token for Lines<T, S> {
         let next = self.start.start();
         let done = mem::replace(&mut self.current, next);
         let value = done.take();
-        let new_size = T::held_in(&value);
         put(&mut self.items, value);
-        self.items_held = self.items_held.saturating_add(1).saturating_add(new_size);
         self.begun = false;
         Ok(true)
     }
@@ -135,7 +130,7 @@ impl<T: Token, S: Start<T>> Token for Lines<T, S> {
     }
 
     fn held(&self) -> u64 {
-        self.items_held.saturating_add(self.current.held())
+        held_in_all::<T>(self.items.as_slice()).saturating_add(self.current.held())
     }
 
     fn take(self) -> Items<T::Out> {
@@ -170,9 +165,7 @@ impl<T: Token, S: Start<T>> WholeLines for Lines<T, S> {
         if count < line.len() || make_room(&mut self.items).is_err() {
             return false;
         }
-        let new_size = T::held_in(&value);
         put(&mut self.items, value);
-        self.items_held = self.items_held.saturating_add(1).saturating_add(new_size);
         true
     }
 }

@@ -1,12 +1,14 @@
 //! Pairs of a key and a value.
-ghost use Rattle.std.specs.Prelude.{◌≡◌, ℕ, List, [], IsTrue, map};
+ghost use Rattle.std.specs.Prelude.{◌≡◌, ℕ, ◌+◌, List, [], IsTrue, map};
+ghost use Rattle.std.specs.List.{sum_by};
 ghost use Rattle.cg_text.specs.Token.{told};
+ghost use Rattle.cg_index.specs.Cells.{item_of};
 ghost use Rattle.cg_join.specs.Pairs.{pair_size};
 ghost use Rattle.cg_join.specs.Repeat.{items_size};
 
 use crate::collection::Collection;
 use crate::words::has;
-use cg_index::{HasKey, KeyedBuilder, KeyedItems};
+use cg_index::{Cell, HasKey, KeyedBuilder, KeyedItems};
 use cg_text::{Key, OutOfMemory, Token, WordText};
 use std::alloc::Global;
 use std::marker::PhantomData;
@@ -50,10 +52,8 @@ pub trait MakePair<V: Token> {
 #[derive(Drop)]
 pub struct PairList<V: Token, F: MakePair<V>> {
     pairs: KeyedBuilder<F::Pair>,
-    items_held: u64,
     value: PhantomData<V>,
     make: PhantomData<F>,
-    ghost counted: { items_held ≡ told (items_size (pair_size F.key_of F.value_of ⟦<WordText as Token>⟧.value_size V.value_size) pairs.items) },
 }
 
 impl<V: Token, F: MakePair<V>> PairList<V, F> {
@@ -64,21 +64,22 @@ impl<V: Token, F: MakePair<V>> PairList<V, F> {
     {
         PairList {
             pairs: KeyedBuilder::new(alloc),
-            items_held: 0,
             value: PhantomData,
             make: PhantomData,
         }
     }
 }
 
-/// The sum of the lengths of the vectors in pairs, and a place for each.
-fn held_in_made<V: Token, F: MakePair<V>>(pairs: &[F::Pair]) -> u64
-    ensures { result ≡ told (items_size (pair_size F.key_of F.value_of ⟦<WordText as Token>⟧.value_size V.value_size) pairs.now) }
+/// The places, and the sum of the lengths of the vectors in the pairs.
+fn held_in_made<V: Token, F: MakePair<V>>(places: usize, cells: &[Cell<F::Pair>]) -> u64
+    ensures { result ≡ told (places +
+        sum_by (pair_size F.key_of F.value_of ⟦<WordText as Token>⟧.value_size V.value_size) (map item_of cells.now)) }
 {
-    let mut total: u64 = 0;
-    for pair in pairs {
-        let new_size = WordText::held_in(pair.key()).saturating_add(V::held_in(F::value(pair)));
-        total = total.saturating_add(1).saturating_add(new_size);
+    let mut total = places as u64;
+    for cell in cells {
+        let key = WordText::held_in(cell.item.key());
+        let size = key.saturating_add(V::held_in(F::value(&cell.item)));
+        total = total.saturating_add(size);
     }
     total
 }
@@ -104,8 +105,6 @@ impl<V: Token, F: MakePair<V>> Collection<V> for PairList<V, F> {
 
     ghost value_size = { items_size (pair_size F.key_of F.value_of ⟦<WordText as Token>⟧.value_size V.value_size) };
 
-    ghost places = { 1 };
-
     fn has(&self, key: &WordText) -> bool {
         has(&self.pairs, key)
     }
@@ -115,21 +114,15 @@ impl<V: Token, F: MakePair<V>> Collection<V> for PairList<V, F> {
     }
 
     fn push(&mut self, key: Key, value: V::Out) {
-        let new_size = WordText::held_in(&key).saturating_add(V::held_in(&value));
         self.pairs.push(F::pair(key, value));
-        self.items_held = self.items_held.saturating_add(1).saturating_add(new_size);
     }
 
     fn add(&mut self, key: Key, value: V::Out) -> bool {
-        if self.pairs.has(key.bytes()) || self.pairs.reserve().is_err() {
-            return false;
-        }
-        self.push(key, value);
-        true
+        self.pairs.add(F::pair(key, value)).is_ok()
     }
 
     fn held(&self) -> u64 {
-        self.items_held
+        held_in_made::<V, F>(self.pairs.places(), self.pairs.cells())
     }
 
     fn finish(self) -> KeyedItems<F::Pair> {
@@ -137,12 +130,8 @@ impl<V: Token, F: MakePair<V>> Collection<V> for PairList<V, F> {
     }
 
     fn held_in(out: &KeyedItems<F::Pair>) -> u64 {
-        held_in_made::<V, F>(out.items())
+        held_in_made::<V, F>(out.places(), out.cells())
     }
-
-    ghost use Rattle.cg_join.specs.KeyedLaws.{one_few};
-
-    ghost few = { one_few };
 
     ghost has_key = { F.has_key };
 

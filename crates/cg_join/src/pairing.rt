@@ -1,15 +1,16 @@
 //! Pairs of a word and a value.
-ghost use Rattle.std.specs.Prelude.{◌≡◌, ℕ, ◌≤◌, ◌<◌, List, [], IsTrue, map, length};
+ghost use Rattle.std.specs.Prelude.{◌≡◌, ℕ, ◌+◌, ◌≤◌, ◌<◌, List, [], IsTrue, map, length};
+ghost use Rattle.std.specs.List.{sum_by};
 ghost use Rattle.cg_text.specs.Token.{Spells, told};
+ghost use Rattle.cg_index.specs.Cells.{item_of};
 ghost use Rattle.cg_text.specs.WordState.{is_taken};
 ghost use Rattle.cg_join.specs.Distinct.{any_value};
-ghost use Rattle.cg_join.specs.Repeat.{items_size};
 ghost use Rattle.cg_join.specs.Pairs.{pair_size};
 ghost use Rattle.cg_join.specs.PairsState.{IsCompleted};
 
 use crate::start::Start;
 use crate::words::has;
-use cg_index::{Change, HasKey, KeyedBuilder};
+use cg_index::{Cell, Change, HasKey, KeyedBuilder};
 use cg_text::{Key, Token, WordText};
 use std::marker::PhantomData;
 use std::mem;
@@ -96,14 +97,16 @@ pub(crate) fn complete_last<V: Token, F: Pairing<V>>(
     items.change_last::<Completing<V, F>>(value);
 }
 
-/// The sum of the lengths of the vectors in pairs, and a place for each.
-pub(crate) fn held_in_pairs<V: Token, F: Pairing<V>>(items: &[F::Pair]) -> u64
-    ensures { result ≡ told (items_size (pair_size F.word_of F.value_of ⟦<WordText as Token>⟧.value_size V.value_size) items.now) }
+/// The places, and the sum of the lengths of the vectors in the pairs.
+pub(crate) fn held_in_pairs<V: Token, F: Pairing<V>>(places: usize, cells: &[Cell<F::Pair>]) -> u64
+    ensures { result ≡ told (places +
+        sum_by (pair_size F.word_of F.value_of ⟦<WordText as Token>⟧.value_size V.value_size) (map item_of cells.now)) }
 {
-    let mut total: u64 = 0;
-    for pair in items {
-        let new_size = WordText::held_in(pair.key()).saturating_add(V::held_in(F::value(pair)));
-        total = total.saturating_add(1).saturating_add(new_size);
+    let mut total = places as u64;
+    for cell in cells {
+        let word = WordText::held_in(cell.item.key());
+        let size = word.saturating_add(V::held_in(F::value(&cell.item)));
+        total = total.saturating_add(size);
     }
     total
 }

@@ -49,9 +49,7 @@ pub struct DistinctPairs<V: Token, B: Start<V>, F: Pairing<V>> {
     stage: Stage,
     word: WordText,
     value: V,
-    items_held: u64,
     pairing: PhantomData<F>,
-    ghost counted: { items_held ≡ told (items_size (pair_size F.word_of F.value_of ⟦<WordText as Token>⟧.value_size V.value_size) items.items) },
     ghost lacks: { LacksByte (⟦<WordText as Token>⟧.means word) mark },
     ghost words_lack: { LacksByte (SpellsWord words.controller) mark },
     ghost stops: { Stops (V.means value) separator },
@@ -88,7 +86,6 @@ impl<V: Token, B: Start<V>, F: Pairing<V>> DistinctPairs<V, B, F> {
             stage: Stage::Before,
             word,
             value,
-            items_held: 0,
             pairing: PhantomData,
         }
     }
@@ -116,7 +113,6 @@ impl<V: Token, B: Start<V>, F: Pairing<V>> DistinctPairs<V, B, F> {
             stage: Stage::InWord,
             word,
             value,
-            items_held: 0,
             pairing: PhantomData,
         }
     }
@@ -145,9 +141,7 @@ impl<V: Token, B: Start<V>, F: Pairing<V>> DistinctPairs<V, B, F> {
             Err(e) => return Err(e),
         }
         let word = renew(&mut self.word, &self.words);
-        let new_size = WordText::held_in(&word);
         self.items.push(F::begin(word));
-        self.items_held = self.items_held.saturating_add(1).saturating_add(new_size);
         self.stage = Stage::InValue;
         Ok(true)
     }
@@ -174,9 +168,7 @@ impl<V: Token, B: Start<V>, F: Pairing<V>> DistinctPairs<V, B, F> {
             return Ok(false);
         }
         let value = renew(&mut self.value, &self.values);
-        let new_size = V::held_in(&value);
         complete_last::<V, F>(&mut self.items, value);
-        self.items_held = self.items_held.saturating_add(new_size);
         // The token is as new, but what it takes is known only of one that is made here.
         self.word = self.words.start();
         self.stage = Stage::InWord;
@@ -191,7 +183,7 @@ impl<V: Token, B: Start<V>, F: Pairing<V>> DistinctPairs<V, B, F> {
     {
         match self.stage {
             Stage::Before => false,
-            Stage::InWord => self.items.items().is_empty(),
+            Stage::InWord => self.items.cells().is_empty(),
             Stage::InValue => false,
         }
     }
@@ -336,7 +328,7 @@ impl<V: Token, B: Start<V>, F: Pairing<V>> Token for DistinctPairs<V, B, F> {
 
     fn held(&self) -> u64 {
         let at_hand = self.word.held().saturating_add(self.value.held());
-        self.items_held.saturating_add(at_hand)
+        held_in_pairs::<V, F>(self.items.places(), self.items.cells()).saturating_add(at_hand)
     }
 
     fn take(self) -> KeyedItems<F::Pair> {
@@ -353,7 +345,7 @@ impl<V: Token, B: Start<V>, F: Pairing<V>> Token for DistinctPairs<V, B, F> {
     }
 
     fn held_in(value: &KeyedItems<F::Pair>) -> u64 {
-        held_in_pairs::<V, F>(value.items())
+        held_in_pairs::<V, F>(value.places(), value.cells())
     }
 
     ghost completes = { λ s. state_completes F.word_of F.value_of F.paired F.has_word F.has_value s.items.items

@@ -1,76 +1,10 @@
-//! The empty text with a value, alone or beside a token's texts.
-ghost use Rattle.std.specs.Prelude.{◌≡◌, true, false, not, ◌||◌, refl, IsFalse};
+//! The empty text with a value, beside a token's texts.
+ghost use Rattle.std.specs.Prelude.{◌≡◌, not, ◌||◌, IsFalse};
 ghost use Rattle.cg_text.specs.Token.{Spells};
-ghost use Rattle.cg_join.specs.Ready.{IsReady, IsOrReady, OrReadyRest};
+ghost use Rattle.cg_join.specs.Ready.{IsOrReady, OrReadyRest};
 ghost use Rattle.cg_join.specs.Repeat.{LacksEmpty};
 
 use cg_text::{OutOfMemory, Token};
-
-/// The empty text, with a value that holds no vector.
-#[derive(Clone, Copy, Drop)]
-pub struct Ready<V> {
-    value: V,
-}
-
-impl<V: Copy> Ready<V> {
-    /// The empty text, with this value.
-    pub fn new(value: V) -> Ready<V>
-        ensures spells { Spells ⟦<Ready<V> as Token>⟧.means result (IsReady value) }
-        ensures size { ⟦<Ready<V> as Token>⟧.size result ≡ 0 }
-    {
-        Ready { value }
-    }
-}
-
-impl<V: Copy> Token for Ready<V> {
-    type Out = V;
-
-    ghost use Rattle.cg_join.specs.ReadyLaws.{ready_completes, ready_ends, ready_one, ready_bytes};
-
-    ghost means = { λ s. IsReady s.value };
-
-    ghost size = { λ _. 0 };
-
-    ghost value_size = { λ _. 0 };
-
-    ghost ends = { λ _. true };
-
-    ghost grows = { false };
-
-    fn step(&mut self, _byte: u8) -> Result<bool, OutOfMemory> {
-        Ok(false)
-    }
-
-    fn allows(&self, _byte: u8) -> bool {
-        false
-    }
-
-    fn can_end(&self) -> bool {
-        true
-    }
-
-    fn held(&self) -> u64 {
-        0
-    }
-
-    fn take(self) -> V {
-        self.value
-    }
-
-    fn held_in(_value: &V) -> u64 {
-        0
-    }
-
-    ghost completes = { λ s. ready_completes s.value };
-
-    ghost no_size = { λ _ _. refl };
-
-    ghost ends_is = { λ s. ready_ends s.value };
-
-    ghost one_value = { λ s. ready_one s.value };
-
-    ghost holds_bytes = { λ s. ready_bytes s.value };
-}
 
 /// A token's text with its value, or the empty text with another one. No text of the token is empty.
 #[derive(Drop)]

@@ -5,7 +5,7 @@ ghost use Rattle.cg_text.specs.Token.{Spells, told};
 ghost use Rattle.cg_join.specs.Repeat.{AreJoined, IsListAfter, LacksEmpty, Stops, items_size, out_size};
 
 use crate::start::Start;
-use crate::store::{held_in_joined, put};
+use crate::store::{held_in_all, held_in_joined, put};
 use cg_text::{Items, OutOfMemory, Token, make_room};
 use std::alloc::Global;
 use std::mem;
@@ -17,8 +17,6 @@ pub struct Repeat<T: Token, S: Start<T>> {
     separator: u8,
     items: Vec<T::Out>,
     current: T,
-    items_held: u64,
-    ghost counted: { items_held ≡ told (items_size T.value_size items.items) },
     ghost stops: { Stops (T.means current) separator },
     ghost starts: { Stops (S.texts start) separator },
     ghost filled: { LacksEmpty (S.texts start) },
@@ -40,7 +38,6 @@ impl<T: Token, S: Start<T>> Repeat<T, S> {
             separator,
             items: Vec::new(alloc),
             current,
-            items_held: 0,
         }
     }
 
@@ -62,9 +59,7 @@ impl<T: Token, S: Start<T>> Repeat<T, S> {
         if make_room(&mut self.items).is_err() {
             return 0;
         }
-        let new_size = T::held_in(&value);
         put(&mut self.items, value);
-        self.items_held = self.items_held.saturating_add(1).saturating_add(new_size);
         self.current = self.start.start();
         count + 1
     }
@@ -128,9 +123,7 @@ impl<T: Token, S: Start<T>> Token for Repeat<T, S> {
         let next = self.start.start();
         let done = mem::replace(&mut self.current, next);
         let value = done.take();
-        let new_size = T::held_in(&value);
         put(&mut self.items, value);
-        self.items_held = self.items_held.saturating_add(1).saturating_add(new_size);
         Ok(true)
     }
 
@@ -155,7 +148,7 @@ impl<T: Token, S: Start<T>> Token for Repeat<T, S> {
     }
 
     fn held(&self) -> u64 {
-        self.items_held.saturating_add(self.current.held())
+        held_in_all::<T>(self.items.as_slice()).saturating_add(self.current.held())
     }
 
     fn take(self) -> Items<T::Out> {

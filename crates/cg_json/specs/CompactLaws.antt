@@ -32,9 +32,6 @@ use Rattle.cg_json.specs.Value.{kind_word, value_data}
 
 -- ---- Parts one after another
 
-pub two_parts : (o a s b t e : List ℕ) → ((((o ++ a) ++ s) ++ b) ++ t) ++ e ≡ o ++ (a ++ (s ++ (b ++ (t ++ e))))
-two_parts o a s b t e = simp append_assoc
-
 pub three_parts : (o a s b t c u e : List ℕ) → ((((((o ++ a) ++ s) ++ b) ++ t) ++ c) ++ u) ++ e ≡ o ++ (a ++ (s ++ (b ++ (t ++ (c ++ (u ++ e))))))
 three_parts o a s b t c u e = simp append_assoc
 

@@ -1,11 +1,14 @@
 -- Trees of texts; and no tree has a number with a fraction, so that each has one text.
-use Rattle.std.proofs.Common.{◌≡◌, ℕ, zero, suc, ℤ, pos, negsuc, List, [], ◌∷◌, Bool, true, false, cond, ◌||◌, Option, Some, None, Ordering, Less, Equal, Greater, refl, sym, rules, arith, true≢false}
+use Rattle.std.proofs.Common.{◌≡◌, ℕ, zero, suc, ℤ, pos, negsuc, List, [], ◌∷◌, Bool, true, false, cond, ◌||◌, Option, Some, None, Ordering, Less, Equal, Greater, map, refl, sym, ap, rules, arith, true≢false}
+use Rattle.std.proofs.lemmas.List.Folds.{fold-map}
+use Rattle.std.proofs.lemmas.Simd.{map-map}
 use Rattle.std.proofs.lemmas.Str.{IsUtf8-from_ascii, is_utf8-from_IsUtf8, IsUtf8-from_is_utf8}
 use Rattle.std.specs.Cmp.Lexicographic.{slice_cmp}
 use Rattle.std.specs.List.{fold}
 use Rattle.std.specs.Ordering.{match_ordering, nat_cmp}
 use Rattle.std.specs.Str.{IsUtf8, IsAscii, is_utf8}
-use Rattle.serde_json.specs.Data.{Data, Members, no_members, member, put, string}
+use Rattle.serde_json.specs.Data.{Data, Members, no_members, member, put, string, array, object}
+use Rattle.serde_json.specs.View.{items_of}
 use Rattle.serde_json.specs.Written.{has_float, members_have_float}
 use Rattle.cg_text.specs.Word.{IsWord, AreWordBytes}
 use Rattle.cg_text.specs.declared.values.Amount.{Amount}
@@ -22,6 +25,14 @@ use Rattle.cg_value.specs.declared.value.StatLine.{StatLine}
 use Rattle.cg_value.specs.declared.value.WeightLine.{WeightLine}
 use Rattle.cg_json.specs.Json.{array_of, keyed, given_data, number_data, signed_data, text_data, limit_data, clamp_data, amount_data}
 use Rattle.cg_json.specs.Json.{cpu_max_data, stat_data, limits_data, weight_data, weights_data, partition_data, averages_data, pressure_data, nested_data}
+
+-- ---- What lies in places
+
+pub array_mapped : {X Y : Type 0} (f : Y → Data) (h : X → Y) (xs : List X) → array_of f (map h xs) ≡ array_of (λ x. f (h x)) xs
+array_mapped f h xs = ap (λ ds. array (items_of ds)) (map-map f h xs)
+
+pub keyed_mapped : {X Y : Type 0} (key : Y → List ℕ) (f : Y → Data) (h : X → Y) (xs : List X) → keyed key f (map h xs) ≡ keyed (λ x. key (h x)) (λ x. f (h x)) xs
+keyed_mapped key f h xs = ap object (fold-map (λ ms y. put (key y) (f y) ms) h no_members xs)
 
 -- ---- Texts
 

@@ -4,8 +4,8 @@ ghost use Rattle.serde_json.specs.View.{view};
 ghost use Rattle.serde_json.specs.Written.{compact_text};
 ghost use Rattle.cg_json.specs.Json.{stat_data, limits_data, weight_data, target_data, weights_data};
 
-use crate::compact::{append_array, append_byte, append_bytes, append_labelled, append_object};
-use crate::json::{Json, array, object};
+use crate::compact::{append_array, append_byte, append_bytes, append_labelled};
+use crate::json::{Json, array};
 use cg_text::OutOfMemory;
 use cg_value::{LimitLine, StatLine, TargetLine, WeightLine};
 use serde_json::{Map, Value};
@@ -18,14 +18,13 @@ impl Json for StatLine {
     fn json(&self, alloc: Global) -> Result<Value, OutOfMemory> {
         let mut map = Map::new(alloc);
         serde_json::put(&mut map, alloc, "device", self.device.json(alloc)?)?;
-        serde_json::put(&mut map, alloc, "stats", object(alloc, self.pairs.items())?)?;
+        serde_json::put(&mut map, alloc, "stats", self.pairs.json(alloc)?)?;
         Ok(Value::Object(map))
     }
 
     fn append_to(&self, out: &mut Vec<u8>) -> Result<(), OutOfMemory> {
         append_labelled(out, b"{\"device\":", &self.device)?;
-        append_bytes(out, b",\"stats\":")?;
-        append_object(out, self.pairs.items())?;
+        append_labelled(out, b",\"stats\":", &self.pairs)?;
         append_byte(out, b'}')
     }
 }

@@ -6,6 +6,7 @@ ghost use Rattle.serde_json.specs.Written.{compact_text};
 ghost use Rattle.cg_json.specs.Json.{array_of, keyed};
 
 use crate::text::key_text;
+use cg_index::{Cell, HasKey};
 use cg_text::{Key, OutOfMemory};
 use serde_json::{Map, Value};
 use std::alloc::Global;
@@ -52,6 +53,28 @@ impl<T: Member> Member for &T {
 
     fn key(&self) -> &Key {
         T::key(*self)
+    }
+}
+
+/// The tree of the item.
+impl<T: Json> Json for Cell<T> {
+    ghost tree_of = { λ cell. T.tree_of cell.item };
+
+    fn json(&self, alloc: Global) -> Result<Value, OutOfMemory> {
+        self.item.json(alloc)
+    }
+
+    fn append_to(&self, out: &mut Vec<u8>) -> Result<(), OutOfMemory> {
+        self.item.append_to(out)
+    }
+}
+
+/// The item, by its key.
+impl<T: Json + HasKey> Member for Cell<T> {
+    ghost key_of = { λ cell. T.HasKey.key_of cell.item };
+
+    fn key(&self) -> &Key {
+        self.item.key()
     }
 }
 

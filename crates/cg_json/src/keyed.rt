@@ -1,9 +1,10 @@
 //! Pairs of a key and a number, and lines of such pairs.
-ghost use Rattle.cg_json.specs.Json.{number_data, amount_data, nested_data};
+ghost use Rattle.cg_json.specs.Json.{keyed, number_data, amount_data, nested_data};
 
 use crate::compact::append_object;
-use crate::json::{Json, Member, object};
-use cg_text::{Key, OutOfMemory};
+use crate::json::{Json, object};
+use cg_index::{HasKey, KeyedItems};
+use cg_text::OutOfMemory;
 use cg_value::{FlatPair, NestedLine, NestedPair, StatPair};
 use serde_json::Value;
 use std::alloc::Global;
@@ -21,14 +22,6 @@ impl Json for FlatPair {
     }
 }
 
-impl Member for FlatPair {
-    ghost key_of = { λ pair. pair.key };
-
-    fn key(&self) -> &Key {
-        &self.key
-    }
-}
-
 /// The number.
 impl Json for NestedPair {
     ghost tree_of = { λ pair. number_data pair.number };
@@ -39,14 +32,6 @@ impl Json for NestedPair {
 
     fn append_to(&self, out: &mut Vec<u8>) -> Result<(), OutOfMemory> {
         self.number.append_to(out)
-    }
-}
-
-impl Member for NestedPair {
-    ghost key_of = { λ pair. pair.key };
-
-    fn key(&self) -> &Key {
-        &self.key
     }
 }
 
@@ -63,11 +48,16 @@ impl Json for StatPair {
     }
 }
 
-impl Member for StatPair {
-    ghost key_of = { λ pair. pair.key };
+/// The object of these.
+impl<T: Json + HasKey> Json for KeyedItems<T> {
+    ghost tree_of = { λ items. keyed T.HasKey.key_of T.Json.tree_of items };
 
-    fn key(&self) -> &Key {
-        &self.key
+    fn json(&self, alloc: Global) -> Result<Value, OutOfMemory> {
+        object(alloc, self.cells())
+    }
+
+    fn append_to(&self, out: &mut Vec<u8>) -> Result<(), OutOfMemory> {
+        append_object(out, self.cells())
     }
 }
 
@@ -76,18 +66,10 @@ impl Json for NestedLine {
     ghost tree_of = { nested_data };
 
     fn json(&self, alloc: Global) -> Result<Value, OutOfMemory> {
-        object(alloc, self.pairs.items())
+        self.pairs.json(alloc)
     }
 
     fn append_to(&self, out: &mut Vec<u8>) -> Result<(), OutOfMemory> {
-        append_object(out, self.pairs.items())
-    }
-}
-
-impl Member for NestedLine {
-    ghost key_of = { λ line. line.key };
-
-    fn key(&self) -> &Key {
-        &self.key
+        self.pairs.append_to(out)
     }
 }

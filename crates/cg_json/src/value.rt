@@ -51,7 +51,7 @@ impl Json for Value {
             Value::CpuMax { quota, period } => cpu_max(alloc, *quota, *period),
             Value::Clamp(clamp) => clamp.json(alloc),
             Value::Numbers(numbers) => array(alloc, numbers.as_slice()),
-            Value::Words(words) => array(alloc, words.items()),
+            Value::Words(words) => array(alloc, words.cells()),
             Value::Flat(flat) => object(alloc, flat.pairs()),
             Value::DeviceStats(lines) => array(alloc, lines.as_slice()),
             Value::DeviceLimits(lines) => array(alloc, lines.as_slice()),
@@ -64,7 +64,7 @@ impl Json for Value {
                 reason,
             } => partition(alloc, *role, *valid, reason),
             Value::Pressure { some, full } => pressure(alloc, *some, *full),
-            Value::Nested(lines) => object(alloc, lines.items()),
+            Value::Nested(lines) => lines.json(alloc),
             Value::Raw(lines) => texts(alloc, lines),
         }
     }
@@ -78,7 +78,7 @@ impl Json for Value {
             Value::CpuMax { quota, period } => append_cpu_max(out, *quota, *period),
             Value::Clamp(clamp) => clamp.append_to(out),
             Value::Numbers(numbers) => append_array(out, numbers.as_slice()),
-            Value::Words(words) => append_array(out, words.items()),
+            Value::Words(words) => append_array(out, words.cells()),
             Value::Flat(flat) => append_object(out, flat.pairs()),
             Value::DeviceStats(lines) => append_array(out, lines.as_slice()),
             Value::DeviceLimits(lines) => append_array(out, lines.as_slice()),
@@ -95,7 +95,7 @@ impl Json for Value {
                 reason,
             } => append_partition(out, *role, *valid, reason),
             Value::Pressure { some, full } => append_pressure(out, *some, *full),
-            Value::Nested(lines) => append_object(out, lines.items()),
+            Value::Nested(lines) => lines.append_to(out),
             Value::Raw(lines) => append_texts(out, lines),
         }
     }

@@ -1,5 +1,6 @@
 -- The texts of values in terms of what joins them.
 use Rattle.std.proofs.Common.{◌≡◌, ℕ, List, [], ◌∷◌, ◌++◌, map, refl, ap, append_assoc, append-nil}
+use Rattle.std.proofs.lemmas.List.Folds.{flat_map-map}
 use Rattle.std.specs.List.{flat_map}
 use Rattle.cg_value.specs.Lines.{unlines}
 use Rattle.cg_value.specs.Print.{print_led, print_range, print_set}
@@ -36,6 +37,11 @@ headed_shown path (line ∷ lines) = rw (headed_shown path lines, append_assoc p
 pub led_is : {X : Type 0} (f : X → List ℕ) (xs : List X) → led 32 f xs ≡ print_led f xs
 led_is f [] = refl
 led_is f (x ∷ xs) = ap (λ t. 32 ∷ (f x ++ t)) (led_is f xs)
+
+-- What lies in places is joined as the places are.
+pub joined_mapped : {X Y : Type 0} (mark : ℕ) (f : Y → List ℕ) (h : X → Y) (xs : List X) → joined mark f (map h xs) ≡ joined mark (λ x. f (h x)) xs
+joined_mapped mark f h [] = refl
+joined_mapped mark f h (x ∷ xs) = ap (λ t. f (h x) ++ t) (flat_map-map (λ y. mark ∷ f y) h xs)
 
 -- Words with spaces between.
 pub words_is : (ws : List (List ℕ)) → joined 32 (λ w. w) ws ≡ words_line ws

@@ -4,7 +4,7 @@ ghost use Rattle.cg_value.specs.Print.{print_given, print_led};
 ghost use Rattle.cg_print.specs.Joined.{led, joined};
 ghost use Rattle.cg_print.specs.Headed.{headed};
 
-use cg_index::{HasKey, KeyedItems};
+use cg_index::{Cell, HasKey, KeyedItems};
 use cg_text::OutOfMemory;
 
 /// What has a canonical text.
@@ -15,6 +15,14 @@ pub(crate) trait Canonical {
     /// Adds the canonical text.
     fn append_to(&self, out: &mut Vec<u8>) -> Result<(), OutOfMemory>
         ensures { OnOk result (out.new.items ≡ out.old.items ++ printed self.now) };
+}
+
+impl<T: Canonical> Canonical for Cell<T> {
+    ghost printed = { λ cell. T.printed cell.item };
+
+    fn append_to(&self, out: &mut Vec<u8>) -> Result<(), OutOfMemory> {
+        self.item.append_to(out)
+    }
 }
 
 /// Adds bytes.
@@ -94,7 +102,7 @@ pub(crate) fn append_keyed_lines<T: Canonical + HasKey>(
 ) -> Result<(), OutOfMemory>
     ensures { OnOk result (out.new.items ≡ out.old.items ++ headed head.now (map T.printed lines.now)) }
 {
-    append_lines(out, head, lines.items())
+    append_lines(out, head, lines.cells())
 }
 
 /// Adds values, each with the mark before it.
@@ -115,7 +123,7 @@ pub(crate) fn append_spaced<T: Canonical + HasKey>(
 ) -> Result<(), OutOfMemory>
     ensures { OnOk result (out.new.items ≡ out.old.items ++ print_led T.printed items.now) }
 {
-    append_led(out, b' ', items.items())
+    append_led(out, b' ', items.cells())
 }
 
 /// Adds values, with the mark between them.

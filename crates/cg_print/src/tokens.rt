@@ -130,7 +130,7 @@ impl Canonical for KeyedItems<Key> {
     ghost printed = { words_line };
 
     fn append_to(&self, out: &mut Vec<u8>) -> Result<(), OutOfMemory> {
-        append_joined(out, b' ', self.items())
+        append_joined(out, b' ', self.cells())
     }
 }
 

@@ -2,7 +2,7 @@
 use Rattle.std.proofs.Common.{◌≡◌, ℕ, zero, suc, ◌+◌, ◌-◌, ◌*◌, ◌/◌, ◌%◌, ◌^◌, ◌≤◌, ◌<◌, inl, inr, Bool, true, false, ltb, leb, ◌&&◌, ◌||◌, List, [], ◌∷◌, ◌++◌, length, refl, sym, ◌∙◌, arith, leb-true}
 use Rattle.std.proofs.Common.{le-leb, ltb-true, lt-ltb, max, IsTrue, ◌↔◌}
 use Rattle.std.proofs.lemmas.Bool.{and_from, and_parts}
-use Rattle.std.proofs.Math.Nat.{pow-succ', mul-le-mul_left, mul-le-mul_right}
+use Rattle.std.proofs.Math.Nat.{pow-succ', mul-le-mul_right}
 use native.Mathlib.Decide.{dec_lt}
 use Prim.{yes, no}
 use Rattle.std.proofs.Common.{take, add-one}
@@ -116,9 +116,6 @@ Spans_back lo hi low high s = record {
 -- With no digit to come.
 pub Spans_here : (lo hi low high : ℕ) → lo < high → low ≤ hi → Spans lo hi low high
 Spans_here lo hi low high a b = record { digits = 0; meets_hi = omega arith; meets_lo = omega arith }
-
-pub Spans_low : (lo hi low high : ℕ) → Spans lo hi low high → low ≤ hi
-Spans_low lo hi low high s = omega (arith, s.meets_hi, mul-le-mul_left low (pow_pos_ten s.digits))
 
 -- A number above 0 has a first digit.
 first_digit : (fuel n : ℕ) → n ≤ fuel → 0 < n → (d : ℕ) × (k : ℕ) × (1 ≤ d) × (d ≤ 9) × (d * 10 ^ k ≤ n) × (n < (d + 1) * 10 ^ k)

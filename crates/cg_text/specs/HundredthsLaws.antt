@@ -127,12 +127,6 @@ module _ (form : Form) (byte : ℕ) (P P' : List ℕ → ℕ → Type 0) (digit 
       let s : x ≡ byte = cc in
       record { whole = whole; front = front; back = back; text_is = cc; begins = (f front whole).1 (rw s at p); ends = h }
 
-  pub whole_digit : (text : List ℕ) (count : ℕ) → WholeRest form P' text count ↔ WholeRest form P (byte ∷ text) count
-  whole_digit text count = (
-    λ h. record { whole = h.whole; front = byte ∷ h.front; back = h.back; text_is = ap (λ x. byte ∷ x) h.text_is; begins = (f h.front h.whole).0 h.begins; ends = h.ends },
-    λ h. digit_at text h.front h.back h.whole count h.text_is h.begins h.ends,
-  )
-
 -- A whole part is within its bound.
 pub whole_within : (most : ℕ) (progress : Progress) (rest : List ℕ) (n : ℕ) → WholePart most progress rest n → 100 * n ≤ most
 whole_within most Start rest n h = omega (arith, h.1)
@@ -193,14 +187,6 @@ module _ (form : Form) (byte : ℕ) (P : List ℕ → ℕ → Type 0) (none : (x
   none_at text [] [] whole count e p h = cc
   none_at text [] (c ∷ back) whole count e p h = let s : c ≡ byte = cc in no_dot (sym s ∙ h.0) whole p
   none_at text (x ∷ front) back whole count e p h = let s : x ≡ byte = cc in none front whole (rw s at p)
-
-  pub whole_none : (text : List ℕ) (count : ℕ) → WholeRest form P (byte ∷ text) count → ⊥
-  whole_none text count h = none_at text h.front h.back h.whole count h.text_is h.begins h.ends
-
--- A digit after the dot adds to the count.
-pub tenth_least : (form : Form) (base : ℕ) (rest : List ℕ) (count : ℕ) → AfterTenth form base rest count → base ≤ count
-tenth_least form base [] count h = omega (arith, h.1)
-tenth_least form base (c ∷ cs) count h = omega (arith, h.2)
 
 -- Every state can be completed.
 pub hundredths_completes : (form : Form) (most : ℕ) (part : Part) → IsWithin most part → (rest : List ℕ) × (h : Hundredths) × HundredthsRest form most part rest h

@@ -1,5 +1,5 @@
 -- The one text of a number, which is what is printed.
-use Rattle.std.proofs.Common.{◌≡◌, ℕ, zero, suc, ◌+◌, ◌-◌, ◌*◌, ◌/◌, ◌%◌, ◌^◌, ◌≤◌, ◌<◌, inl, inr, ℤ, pos, negsuc, ◌≤ℤ◌, List, [], ◌∷◌, ◌++◌, length, refl, sym, ◌∙◌, ap, arith, w64}
+use Rattle.std.proofs.Common.{◌≡◌, ℕ, zero, suc, ◌+◌, ◌-◌, ◌*◌, ◌/◌, ◌%◌, ◌^◌, ◌≤◌, ◌<◌, inl, inr, ℤ, pos, negsuc, ◌≤ℤ◌, List, [], ◌∷◌, ◌++◌, length, refl, sym, ◌∙◌, arith, w64}
 use Rattle.std.proofs.Math.Nat.{pow-succ', pow-le-pow_right, one-le-pow, mul-le-mul_right}
 use Rattle.std.proofs.lemmas.Fmt.{decimal_by_steps}
 use Rattle.std.specs.Fmt.{decimal, signed_decimal}
@@ -91,11 +91,6 @@ numeral_one_text n (c ∷ cs) (d ∷ ds) (inl (h0, h1, h2)) (inl (k0, k1, k2)) =
 numeral_one_text n (c ∷ cs) (d ∷ ds) (inl h) (inr k) = absurd (omega (arith, h.2, k.3, above_zero (d - 48) ds (omega (arith, k.0))))
 numeral_one_text n (c ∷ cs) (d ∷ ds) (inr h) (inl k) = absurd (omega (arith, k.2, h.3, above_zero (c - 48) cs (omega (arith, h.0))))
 numeral_one_text n (c ∷ cs) (d ∷ ds) (inr h) (inr k) = one_long n c d cs ds h.0 h.1 h.2 h.3 k.0 k.1 k.2 k.3
-
--- A signed number has one text.
-pub signed_one_text : (z : ℤ) (t u : List ℕ) → IsSignedNumeral z t → IsSignedNumeral z u → t ≡ u
-signed_one_text (pos n) t u h k = numeral_one_text n t u h k
-signed_one_text (negsuc n) t u h k = h.1 ∙ ap (λ x. 45 ∷ x) (numeral_one_text (suc n) h.0 k.0 h.2 k.2) ∙ sym k.1
 
 -- A text of a number is what is printed of it.
 pub numeral_is_decimal : (n : ℕ) (text : List ℕ) → n < 2 ^ 64 → IsNumeral n text → text ≡ decimal n

@@ -1,7 +1,6 @@
 -- A value has one text in its read form.
 use Rattle.std.proofs.Common.{◌≡◌, ℕ, List, sym, ◌∙◌, arith}
 use Rattle.cg_text.specs.Amount.{IsAmount}
-use Rattle.cg_text.specs.Clamp.{IsClamp}
 use Rattle.cg_text.specs.Decimal.{IsDecimal}
 use Rattle.cg_text.specs.Device.{IsDevice}
 use Rattle.cg_text.specs.Hundredths.{IsHundredths, HasTwoDigits}
@@ -10,8 +9,6 @@ use Rattle.cg_text.specs.NumeralLaws.{numeral_one_text}
 use Rattle.cg_text.specs.declared.hundredths.Form.TheVariants.{Read}
 use Rattle.cg_text.specs.declared.values.Amount.{Amount}
 use Rattle.cg_text.specs.declared.values.Amount.TheVariants as amount
-use Rattle.cg_text.specs.declared.values.Clamp.{Clamp}
-use Rattle.cg_text.specs.declared.values.Clamp.TheVariants as clamp
 use Rattle.cg_text.specs.declared.values.Device.{Device}
 use Rattle.cg_text.specs.declared.values.Hundredths.{Hundredths}
 use Rattle.cg_text.specs.declared.values.Limit.{Limit}
@@ -34,10 +31,6 @@ two_digits count t u h k =
 
 pub hundredths_text : (most : ℕ) (v : Hundredths) (t u : List ℕ) → IsHundredths Read most v t → IsHundredths Read most v u → t ≡ u
 hundredths_text most v t u h k = two_digits v.count t u h.1 k.1
-
-pub clamp_text : (v : Clamp) (t u : List ℕ) → IsClamp Read v t → IsClamp Read v u → t ≡ u
-clamp_text clamp.Max t u h k = h ∙ sym k
-clamp_text (clamp.At v) t u h k = hundredths_text 10000 v t u h k
 
 pub amount_text : (v : Amount) (t u : List ℕ) → IsAmount v t → IsAmount v u → t ≡ u
 amount_text amount.Max t u h k = h ∙ sym k

@@ -9,8 +9,6 @@ one_more text rest i h = rw (take_more text i 0 h) (append_assoc (take i text) (
 
 module _ {S V : Type 0} (means : S → List ℕ → V → Type 0) where
   -- No byte was taken.
-  pub run_none : (s : S) → FollowsRun means s [] s
-  run_none s rest v = (λ h. h, λ h. h)
 
   -- One more byte was taken.
   pub run_more : (old s new : S) (text : List ℕ) (i : ℕ) → i < length text → FollowsRun means old (take i text) s → Follows means s (get_or text i 0) new → FollowsRun means old (take (i + 1) text) new

@@ -1,5 +1,5 @@
 -- What holds of texts without a byte.
-use Rattle.std.proofs.Common.{◌≡◌, ◌≢◌, ℕ, ◌≤◌, List, [], ◌∷◌, ◌++◌, length, refl, arith}
+use Rattle.std.proofs.Common.{◌≡◌, ◌≢◌, ℕ, List, [], ◌∷◌, ◌++◌, refl}
 use Rattle.cg_text.specs.Texts.{Lacks}
 
 -- The byte isn't inside.
@@ -13,10 +13,6 @@ lacks_both b (x ∷ xs) ys h k = (h.0, lacks_both b xs ys h.1 k)
 
 pub lacks_push : (b : ℕ) (xs : List ℕ) (x : ℕ) → Lacks b xs → x ≢ b → Lacks b (xs ++ x ∷ [])
 lacks_push b xs x h n = lacks_both b xs (x ∷ []) h (n, tt)
-
-pub lacks_none : (b : ℕ) (xs : List ℕ) → length xs ≤ 0 → Lacks b xs
-lacks_none b [] h = tt
-lacks_none b (x ∷ xs) h = absurd (omega arith)
 
 -- A text that lacks the byte, and the byte: it stands there alone.
 pub only_at_end : (b : ℕ) (line front more : List ℕ) → Lacks b line → line ++ b ∷ [] ≡ front ++ b ∷ more → more ≡ []

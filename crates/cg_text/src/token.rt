@@ -85,7 +85,7 @@ pub trait Token: Drop + Sized {
     fn can_end(&self) -> bool
         ensures { result ≡ ends self.now };
 
-    /// The sum of the lengths of its vectors.
+    /// The sum of the lengths of its vectors. The bytes of a short key, which lie in the key itself, count as a vector's do.
     fn held(&self) -> u64
         ensures { result ≡ told (size self.now) };
 

@@ -1,6 +1,7 @@
 //! The findings of a hierarchy.
-ghost use Rattle.std.specs.Prelude.{◌≡◌, ◌++◌, IfOk, OnOk};
+ghost use Rattle.std.specs.Prelude.{◌≡◌, ◌++◌, IfOk, OnOk, map};
 ghost use Rattle.std.specs.List.{flat_map, list_any};
+ghost use Rattle.cg_index.specs.Cells.{item_of};
 ghost use Rattle.cg_tree.specs.Find.{words_of, is_among, threaded, allows, lacking, is_domain, find};
 ghost use Rattle.cg_tree.specs.Directory.{name_of};
 ghost use Rattle.cg_tree.specs.FindLaws.{IsHierarchyOf, looked_up};
@@ -8,16 +9,17 @@ ghost use Rattle.cg_tree.specs.Ruled.{is_ruled};
 
 use crate::files::{File, Index, named};
 use crate::finding::{Finding, Rule};
+use cg_index::Cell;
 use cg_text::{Key, OutOfMemory};
 use cg_value::{Entry, GroupMode, Value};
 use std::alloc::Global;
 
-/// The words of a value of words. Another value has none.
-fn words_of(value: &Value) -> &[Key]
-    ensures { result.now ≡ words_of value.now }
+/// The words of a value of words, each in its cell. Another value has none.
+fn words_of(value: &Value) -> &[Cell<Key>]
+    ensures { map item_of result.now ≡ words_of value.now }
 {
     match value {
-        Value::Words(words) => words.items(),
+        Value::Words(words) => words.cells(),
         _ => &[],
     }
 }
@@ -61,8 +63,8 @@ fn report(
 ) -> Result<(), OutOfMemory>
     ensures { OnOk result (found.new.items ≡ found.old.items ++ lacking rule control.now other.now) }
 {
-    for (word, name) in words_of(control.value).iter().enumerate() {
-        if !allows(rule, other, name.bytes()) {
+    for (word, cell) in words_of(control.value).iter().enumerate() {
+        if !allows(rule, other, cell.item.bytes()) {
             found.push(Finding {
                 rule,
                 at: control.place,

@@ -26,9 +26,9 @@ abbrev pub HasDistinctKeys : List FlatPair → Type 0
 HasDistinctKeys [] = Unit {0}
 HasDistinctKeys (p ∷ ps) = (number_of p.key ps ≡ None) × HasDistinctKeys ps
 
--- The lengths of the vectors: each key's, and for each pair a place in each of two.
+-- The length of its vector, and the lengths of the keys.
 abbrev pub flat_size : List FlatPair → ℕ
-flat_size ps = sum_by (λ p. length p.key + 2) ps
+flat_size ps = sum_by (λ p. length p.key + 1) ps
 
 -- Whether the pairs are the same, one by one.
 abbrev pub are_same : List FlatPair → List FlatPair → Bool

@@ -11,8 +11,10 @@ use Rattle.std.specs.Cmp.Lexicographic.{lists_per, pointwise}
 use Rattle.std.specs.List.{sum_by}
 use Rattle.std.specs.Str.{bytes_eq}
 use Rattle.cg_text.specs.Distinct.{AreDistinct, LacksValue}
+use Rattle.cg_index.specs.Cells.{item_of}
 use Rattle.cg_index.specs.Keyed.{is_among, place_among}
 use Rattle.cg_index.specs.KeyedLaws.{some_place}
+use Rattle.cg_index.specs.declared.cell.Cell.{Cell}
 use Rattle.cg_value.specs.declared.flat.FlatPair.{FlatPair}
 use Rattle.cg_value.specs.Flat.{has_key, number_of, place_of, HasDistinctKeys, flat_size, are_same}
 
@@ -86,10 +88,10 @@ number_there key (p ∷ ps) i d e =
 
 -- What the pairs hold.
 
-pub parts_size : (ps : List FlatPair) → length ps + length ps + sum_by (λ p. length p.key) ps ≡ flat_size ps
+pub parts_size : (cells : List (Cell FlatPair)) → length cells + sum_by (λ cell. length cell.item.key) cells ≡ flat_size (map item_of cells)
 parts_size [] = refl
-parts_size (p ∷ ps) =
-    omega (arith, sum_by-cons (λ (p : FlatPair). length p.key) p ps, sum_by-cons (λ (p : FlatPair). length p.key + 2) p ps, parts_size ps)
+parts_size (c ∷ cs) =
+    omega (arith, sum_by-cons (λ (cell : Cell FlatPair). length cell.item.key) c cs, sum_by-cons (λ (p : FlatPair). length p.key + 1) c.item (map item_of cs), parts_size cs)
 
 -- Pairs that are the same.
 

@@ -1,7 +1,6 @@
 -- A value that is read has one text: its canonical one, except that no words also have the text of no bytes.
-use Rattle.std.proofs.Common.{◌≡◌, ℕ, ◌+◌, ◌≤◌, ◌⊎◌, inl, inr, Bool, ℤ, pos, negsuc, List, [], ◌∷◌, ◌++◌, length, Option, Some, None, codes, map, refl, sym, ◌∙◌, ap, arith, length-append}
+use Rattle.std.proofs.Common.{◌≡◌, ℕ, ◌≤◌, ◌⊎◌, inl, inr, Bool, ℤ, pos, negsuc, List, [], ◌∷◌, ◌++◌, Option, Some, None, codes, map, refl, sym, ◌∙◌, ap, arith}
 use Rattle.std.proofs.lemmas.Int.{ints}
-use Rattle.std.proofs.lemmas.List.{length-map}
 use Rattle.std.proofs.lemmas.List.Elements.{All-nil}
 use Rattle.std.specs.Fmt.{decimal, signed_decimal}
 use Rattle.std.specs.List.{AllZip}
@@ -154,40 +153,3 @@ no_words_text = record { lines = []; spelled = record { x = []; value = refl; sp
 abbrev pub count_of : {X : Type 0} → Option X → ℕ
 count_of None = 0
 count_of (Some x) = 1
-
-abbrev pub count_lines : Value → ℕ
-count_lines (value.Numbers ns) = length ns
-count_lines (value.Flat ps) = length ps
-count_lines (value.DeviceStats ls) = length ls
-count_lines (value.DeviceLimits ls) = length ls
-count_lines (value.DeviceWeights default ls) = length ls + 1
-count_lines (value.DeviceTargets ls) = length ls
-count_lines (value.Pressure some full) = count_of some + count_of full
-count_lines (value.Nested ls) = length ls
-count_lines (value.Raw ls) = length ls
-count_lines _ = 1
-
-pressure_counted : (word : List ℕ) (a : Option Averages) → length (print_pressure_line word a) ≡ count_of a
-pressure_counted word None = refl
-pressure_counted word (Some a) = refl
-
-pub lines_counted : (v : Value) → length (print_lines v) ≡ count_lines v
-lines_counted (value.Number n) = refl
-lines_counted (value.Signed z) = refl
-lines_counted (value.Limit l) = refl
-lines_counted (value.Mode m) = refl
-lines_counted (value.CpuMax quota period) = refl
-lines_counted (value.Clamp c) = refl
-lines_counted (value.Numbers ns) = length-map ns decimal
-lines_counted (value.Words ws) = refl
-lines_counted (value.Flat ps) = length-map ps print_flat_line
-lines_counted (value.DeviceStats ls) = length-map ls print_stat_line
-lines_counted (value.DeviceLimits ls) = length-map ls print_limit_line
-lines_counted (value.DeviceWeights default ls) = omega (arith, length-map ls print_weight_line)
-lines_counted (value.DeviceTargets ls) = length-map ls print_target_line
-lines_counted (value.Set set) = refl
-lines_counted (value.Partition role valid reason) = refl
-lines_counted (value.Pressure some full) =
-    length-append (print_pressure_line (codes "some") some) (print_pressure_line (codes "full") full) ∙ rw (pressure_counted (codes "some") some, pressure_counted (codes "full") full)
-lines_counted (value.Nested ls) = length-map ls print_nested_line
-lines_counted (value.Raw ls) = refl

@@ -28,6 +28,8 @@ use Rattle.cg_text.specs.declared.values.Clamp.{Clamp}
 use Rattle.cg_text.specs.declared.values.Clamp.TheVariants as clamp
 use Rattle.cg_text.specs.declared.values.Limit.{Limit}
 use Rattle.cg_text.specs.declared.values.Limit.TheVariants as limit
+use Rattle.cg_index.specs.Cells.{item_of}
+use Rattle.cg_index.specs.declared.cell.Cell.{Cell}
 use Rattle.cg_value.specs.Flat.{number_of, HasDistinctKeys}
 use Rattle.cg_value.specs.Kind.{any_u64}
 use Rattle.cg_value.specs.Lines.{HasParts, IsKey, AreLed}
@@ -361,11 +363,15 @@ same_words : (words : List (List ℕ)) → map (λ w. w) words ≡ words
 same_words [] = refl
 same_words (w ∷ ws) = ap (λ x. w ∷ x) (same_words ws)
 
--- Different words have lines exactly where each is a controller's.
-pub words_text : (words : List (List ℕ)) → (All IsControllerWord words × AreDistinct (map (λ w. w) words)) ↔ HasLines (AreWords words)
-words_text words = rw same_words (
-  λ h. record { lines = words_line words ∷ []; spelled = record { each = h.0; distinct = h.1; lines_are = inl refl } },
-  λ h. (h.spelled.each, h.spelled.distinct),
+all_back : {X Y : Type 0} (f : X → Y) (P : Y → Type 0) (xs : List X) → All P (map f xs) → All (λ x. P (f x)) xs
+all_back f P [] h = All-nil (λ x. P (f x))
+all_back f P (x ∷ xs) h = All-cons (λ y. P (f y)) x xs (All-head P (f x) (map f xs) h) (all_back f P xs (All-tail P (f x) (map f xs) h))
+
+-- Different words in cells have lines exactly where each is a controller's.
+pub words_text : (cells : List (Cell (List ℕ))) → (All (λ cell. IsControllerWord cell.item) cells × AreDistinct (map (λ w. w) (map item_of cells))) ↔ HasLines (AreWords (map item_of cells))
+words_text cells = rw (same_words (map item_of cells)) (
+  λ h. record { lines = words_line (map item_of cells) ∷ []; spelled = record { each = All-map IsControllerWord item_of cells h.0; distinct = h.1; lines_are = inl refl } },
+  λ h. (all_back item_of IsControllerWord cells h.spelled.each, h.spelled.distinct),
 )
 
 pressure_line : (word : List ℕ) (a : Averages) → HasText (AreAverages a) ↔ HasText (IsPressureLine word a)

@@ -1,13 +1,14 @@
 //! Copies of values.
 ghost use Rattle.std.specs.Prelude.{◌≡◌, IfOk, map};
 ghost use Rattle.cg_text.specs.Distinct.{AreDistinct};
+ghost use Rattle.cg_index.specs.Cells.{item_of};
 
 use crate::flat::Flat;
 use crate::raw_lines::RawLines;
 use crate::value::{
     LimitLine, NestedLine, NestedPair, StatLine, StatPair, TargetLine, Value, WeightLine,
 };
-use cg_index::{HasKey, KeyedBuilder, KeyedItems};
+use cg_index::{Cell, HasKey, KeyedBuilder, KeyedItems};
 use cg_text::{Items, Key, KeyFault, NumberSet, OutOfMemory};
 use std::alloc::Global;
 
@@ -53,14 +54,14 @@ impl<T: Copied> Copied for Items<T> {
 /// Copies of items whose keys are all different.
 pub(crate) fn copy_all<T: Copied + HasKey>(
     alloc: Global,
-    items: &[T],
+    cells: &[Cell<T>],
 ) -> Result<KeyedBuilder<T>, OutOfMemory>
-    requires { AreDistinct (map T.key_of items.now) }
-    ensures { IfOk result (λ copies. copies.items ≡ items.now) }
+    requires { AreDistinct (map T.key_of (map item_of cells.now)) }
+    ensures { IfOk result (λ copies. copies.items ≡ map item_of cells.now) }
 {
     let mut copies = KeyedBuilder::new(alloc);
-    for item in items {
-        let copy = item.copy(alloc)?;
+    for cell in cells {
+        let copy = cell.item.copy(alloc)?;
         copies.reserve()?;
         copies.push(copy);
     }
@@ -69,7 +70,7 @@ pub(crate) fn copy_all<T: Copied + HasKey>(
 
 impl<T: Copied + HasKey> Copied for KeyedItems<T> {
     fn copy(&self, alloc: Global) -> Result<KeyedItems<T>, OutOfMemory> {
-        Ok(copy_all(alloc, self.items())?.finish())
+        Ok(copy_all(alloc, self.cells())?.finish())
     }
 }
 

@@ -24,7 +24,7 @@ fn is_controller(word: &Key) -> bool
 fn are_words(words: &KeyedItems<Key>) -> bool
     ensures { IsTrue result ↔ HasLines (AreWords words.now) }
 {
-    words.items().iter().all(|word| is_controller(word))
+    words.cells().iter().all(|word| is_controller(&word.item))
 }
 
 /// Whether no number of the set is greater than `most`.

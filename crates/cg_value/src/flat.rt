@@ -1,10 +1,11 @@
 //! The pairs of flat keyed files.
-ghost use Rattle.std.specs.Prelude.{◌≡◌, ◌≤◌, ◌++◌, ◌∷◌, [], IsTrue, IfOk, IfErr, OnOk, OnErr, length, is_some, is_err};
+ghost use Rattle.std.specs.Prelude.{◌≡◌, ◌≤◌, ◌++◌, ◌∷◌, [], IsTrue, IfOk, IfErr, OnOk, OnErr, length, map, is_some, is_err};
 ghost use Rattle.cg_text.specs.Token.{told};
+ghost use Rattle.cg_index.specs.Cells.{item_of};
 ghost use Rattle.cg_value.specs.Flat.{number_of, place_of, HasDistinctKeys, flat_size, IsWithinDigits, IsHandedBack, is_repeated};
 
 use crate::copied::{Copied, copy_all};
-use cg_index::{HasKey, KeyedBuilder, Refused};
+use cg_index::{Cell, HasKey, KeyedBuilder, Refused};
 use cg_text::{Key, OutOfMemory};
 use std::alloc::Global;
 use std::marker::Model;
@@ -115,28 +116,27 @@ impl FlatBuilder {
                 compares: 0,
             },
             Some(place) => Found {
-                place: (self.built.items()[place].key.bytes() == key).then_some(place),
+                place: (self.built.cells()[place].item.key.bytes() == key).then_some(place),
                 compares: 1,
             },
         }
     }
 
-    /// The pairs in order.
-    pub fn pairs(&self) -> &[FlatPair]
-        ensures pairs { result.now ≡ self.now.pairs }
+    /// The pairs in order, each in its cell.
+    pub fn pairs(&self) -> &[Cell<FlatPair>]
+        ensures pairs { map item_of result.now ≡ self.now.pairs }
         ensures distinct { HasDistinctKeys self.now.pairs }
     {
-        self.built.items()
+        self.built.cells()
     }
 
-    /// The sum of each key's length, with a place in each of two vectors for each pair, or `u64::MAX` where it is more.
+    /// The length of its vector with each key's length, or `u64::MAX` where it is more.
     pub fn held(&self) -> u64
         ensures { result ≡ told (flat_size self.now.pairs) }
     {
-        let places = self.built.items().len() as u64;
-        let mut held = places.saturating_add(places);
-        for pair in self.built.items() {
-            held = held.saturating_add(pair.key.bytes().len() as u64);
+        let mut held = self.built.places() as u64;
+        for pair in self.built.cells() {
+            held = held.saturating_add(pair.item.key.bytes().len() as u64);
         }
         held
     }
@@ -146,7 +146,7 @@ impl FlatBuilder {
         ensures { IfOk result (λ copy. copy.pairs ≡ self.now.pairs) }
     {
         Ok(FlatBuilder {
-            built: copy_all(alloc, self.built.items())?,
+            built: copy_all(alloc, self.built.cells())?,
         })
     }
 
@@ -206,21 +206,21 @@ impl Flat {
         ensures { result ≡ number_of key.now self.now }
     {
         match self.find(key).place {
-            Some(place) => Some(self.pairs()[place].number),
+            Some(place) => Some(self.pairs()[place].item.number),
             None => None,
         }
     }
 
-    /// The pairs in order.
-    pub fn pairs(&self) -> &[FlatPair]
-        ensures pairs { result.now ≡ self.now }
+    /// The pairs in order, each in its cell.
+    pub fn pairs(&self) -> &[Cell<FlatPair>]
+        ensures pairs { map item_of result.now ≡ self.now }
         ensures distinct { HasDistinctKeys self.now }
     {
         self.built.pairs()
     }
 
-    /// The sum of the lengths of its vectors, each key's among them, or `u64::MAX` where it is more.
-    /// It is at most the sum of each key's length plus 2.
+    /// The length of its vector with each key's length, or `u64::MAX` where it is more: at most the sum of each key's
+    /// length plus 2. The bytes of a short key, which lie in the key itself, are counted as those of a long one are.
     pub fn held(&self) -> u64
         ensures exact { result ≡ told (flat_size self.now) }
         ensures most { result ≤ flat_size self.now }

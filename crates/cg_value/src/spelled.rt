@@ -20,7 +20,7 @@ use crate::flat::FlatPair;
 use crate::value::{
     Averages, LimitLine, NestedLine, NestedPair, StatLine, StatPair, TargetLine, WeightLine,
 };
-use cg_index::{HasKey, KeyedItems};
+use cg_index::{Cell, HasKey, KeyedItems};
 use cg_text::{Amount, Clamp, Device, Hundredths, Key, Limit};
 
 /// A part of a value, which some text may spell.
@@ -37,6 +37,14 @@ pub(crate) fn are_spelled<T: Spelled>(parts: &[T]) -> bool
     ensures { IsTrue result ↔ HasLines (AllZip T.spells parts.now) }
 {
     parts.iter().all(|part| part.is_spelled())
+}
+
+impl<T: Spelled> Spelled for Cell<T> {
+    ghost spells = { λ cell. T.spells cell.item };
+
+    fn is_spelled(&self) -> bool {
+        self.item.is_spelled()
+    }
 }
 
 /// Whether the number lies in the range.
@@ -233,5 +241,5 @@ pub(crate) fn is_raw(bytes: &[u8]) -> bool
 pub(crate) fn are_keyed<T: Spelled + HasKey>(items: &KeyedItems<T>) -> bool
     ensures { IsTrue result ↔ (HasLines (AllZip T.spells items.now) × AreDistinct (map T.key_of items.now)) }
 {
-    are_spelled(items.items())
+    are_spelled(items.cells())
 }

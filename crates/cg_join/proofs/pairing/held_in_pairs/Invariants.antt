@@ -1,9 +1,10 @@
-use Rattle.std.proofs.Common.{◌≡◌, take}
+use Rattle.std.proofs.Common.{◌≡◌, ◌+◌, map, take}
+use Rattle.std.specs.List.{sum_by}
 use Rattle.cg_text.specs.Token.{told}
-use Rattle.cg_join.specs.Repeat.{items_size}
+use Rattle.cg_index.specs.Cells.{item_of}
 use Rattle.cg_join.specs.Pairs.{pair_size}
 use Rattle.cg_text.specs.contracts.word.WordTextToken.TheImpl as word_text
 use Rattle.cg_join.proofs.pairing.held_in_pairs.Given as goal
 
-abbrev pub invariant-loop-pair : goal.invariant-loop-pair
-invariant-loop-pair g l = l.total ≡ told (items_size (pair_size g.F.Pairing.word_of g.F.Pairing.value_of word_text.ghosts.value_size g.V.Token.value_size) (take l.pair-index l.items))
+abbrev pub invariant-loop-cell : goal.invariant-loop-cell
+invariant-loop-cell g l = l.total ≡ told (l.fn.places + sum_by (pair_size g.F.Pairing.word_of g.F.Pairing.value_of word_text.ghosts.value_size g.V.Token.value_size) (take l.cell-index (map item_of l.cells)))

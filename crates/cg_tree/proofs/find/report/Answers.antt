@@ -1,4 +1,7 @@
-use Rattle.std.proofs.Common.{◌≡◌, ℕ, ◌<◌, ◌++◌, ◌∷◌, [], Bool, not, List, get_or, length, take, ap, sym, ◌∙◌, append_assoc}
+use Rattle.std.proofs.Common.{◌≡◌, ℕ, ◌<◌, ◌++◌, ◌∷◌, [], Bool, not, List, get_or, length, map, take, ap, sym, ◌∙◌, append_assoc, arith}
+use Rattle.std.proofs.lemmas.List.{length-map}
+use Rattle.cg_index.specs.Cells.{item_of}
+use Rattle.cg_index.specs.CellLaws.{item_there}
 use Rattle.cg_tree.specs.File.{FileData}
 use Rattle.cg_tree.specs.Find.{allows, finding}
 use Rattle.cg_tree.specs.FindLaws.{lacked}
@@ -14,13 +17,14 @@ one_more all old done rule a b e f p i g h = rw (i, g, h) (append_assoc old done
 
 pub loop-word-preserved : goal.loop-word-preserved
 loop-word-preserved c =
-    let words = c.words_of-name-items.result.now in
-    let key = c.name-item.result in
+    let cells = c.words_of-cell-items.result.now in
+    let words = map item_of cells in
+    let key = c.cell-item.result.item in
     let old = c.args.found.now.items in
     let fails : ℕ × List ℕ → Bool = λ p. not (allows c.args.rule c.args.other.now p.1) in
     let make = finding c.args.rule c.args.control.now c.args.other.now in
-    let inside : c.loop-word.word < length words = c.loop-word-test.true in
-    let is : key ≡ get_or words c.loop-word.word key = c.name-item.is in
+    let inside : c.loop-word.word < length words = omega (arith, c.loop-word-test.true, length-map cells (item_of {T = List ℕ})) in
+    let is : key ≡ get_or words c.loop-word.word key = sym (item_there cells c.loop-word.word c.cell-item.result c.loop-word-test.true c.cell-item.is) in
     let same = c.bytes.ensures.bytes in
     let tested : fails (c.loop-word.word, key) ≡ not c.allows.result = ap (λ k. not (allows c.args.rule c.args.other.now k)) (sym same) ∙ ap not (sym c.allows.ensures) in
     elim c.if-not-allows.branch [

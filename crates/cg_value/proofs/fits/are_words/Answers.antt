@@ -5,8 +5,8 @@ use Rattle.cg_value.proofs.fits.are_words.Goals as goal
 
 pub returns : goal.returns
 returns c =
-    let words = c.items.result.now in
-    let same = c.items.ensures.items in
-    let all : IsTrue c.all.result ↔ All IsControllerWord words = search rules in
-    let lines = rw same at (words_text words) in
-    (λ e. lines.0 (rw same at (all.0 e), c.items.ensures.distinct), λ h. all.1 (rw same (lines.1 h).0))
+    let cells = c.cells.result.now in
+    let same = c.cells.ensures.items in
+    let all : IsTrue c.all.result ↔ All (λ cell. IsControllerWord cell.item) cells = search rules in
+    let lines = words_text cells in
+    (λ e. rw same at (lines.0 (all.0 e, rw same c.cells.ensures.distinct)), λ h. all.1 (lines.1 (rw same h)).0)

@@ -1,6 +1,5 @@
 use Rattle.std.proofs.Common.{◌≡◌, true, false, [], ◌∷◌, ◌++◌, sym, ◌∙◌, ap, arith, refl}
-use Rattle.cg_join.specs.RepeatLaws.{stops_taken, stops_same, list_taken, list_same, list_none, list_next, told_more, size_pushed}
-use Rattle.cg_join.specs.Repeat.{items_size}
+use Rattle.cg_join.specs.RepeatLaws.{stops_taken, stops_same, list_taken, list_same, list_none, list_next, size_pushed}
 use Rattle.cg_join.specs.Distinct.{any_value}
 use Rattle.cg_join.specs.DistinctLaws.{with_distinct, distinct_dup, distinct_pushed, new_value, distinct_push}
 use Rattle.cg_join.specs.TakenLaws.{any_own, own_lack}
@@ -14,7 +13,6 @@ invariant_of-self-in-Ok-true c =
     let taken = rw c.in-Ok-true.field-0-test at c.in-Ok-true.ensures.taken in
     let old = c.args.self.now in
     record {
-      counted = rw c.reserve.ensures.items old.counted;
       stops = stops_taken old.separator (word_text.ghosts.means old.current) (word_text.ghosts.means c.step.new.self) c.args.byte taken old.stops;
       starts = old.starts;
       filled = old.filled;
@@ -86,15 +84,6 @@ returns-clause-taken c =
     (word_text.ghosts.means c.start-next.result) (SpellsWord old.start.controller) v ended
     (word_text.ghosts.one_value old.current)
     (rw e at none) c.start-next.ensures.spells.is old.items.items rest all))
-
-pub invariant_of-self-2-clause-counted : goal.invariant_of-self-2-clause-counted
-invariant_of-self-2-clause-counted c =
-    let old = c.args.self.now in
-    let v = c.take-value.result in
-    let f = word_text.ghosts.value_size in
-    let items : c.push.new.self.items ≡ old.items.items ++ v ∷ [] = c.push.ensures ∙ ap (λ x. x ++ v ∷ []) c.reserve.ensures.items in
-    told_more (items_size f old.items.items) (f v) (items_size f c.push.new.self.items) old.items_held c.saturating_add.result c.held_in-new_size.result c.saturating_add-self.result
-    old.counted c.saturating_add.ensures c.held_in-new_size.ensures c.saturating_add-self.ensures (size_pushed f c.push.new.self.items old.items.items v items)
 
 pub invariant_of-self-2-clause-stops : goal.invariant_of-self-2-clause-stops
 invariant_of-self-2-clause-stops c =

@@ -22,7 +22,6 @@ invariant_of-self g c =
       apart = old.apart;
       small_mark = old.small_mark;
       small_end = old.small_end;
-      alone = old.alone;
       keys_mark = old.keys_mark;
       keys_end = old.keys_end;
       values_end = old.values_end;

@@ -25,7 +25,6 @@ invariant_of-self-2 g c =
       apart = old.apart;
       small_mark = old.small_mark;
       small_end = old.small_end;
-      alone = old.alone;
       keys_mark = old.keys_mark;
       keys_end = old.keys_end;
       values_end = old.values_end;

@@ -43,7 +43,6 @@ invariant_of-self-else-count-gt0 g c =
     let renewed = g.T.Token.means c.renew.new.current in
     let none : c.run_parts-count.result ≡ 0 = omega (arith, c.if-count-gt0.false) in
     record {
-      counted = old.counted;
       lacks = lacks_run old.end renewed (g.T.Token.means c.run_parts-count.new.token) (take c.run_parts-count.result c.args.bytes.now) c.run_parts-count.ensures.follows
           (lacks_same old.end (at_hand old.begun P R) renewed c.renew.ensures.is (hand_lacks P R old.end old.begun old.lacks old.starts));
       starts = old.starts;

@@ -1,9 +1,8 @@
 use Rattle.std.proofs.Common.{◌≡◌, true, [], ◌∷◌, ◌++◌, ◌∙◌, ap, arith, sym}
-use Rattle.cg_join.specs.RepeatLaws.{told_more, size_pushed}
+use Rattle.cg_join.specs.RepeatLaws.{size_pushed}
 use Rattle.cg_join.specs.LinesLaws.{lacks_taken, lacks_same, lines_taken, lines_same, lines_none, lines_next, lines_begins, lines_over}
 use Rattle.cg_join.specs.LinesState.{at_hand}
 use Rattle.cg_join.specs.LinesStateLaws.{hand_lacks, hand_one, hand_same, through}
-use Rattle.cg_join.specs.Repeat.{items_size}
 use Rattle.cg_join.proofs.lines.LinesToken.step.Goals as goal
 
 pub invariant_of-self : goal.invariant_of-self
@@ -16,7 +15,6 @@ invariant_of-self g c =
     let is = c.renew.ensures.is in
     let lacks = hand_lacks P R old.end old.begun old.lacks old.starts in
     record {
-      counted = old.counted;
       lacks = lacks_taken old.end H (g.T.Token.means c.step.new.self) c.args.byte (λ rest v. through (taken rest v) (is (c.args.byte ∷ rest) v)) lacks;
       starts = old.starts;
       small = old.small;
@@ -94,15 +92,6 @@ returns-clause-taken g c =
     let one = hand_one P R old.begun (g.T.Token.one_value old.current) (g.S.Start.one_text old.start) in
     rw (items, e) (lines_next old.end H R R v ((is [] v).0 ended) one lacks (λ rest u. (λ h. h, λ h. h)) old.begun old.items.items)
 
-pub invariant_of-self-2-clause-counted : goal.invariant_of-self-2-clause-counted
-invariant_of-self-2-clause-counted g c =
-    let old = c.args.self.now in
-    let v = c.take-value.result in
-    let f = g.T.Token.value_size in
-    let items : c.put.new.items.items ≡ old.items.items ++ v ∷ [] = c.put.ensures ∙ ap (λ x. x ++ v ∷ []) c.make_room.ensures.items in
-    told_more (items_size f old.items.items) (f v) (items_size f c.put.new.items.items) old.items_held c.saturating_add.result c.held_in-new_size.result c.saturating_add-self.result
-    old.counted c.saturating_add.ensures c.held_in-new_size.ensures c.saturating_add-self.ensures (size_pushed f c.put.new.items.items old.items.items v items)
-
 pub invariant_of-self-2-clause-lacks : goal.invariant_of-self-2-clause-lacks
 invariant_of-self-2-clause-lacks g c =
     let old = c.args.self.now in
@@ -148,7 +137,6 @@ invariant_of-self-in-Ok-false g c =
     let same = rw c.in-Ok-false.field-0-test at c.in-Ok-false.ensures.same in
     let size = rw c.in-Ok-false.field-0-test at c.in-Ok-false.ensures.same_size in
     record {
-      counted = old.counted;
       lacks = lacks_same old.end (at_hand old.begun P R) (g.T.Token.means c.step.new.self) (λ rest v. through (same rest v) (c.renew.ensures.is rest v)) (hand_lacks P R old.end old.begun old.lacks old.starts);
       starts = old.starts;
       small = old.small;
@@ -161,7 +149,6 @@ invariant_of-self-in-Err-1 g c =
     let P = g.T.Token.means old.current in
     let R = g.S.Start.texts old.start in
     record {
-      counted = old.counted;
       lacks = lacks_same old.end (at_hand old.begun P R) (g.T.Token.means c.step.new.self) (λ rest v. through (c.in-Err.ensures.same rest v) (c.renew.ensures.is rest v)) (hand_lacks P R old.end old.begun old.lacks old.starts);
       starts = old.starts;
       small = old.small;
@@ -174,7 +161,6 @@ invariant_of-self-then-not-can_end g c =
     let P = g.T.Token.means old.current in
     let R = g.S.Start.texts old.start in
     record {
-      counted = old.counted;
       lacks = lacks_same old.end (at_hand old.begun P R) (g.T.Token.means c.renew.new.current) c.renew.ensures.is (hand_lacks P R old.end old.begun old.lacks old.starts);
       starts = old.starts;
       small = old.small;
@@ -195,7 +181,6 @@ invariant_of-self-in-Err-make_room g c =
     let P = g.T.Token.means old.current in
     let R = g.S.Start.texts old.start in
     record {
-      counted = rw c.make_room.ensures.items old.counted;
       lacks = lacks_same old.end (at_hand old.begun P R) (g.T.Token.means c.renew.new.current) c.renew.ensures.is (hand_lacks P R old.end old.begun old.lacks old.starts);
       starts = old.starts;
       small = old.small;

@@ -1,7 +1,6 @@
 use Rattle.std.proofs.Common.{◌≡◌, ◌≤◌, false, [], ◌∷◌, ◌++◌, length, ◌∙◌, ap, arith}
 use Rattle.std.proofs.lemmas.List.{take_all}
-use Rattle.cg_join.specs.Repeat.{items_size}
-use Rattle.cg_join.specs.RepeatLaws.{told_more, size_pushed}
+use Rattle.cg_join.specs.RepeatLaws.{size_pushed}
 use Rattle.cg_join.specs.WholeLineLaws.{lines_whole}
 use Rattle.cg_join.proofs.lines.LinesWholeLines.take_line.Goals as goal
 
@@ -12,8 +11,6 @@ invariant_of-self-2 g c =
     let f = g.T.Token.value_size in
     let items : c.put.new.items.items ≡ old.items.items ++ v ∷ [] = c.put.ensures ∙ ap (λ x. x ++ v ∷ []) c.make_room.ensures.items in
     record {
-      counted = told_more (items_size f old.items.items) (f v) (items_size f c.put.new.items.items) old.items_held c.saturating_add.result c.held_in-new_size.result c.saturating_add-self.result
-          old.counted c.saturating_add.ensures c.held_in-new_size.ensures c.saturating_add-self.ensures (size_pushed f c.put.new.items.items old.items.items v items);
       lacks = old.lacks;
       starts = old.starts;
       small = old.small;

@@ -1,7 +1,6 @@
-use Rattle.std.proofs.Common.{◌≡◌, ◌+◌, ◌∙◌, ap, arith}
+use Rattle.std.proofs.Common.{◌≡◌, ◌∙◌, ap, arith}
 use Rattle.cg_join.specs.Pairs.{pair_size}
-use Rattle.cg_join.specs.Repeat.{items_size}
-use Rattle.cg_join.specs.RepeatLaws.{told_more, told_sum, size_pushed}
+use Rattle.cg_join.specs.RepeatLaws.{size_pushed}
 use Rattle.cg_text.specs.contracts.word.WordTextToken.TheImpl as word_text
 use Rattle.cg_join.proofs.pair_list.PairListCollection.push.Goals as goal
 
@@ -9,23 +8,6 @@ pub push-requires-clause-new : goal.push-requires-clause-new
 push-requires-clause-new g c =
     let key : g.F.MakePair.key_of c.pair.result ≡ c.args.key = ap g.F.MakePair.key_of c.pair.ensures ∙ g.F.MakePair.has_key c.args.key c.args.value in
     rw (g.met.F.MakePair.keyed, key) c.requires.new
-
-pub invariant_of-self : goal.invariant_of-self
-invariant_of-self g c =
-    let old = c.args.self.now in
-    let k = word_text.ghosts.value_size in
-    let d = g.V.Token.value_size in
-    let f = pair_size g.F.MakePair.key_of g.F.MakePair.value_of k d in
-    let p = c.pair.result in
-    let new = c.push.new.self.items in
-    let key : g.F.MakePair.key_of p ≡ c.args.key = ap g.F.MakePair.key_of c.pair.ensures ∙ g.F.MakePair.has_key c.args.key c.args.value in
-    let value : g.F.MakePair.value_of p ≡ c.args.value = ap g.F.MakePair.value_of c.pair.ensures ∙ g.F.MakePair.has_value c.args.key c.args.value in
-    let sum : f p ≡ k c.args.key + d c.args.value = (let a = ap k key in let b = ap d value in omega (arith, a, b)) in
-    let new_told = told_sum (k c.args.key) (d c.args.value) (f p) c.held_in.result c.held_in-2.result c.saturating_add-new_size.result c.held_in.ensures c.held_in-2.ensures c.saturating_add-new_size.ensures sum in
-    record {
-      counted = told_more (items_size f old.pairs.items) (f p) (items_size f new) old.items_held c.saturating_add.result c.saturating_add-new_size.result c.saturating_add-self.result
-          old.counted c.saturating_add.ensures new_told c.saturating_add-self.ensures (size_pushed f new old.pairs.items p c.push.ensures);
-    }
 
 pub returns-clause-size : goal.returns-clause-size
 returns-clause-size g c =

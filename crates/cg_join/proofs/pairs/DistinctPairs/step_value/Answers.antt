@@ -1,6 +1,6 @@
 use Rattle.std.proofs.Common.{◌≡◌, true, [], ◌+◌, arith, refl, eqb, eqb-true, eq-eqb}
 use Rattle.cg_join.specs.Repeat.{items_size}
-use Rattle.cg_join.specs.RepeatLaws.{stops_taken, stops_same, told_sum}
+use Rattle.cg_join.specs.RepeatLaws.{stops_taken, stops_same}
 use Rattle.cg_join.specs.LinesLaws.{lacks_same}
 use Rattle.cg_join.specs.Pairs.{IsPairText, pair_size}
 use Rattle.cg_join.specs.PairsState.{WordAtHand, before_last}
@@ -19,7 +19,6 @@ invariant_of-self g c =
     let old = c.args.self.now in
     let taken = rw c.in-Ok-true.field-0-test at c.in-Ok-true.ensures.taken in
     record {
-      counted = old.counted;
       lacks = old.lacks;
       words_lack = old.words_lack;
       stops = stops_taken old.separator (g.V.Token.means old.value) (g.V.Token.means c.step.new.self) c.args.byte taken old.stops;
@@ -144,9 +143,6 @@ invariant_of-self-2 g c =
     completed_size w v word_text.ghosts.value_size g.V.Token.value_size old.items.items new c.renew-value.result
     done (old.awaits c.requires) in
     record {
-      counted = told_sum (items_size f old.items.items) (g.V.Token.value_size c.renew-value.result)
-          (items_size f new) old.items_held c.held_in-new_size.result c.saturating_add-self.result old.counted
-          c.held_in-new_size.ensures c.saturating_add-self.ensures value_size;
       lacks = lacks_same old.mark (SpellsWord old.words.controller) (word_text.ghosts.means c.start.result) c.start.ensures.spells.is old.words_lack;
       words_lack = old.words_lack;
       stops = stops_same old.separator (g.B.Start.texts old.values) (g.V.Token.means c.renew-value.new.token) c.renew-value.ensures.spells.is old.values_stop;

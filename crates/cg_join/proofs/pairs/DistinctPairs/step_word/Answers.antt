@@ -1,8 +1,6 @@
 use Rattle.cg_join.specs.LabelLaws.{if_err_as}
 use Rattle.std.proofs.Common.{◌≡◌, true, false, not, [], ◌∷◌, ◌++◌, map, refl, sym, ◌∙◌, ap, arith}
-use Rattle.cg_text.specs.Token.{told}
-use Rattle.cg_join.specs.Repeat.{items_size}
-use Rattle.cg_join.specs.RepeatLaws.{told_more, size_pushed}
+use Rattle.cg_join.specs.RepeatLaws.{size_pushed}
 use Rattle.cg_join.specs.Distinct.{any_value}
 use Rattle.cg_join.specs.DistinctLaws.{lacks_value}
 use Rattle.cg_join.specs.LinesLaws.{lacks_same}
@@ -23,7 +21,6 @@ pub invariant_of-self : goal.invariant_of-self
 invariant_of-self g c =
     let old = c.args.self.now in
     record {
-      counted = old.counted;
       lacks = lacks_stepped old.mark c.step.result (word_text.ghosts.means old.word) (word_text.ghosts.means c.step.new.self) c.args.byte c.step.ensures.taken c.step.ensures.same old.lacks;
       words_lack = old.words_lack;
       stops = old.stops;
@@ -144,10 +141,7 @@ invariant_of-self-2 g c =
     let k = c.renew-word.ensures.value in
     let is = taken_is old.word.controller old.word.bytes.items old.word.sound in
     let fresh : any_value (is_taken old.word.bytes.items) (map w old.items.items) ≡ false = sym c.is_old_word.ensures ∙ c.if-is_old_word.false in
-    let new_told : c.held_in-new_size.result ≡ told (f p) = c.held_in-new_size.ensures ∙ ap told (sym one) in
     record {
-      counted = told_more (items_size f old.items.items) (f p) (items_size f c.push.new.self.items) old.items_held c.saturating_add.result c.held_in-new_size.result c.saturating_add-self.result
-          old.counted c.saturating_add.ensures new_told c.saturating_add-self.ensures (size_pushed f c.push.new.self.items old.items.items p items);
       lacks = lacks_same old.mark (SpellsWord old.words.controller) (word_text.ghosts.means c.renew-word.new.token) c.renew-word.ensures.spells.is old.words_lack;
       words_lack = old.words_lack;
       stops = old.stops;

@@ -13,7 +13,6 @@ pub invariant_of-self : goal.invariant_of-self
 invariant_of-self g c =
     let old = c.args.self.now in
     record {
-      counted = old.counted;
       lacks = lacks_run old.mark (word_text.ghosts.means old.word) (word_text.ghosts.means c.run.new.self) (take c.run.result c.args.bytes.now) c.run.ensures.follows old.lacks;
       words_lack = old.words_lack;
       stops = old.stops;

@@ -1,8 +1,7 @@
 use Rattle.std.proofs.Common.{◌≡◌, ◌+◌, ◌<◌, [], ◌∷◌, ◌++◌, length, take, ◌∙◌, ap, arith}
 use Rattle.std.proofs.lemmas.List.{take_more}
 use Rattle.cg_join.specs.PartRunLaws.{list_whole}
-use Rattle.cg_join.specs.Repeat.{items_size}
-use Rattle.cg_join.specs.RepeatLaws.{stops_same, told_more, size_pushed}
+use Rattle.cg_join.specs.RepeatLaws.{stops_same, size_pushed}
 use Rattle.cg_join.proofs.repeat.Repeat.take_item.Goals as goal
 
 pub invariant_of-self-2 : goal.invariant_of-self-2
@@ -13,8 +12,6 @@ invariant_of-self-2 g c =
     let next = c.start.result in
     let items : c.put.new.items.items ≡ old.items.items ++ v ∷ [] = c.put.ensures ∙ ap (λ x. x ++ v ∷ []) c.make_room.ensures.items in
     record {
-      counted = told_more (items_size f old.items.items) (f v) (items_size f c.put.new.items.items) old.items_held c.saturating_add.result c.held_in-new_size.result c.saturating_add-self.result
-          old.counted c.saturating_add.ensures c.held_in-new_size.ensures c.saturating_add-self.ensures (size_pushed f c.put.new.items.items old.items.items v items);
       stops = stops_same old.separator (g.S.Start.texts old.start) (g.T.Token.means next) c.start.ensures.spells.is old.starts;
       starts = old.starts;
       filled = old.filled;

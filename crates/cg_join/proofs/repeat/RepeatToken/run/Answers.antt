@@ -8,7 +8,6 @@ invariant_of-self g c =
     let mid = c.take_items-whole.new.self in
     let rest = drop c.take_items-whole.result c.args.bytes.now in
     record {
-      counted = rw c.make_room.ensures.items mid.counted;
       stops = stops_run mid.separator (g.T.Token.means mid.current) (g.T.Token.means c.run.new.self) (take c.run.result rest) (rw c.split_at.ensures.back at c.run.ensures.follows) mid.stops;
       starts = mid.starts;
       filled = mid.filled;

@@ -1,6 +1,5 @@
 use Rattle.std.proofs.Common.{◌≡◌, true, [], ◌∷◌, ◌++◌, ◌∙◌, ap, arith, refl}
-use Rattle.cg_join.specs.RepeatLaws.{stops_taken, stops_same, list_taken, list_same, list_none, list_next, told_more, size_pushed}
-use Rattle.cg_join.specs.Repeat.{items_size}
+use Rattle.cg_join.specs.RepeatLaws.{stops_taken, stops_same, list_taken, list_same, list_none, list_next, size_pushed}
 use Rattle.cg_join.proofs.repeat.RepeatToken.step.Goals as goal
 
 pub invariant_of-self-in-Ok-true : goal.invariant_of-self-in-Ok-true
@@ -8,7 +7,6 @@ invariant_of-self-in-Ok-true g c =
     let taken = rw c.in-Ok-true.field-0-test at c.in-Ok-true.ensures.taken in
     let old = c.args.self.now in
     record {
-      counted = rw c.make_room.ensures.items old.counted;
       stops = stops_taken old.separator (g.T.Token.means old.current) (g.T.Token.means c.step.new.self) c.args.byte taken old.stops;
       starts = old.starts;
       filled = old.filled;
@@ -65,15 +63,6 @@ returns-clause-taken g c =
     let ended = (same [] v).0 (rw c.replace-done.ensures.value at c.take-value.ensures.value) in
     rw (items, c.replace-done.ensures.after, e)
     (list_next old.separator (g.T.Token.means old.current) (g.T.Token.means c.start-next.result) (g.S.Start.texts old.start) v ended (g.T.Token.one_value old.current) (rw e at none) c.start-next.ensures.spells.is old.items.items)
-
-pub invariant_of-self-2-clause-counted : goal.invariant_of-self-2-clause-counted
-invariant_of-self-2-clause-counted g c =
-    let old = c.args.self.now in
-    let v = c.take-value.result in
-    let f = g.T.Token.value_size in
-    let items : c.put.new.items.items ≡ old.items.items ++ v ∷ [] = c.put.ensures ∙ ap (λ x. x ++ v ∷ []) c.make_room.ensures.items in
-    told_more (items_size f old.items.items) (f v) (items_size f c.put.new.items.items) old.items_held c.saturating_add.result c.held_in-new_size.result c.saturating_add-self.result
-    old.counted c.saturating_add.ensures c.held_in-new_size.ensures c.saturating_add-self.ensures (size_pushed f c.put.new.items.items old.items.items v items)
 
 pub invariant_of-self-2-clause-stops : goal.invariant_of-self-2-clause-stops
 invariant_of-self-2-clause-stops g c =

@@ -6,4 +6,4 @@ use Rattle.cg_value.proofs.flat.FlatBuilder.pairs.Goals as goal
 pub returns-clause-distinct : goal.returns-clause-distinct
 returns-clause-distinct c =
     let pairs_is = ap (λ (b : Building). b.pairs) c.self.view_is in
-    rw (← pairs_is) (distinct_keys c.self.inside.built.items c.items.ensures.distinct)
+    rw (← pairs_is) (distinct_keys c.self.inside.built.items c.cells.ensures.distinct)

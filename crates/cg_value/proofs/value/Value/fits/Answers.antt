@@ -1,6 +1,9 @@
 use Rattle.std.proofs.Common.{w64, rules, FitsSigned}
 use Rattle.std.proofs.lemmas.Int.{to_z-of_z}
-use Rattle.cg_value.specs.FitsLaws.{signed_fits, weights_fit}
+use Rattle.cg_index.specs.Cells.{item_of}
+use Rattle.cg_value.specs.FitsLaws.{signed_fits, flat_fits, weights_fit}
+use Rattle.cg_value.specs.ReadLine.{IsFlatLine}
+use Rattle.cg_value.specs.SpelledLaws.{mapped_text}
 use Rattle.cg_value.proofs.value.Value.fits.Goals as goal
 
 pub returns-in-Signed-Signed : goal.returns-in-Signed-Signed
@@ -12,6 +15,13 @@ returns-in-Signed-Signed c =
     let number : FitsSigned w64 arm.number = search rules in
     let within = simp to_z-of_z at c.is_between.ensures in
     rw (arm.is-1, ← arm.ensures.form) (λ e. fit.0 (within.0 e), λ h. within.1 (fit.1 h))
+
+pub returns-in-Flat-Flat : goal.returns-in-Flat-Flat
+returns-in-Flat-Flat c =
+    let arm = c.in-Flat-Flat in
+    let fit = flat_fits arm.flat c.pairs.ensures.distinct in
+    let lines = rw c.pairs.ensures.pairs at (mapped_text item_of IsFlatLine c.pairs.result.now) in
+    rw (arm.is-1, ← c.form.ensures.form, arm.is-0) (λ e. fit.0 (lines.0 (c.are_spelled.ensures.0 e)), λ f. c.are_spelled.ensures.1 (lines.1 (fit.1 f)))
 
 pub returns-then-is_within : goal.returns-then-is_within
 returns-then-is_within c =
