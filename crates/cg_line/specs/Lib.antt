@@ -5,9 +5,11 @@ pub mod DecodeLaws
 pub mod DecodeWrite
 pub mod DecodeWriteLaws
 pub mod HeldLaws
+pub mod Laws
 pub mod MadeLaws
 pub mod Place
 pub mod PlaceLaws
+pub mod ReaderHeldLaws
 pub mod Reads
 pub mod ReadsLaws
 pub mod Rests

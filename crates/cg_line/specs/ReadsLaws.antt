@@ -3,7 +3,6 @@ use Rattle.std.proofs.Common.{◌≡◌, ℕ, ◌<◌, ◌≤◌, List, [], ◌�
 use Rattle.cg_text.specs.Texts.{Next, Viable}
 use Rattle.cg_value.specs.declared.kind.ReadForm.{ReadForm}
 use Rattle.cg_value.specs.declared.value.Value.{Value}
-use Rattle.cg_file.specs.Front.{IsFileFront}
 use Rattle.cg_line.specs.Begun.{IsPushFault}
 use Rattle.cg_line.specs.Place.{TakesLine}
 use Rattle.cg_line.specs.PlaceLaws.{next_where_takes}
@@ -30,10 +29,6 @@ first_next L (x ∷ xs) (suc k) some within h = record { rest = take k xs ++ h.r
 -- After a whole file of one line no other line comes.
 pub takes_none : (kind : ReadForm) (v : Value) (taken : List ℕ) → IsWholeFile kind v taken → TakesLine kind taken → ⊥
 takes_none kind v taken h takes = let some = next_where_takes kind taken takes in h.last some.byte some.next
-
--- A file in front of some bytes is what was taken.
-pub front_whole : (kind : ReadForm) (bytes : List ℕ) (v : Value) (used : ℕ) → IsFileFront kind bytes v used → IsWholeFile kind v (take used bytes)
-front_whole kind bytes v used h = record { text = h.text; front = h.line.0; ends = h.line.1; last = h.last }
 
 -- How much is held, by the state.
 pub held_is : (r : ValueReader) (s : State) → r.state ≡ s → held_by r ≡ state_held s

@@ -5,8 +5,8 @@ use Rattle.cg_text.specs.Texts.{Next}
 use Rattle.cg_value.specs.Files.{KindText, KindFile}
 use Rattle.cg_value.specs.declared.value.Value.{Value}
 use Rattle.cg_value.specs.declared.kind.ReadForm.{ReadForm}
-use Rattle.cg_line.specs.Rests.{Pushes, SameRests, IsRead}
-use Rattle.cg_line.specs.RestsLaws.{pushed, read_same, whole_is, value_is, next_is}
+use Rattle.cg_line.specs.Rests.{Pushes, IsRead}
+use Rattle.cg_line.specs.RestsLaws.{pushed, whole_is, value_is, next_is}
 use Rattle.cg_line.specs.Place.{IsPlace}
 use Rattle.cg_file.specs.Kinds.{TextsOf, HoldsLittle}
 use Rattle.cg_line.specs.Reads.{Leaves}
@@ -33,13 +33,6 @@ unchanged : (r : OpenReader) (m : FileText) (kind : ReadForm) (taken : List ℕ)
     ghosts.size m ≡ ghosts.size r.text → HasTaken r kind taken → IsRead (TextsOf kind) (ghosts.means m) taken →
     Took (record { text = m; place = r.place }) kind taken
 unchanged r m kind taken size was rests = took_is _ _ _ (record { rests = rests; form = was.form; place = was.place; held = rw size was.held; few = rw size was.few })
-
--- A state that means the same.
-pub same_reads : (r : OpenReader) (m : FileText) (kind : ReadForm) (taken : List ℕ) → SameRests (ghosts.means r.text) (ghosts.means m) → ghosts.size m ≡ ghosts.size r.text → Took r kind taken →
-    Took (record { text = m; place = r.place }) kind taken
-same_reads r m kind taken same size h =
-    let was = is_took r kind taken h in
-    unchanged r m kind taken size was (read_same (TextsOf kind) (ghosts.means r.text) (ghosts.means m) taken same was.rests)
 
 -- It was not.
 pub refused_byte : (r : OpenReader) (m : FileText) (kind : ReadForm) (taken : List ℕ) (b : ℕ) (fault : PushFault) → Pushes (ghosts.means r.text) b (ghosts.means m) (Err fault) →

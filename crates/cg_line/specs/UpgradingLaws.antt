@@ -184,13 +184,6 @@ module _ (e : EntryData) (lines : List (List ℕ)) (raw : AreRawNuma e lines) wh
   raw_some : lines ≢ []
   raw_some none = entry_has_line e (ap print_lines raw.1 ∙ none)
 
-  -- What the lines spell makes the entry that it is in the second profile.
-  pub read_up : (f : EntryData) → f.path ≡ e.path → ReadLines Nested f.value lines → IsUp e f
-  read_up f path spelled = (
-    λ ls name is. (path, subst (λ ms. ReadLines Nested f.value ms) (same_lines lines ls (sym raw.1 ∙ is)) spelled),
-    λ none. absurd (none lines raw),
-  )
-
   pub never_refused : (path : List ℕ) (v : Value) (why : EntryFault) → path ≡ e.path → ReadLines Nested v lines → IsEntryFault Two path v why → ⊥
   never_refused path v why same spelled fault =
       no_fault Two e.path Nested v lines why (entry_path e) (record { name = codes "memory.numa_stat"; name_is = raw.0; form_is = numa_nested }) raw_some spelled (subst (λ p. IsEntryFault Two p v why) same fault)
@@ -211,10 +204,6 @@ module _ (e : EntryData) (lines : List (List ℕ)) (raw : AreRawNuma e lines) wh
   -- Where the lines were read, a file goes on with each of their bytes.
   pub file_starved : (v : Value) → ReadLines Nested v lines → IsLinesFault lines OutOfMemory
   file_starved v spelled = record { at = 0; within = lines_some lines raw_some; goes = front_viable lines v spelled 1 }
-
--- Every other entry is itself.
-pub copy_up : (e f : EntryData) → ((lines : List (List ℕ)) → AreRawNuma e lines → ⊥) → f ≡ e → IsUp e f
-copy_up e f none same = (λ lines name is. absurd (none lines (name, is)), λ other. same)
 
 pub other_name : (e : EntryData) (name : List ℕ) → IsNameOf e.path name → name ≢ codes "memory.numa_stat" → (lines : List (List ℕ)) → AreRawNuma e lines → ⊥
 other_name e name is other lines raw = other (one_name e.path name (codes "memory.numa_stat") is raw.0)

@@ -3,6 +3,7 @@
 
 pub mod decode;
 pub mod decode_write;
+pub mod laws;
 pub mod open_reader;
 pub mod place;
 pub mod push;

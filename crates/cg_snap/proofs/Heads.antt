@@ -10,7 +10,6 @@ use Rattle.cg_value.specs.Entry.{EntryData, IsPathByte}
 use Rattle.cg_value.specs.Lines.{unlines}
 use Rattle.cg_value.specs.declared.kind.ReadForm.{ReadForm}
 use Rattle.cg_value.specs.declared.profile.Profile.{Profile}
-use Rattle.cg_line.specs.Place.{TakesLine}
 use Rattle.cg_line.specs.Reads.{Reads, reads_viable}
 use Rattle.cg_line.specs.declared.reader.ValueReader.{ValueReader}
 use Rattle.cg_snap.specs.Course.{AreFew}
@@ -129,6 +128,3 @@ has_head_is x piece size room max inside nul same short few = record {
   short = short;
   few = few;
 }
-
-pub repeats_is : (x : Present) (piece : List ℕ) (room max : ℕ) → HasHead x piece room max → ((kind : ReadForm) (taken : List ℕ) → Reads x.reader kind taken → TakesLine kind taken) → Repeats x piece room max
-repeats_is x piece room max head takes = record { rest = head.rest; begins = head.begins; short = head.short; few = head.few; takes = takes }

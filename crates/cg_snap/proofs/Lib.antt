@@ -22,3 +22,6 @@ pub mod Wholes
 pub mod FirstWrite
 pub mod PlanStates
 pub mod PlanFronts
+pub mod Piecewise
+pub mod Headline
+pub mod OneStops

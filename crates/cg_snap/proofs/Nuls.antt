@@ -33,21 +33,6 @@ pub count_some : (begun : List ℕ) (o : Option Present) → (n : ℕ) × IsLine
 count_some begun None = (0, refl)
 count_some begun (Some x) = elim (same_or_other x.path.items begun) [ inl e ↦ (x.lines, (λ z. refl, λ n. absurd (n e))) | inr n ↦ (0, (λ e. absurd (n e), λ z. refl)) ]
 
--- How it compares with another count.
-pub none_ended : (begun : List ℕ) (o : Option Present) (n count : ℕ) → o ≡ None → IsLineCount begun o n → (count ≡ 0 → ⊥) → count ≤ n → ⊥
-none_ended begun o n count e c some le = let zero : n ≡ 0 = subst (λ (q : Option Present). IsLineCount begun q n) e c in some (omega (arith, zero, le))
-
-pub fewer_ended : (begun : List ℕ) (o : Option Present) (x : Present) (n count : ℕ) → o ≡ Some x → IsLineCount begun o n → x.lines < count → count ≤ n → ⊥
-fewer_ended begun o x n count e c few le =
-    let h = subst (λ (q : Option Present). IsLineCount begun q n) e c in
-    elim (same_or_other x.path.items begun) [ inl s ↦ (let k : n ≡ x.lines = h.0 s in omega (arith, k, few, le)) | inr d ↦ (let k : n ≡ 0 = h.1 d in omega (arith, k, few, le)) ]
-
-pub same_ended : (begun : List ℕ) (o : Option Present) (x : Present) (n count : ℕ) → o ≡ Some x → IsLineCount begun o n → (x.lines < count → ⊥) → x.path.items ≡ begun → count ≤ n
-same_ended begun o x n count e c many s = let k : n ≡ x.lines = (subst (λ (q : Option Present). IsLineCount begun q n) e c).0 s in omega (arith, k, many)
-
-pub other_ended : (begun : List ℕ) (o : Option Present) (x : Present) (n count : ℕ) → o ≡ Some x → IsLineCount begun o n → (count ≡ 0 → ⊥) → (x.path.items ≡ begun → ⊥) → count ≤ n → ⊥
-other_ended begun o x n count e c some d le = let k : n ≡ 0 = (subst (λ (q : Option Present). IsLineCount begun q n) e c).1 d in some (omega (arith, k, le))
-
 module _ (profile : Profile) where
   start_before : (begun p : List ℕ) (es : List EntryData) → AtStart begun p es → IsPath begun → HasBefore profile p begun 0
   start_before begun p es h g = record { es = []; given = []; lines = []; whole = ap (λ (t : List ℕ). t ++ 0 ∷ []) h.bytes; entries = refl; good = g; other = tt; plain = tt; count = refl }

@@ -1,10 +1,8 @@
 -- Which bytes can come next where no line is begun.
-use Rattle.std.proofs.Common.{◌≡◌, ℕ, ◌<◌, ◌≤◌, inl, inr, ◌↔◌, Bool, false, List, Option, Some, None, sym, subst, arith}
-use Rattle.cg_text.specs.Bytes.{HasByte}
+use Rattle.std.proofs.Common.{◌≡◌, ℕ, ◌<◌, inl, inr, false, List, Option, Some, None, sym, subst, arith}
 use Rattle.cg_text.specs.Texts.{Next}
 use Rattle.cg_value.specs.Entry.{EntryData}
 use Rattle.cg_value.specs.declared.profile.Profile.{Profile}
-use Rattle.cg_line.specs.AllowedLaws.{IsAllowedBelow}
 use Rattle.cg_snap.specs.DecoderState.{At, IsBetween}
 use Rattle.cg_snap.specs.Snap.{Snap}
 use Rattle.cg_snap.specs.declared.present.Present.{Present}
@@ -19,7 +17,3 @@ between_none o e = subst IsBetween (sym e) tt
 -- What may come after a path is a byte.
 pub path_offers : (profile : Profile) (begun : List ℕ) (o : Option Present) (p : List ℕ) (es : List EntryData) (b : ℕ) → IsBetween o → At profile begun o p es → Next (Snap profile) p b → b < 256
 path_offers profile begun o p es b i h next = elim (paths_head profile begun o p es b (between profile begun o p es i h) next) [ inl e ↦ omega (arith, e) | inr q ↦ q.1 ]
-
--- All bytes were asked.
-pub all_offers : (L : List ℕ → Type 0) (p : List ℕ) (set : List Bool) (n : ℕ) → 256 ≤ n → ((b : ℕ) → Next L p b → b < 256) → IsAllowedBelow set L p n → (b : ℕ) → HasByte set b ↔ Next L p b
-all_offers L p set n all bytes h b = (λ k. ((h b).0 k).1, λ next. (h b).1 (omega (arith, all, bytes b next), next))

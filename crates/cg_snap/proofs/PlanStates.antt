@@ -353,9 +353,6 @@ module _ (profile : Profile) where
 
   -- ---- The end
 
-  pub item_path_ends : (begun p : List ℕ) (items : List ItemData) → AtItemPath profile begun p items → begun ≡ [] → PlanText profile items p
-  item_path_ends begun p items h e = subst (PlanText profile items) (sym (h.split ∙ (ap (λ (t : List ℕ). h.given ++ t) e ∙ append-nil h.given))) h.whole
-
   pub item_path_cut : (begun p : List ℕ) (items : List ItemData) → AtItemPath profile begun p items → begun ≢ [] → Plan profile p → ⊥
   item_path_cut begun p items h n w =
       let s = plan_strip profile items w.0 h.given begun h.whole (subst (PlanText profile w.0) h.split w.1) in

@@ -11,12 +11,8 @@ use Rattle.cg_line.specs.declared.push.PushFault.{PushFault}
 use Rattle.cg_line.specs.declared.push.PushFault.TheVariants.{OutOfMemory, Refused}
 use Rattle.cg_line.specs.declared.reader.ValueReader.{ValueReader}
 use Rattle.cg_snap.specs.PathBytes.{ArePathBytes}
-use Rattle.cg_snap.specs.Sound.{IsReadable, IsSound}
+use Rattle.cg_snap.specs.Sound.{IsSound}
 use Rattle.cg_snap.proofs.Steps.{all_both}
-
--- A reader of which nothing was taken.
-pub sound_begun : (path : List ℕ) (reader : ValueReader) (kind : ReadForm) → IsReadable path kind → Reads reader kind [] → IsSound path reader
-sound_begun path reader kind h r = ∣ (kind, [], h, r) ∣₁
 
 -- A reader that took bytes, or none, whatever the kind.
 pub sound_after : (path : List ℕ) (old new : ValueReader) → IsSound path old → ((kind : ReadForm) (taken : List ℕ) → Reads old kind taken → (now : List ℕ) × Reads new kind now) → IsSound path new

@@ -182,13 +182,6 @@ lines_can_end kind lines some plain f =
 
 -- ---- A byte of a path
 
-pub start_byte : (begun begun' p : List ℕ) (es : List EntryData) (b : ℕ) → IsPathByte b → begun' ≡ begun ++ b ∷ [] → AtStart begun p es → AtStart begun' (p ++ b ∷ []) es
-start_byte begun begun' p es b q e h = record {
-  none = h.none;
-  bytes = rw (h.bytes, e) refl;
-  begun_path = rw e (all_push IsPathByte begun b h.begun_path q);
-}
-
 -- ---- A byte of a line
 
 text_goes : (u l d x y : List ℕ) (b : ℕ) → x ≡ d ++ 10 ∷ y → (u ++ (l ++ b ∷ [])) ++ x ≡ (u ++ ((l ++ b ∷ []) ++ (d ++ 10 ∷ []))) ++ y

@@ -36,7 +36,7 @@ module _ (L : List ℕ → Type 0) (Breaks : List ℕ → ℕ → Why → Type 0
       let text : take at bytes ++ take (n + 1) rest ≡ take (at + n + 1) bytes = text_on [] bytes rest at (n + 1) e ∙ ap (λ (m : ℕ). take m bytes) sum in
       inl (at + n, omega (arith, lt, left bytes rest at e), subst (λ (limits : Limits). IsStreamUnstopped L Breaks Many limits (take (at + n + 1) bytes)) l (subst (IsStreamUnstopped L Breaks Many new) text h))
 
-  stream_stop : (limits : Limits) (bytes : List ℕ) (stop : Stop) → StreamStopOf L Breaks Many limits bytes stop → IsStreamStop L Breaks Many limits bytes stop
+  pub stream_stop : (limits : Limits) (bytes : List ℕ) (stop : Stop) → StreamStopOf L Breaks Many limits bytes stop → IsStreamStop L Breaks Many limits bytes stop
   stream_stop limits bytes (stops.Refused at why) h = h
   stream_stop limits bytes (stops.TooLong at) h = h
   stream_stop limits bytes (stops.TooMany at) h = h

@@ -8,9 +8,11 @@ pub mod DecoderState
 pub mod Encode
 pub mod EncodeLaws
 pub mod HeadState
+pub mod Headline
 pub mod Laws
 pub mod Meter
 pub mod PathBytes
+pub mod Pieces
 pub mod Plan
 pub mod PlanDecoder
 pub mod PlanFront

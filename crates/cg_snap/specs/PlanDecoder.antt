@@ -1,5 +1,6 @@
 -- What the calls of a decoder of plans promise, of the bytes that it consumed and the items that it gave.
 use Rattle.std.specs.Prelude.{◌≡◌, ℕ, ◌+◌, ◌-◌, ◌<◌, List, [], ◌∷◌, ◌++◌, length, take, Option, Some, None, Result, Ok, Err}
+use Rattle.cg_text.specs.Texts.{Viable}
 use Rattle.cg_value.specs.Entry.{ItemData}
 use Rattle.cg_value.specs.declared.profile.Profile.{Profile}
 use Rattle.cg_line.specs.Takes.{held_of}
@@ -48,6 +49,11 @@ ItemsAreAlong profile = IsAlong (Plan profile) (IsItemWhy profile) is_never_many
 -- The decoder consumed the bytes p, of which none stops a stream, and gave the items.
 abbrev pub StandsForPlan : PlanDecoder → List ℕ → List ItemData → Type 0
 StandsForPlan d = ItemsAreAlong (plan_profile_of d) d.records d.meter
+
+-- What a decoder consumed closes what it gave, can be gone on from, and has no byte that stops it.
+abbrev pub PulledPlanIsClosed : Type 0
+PulledPlanIsClosed = (d : PlanDecoder) (p : List ℕ) (items : List ItemData) → StandsForPlan d p items →
+    ClosedPlan (plan_profile_of d) p items × Viable (Plan (plan_profile_of d)) p × IsPlanUnstopped (plan_profile_of d) (plan_limits_of d) p
 
 -- What a call of next leaves that consumed so many bytes of the piece. An item comes with its newline; the stop is that of the
 -- stream, at the first byte that isn't consumed; and where memory was refused, no rule and no limit stops the byte.

@@ -59,11 +59,6 @@ DidItem profile begun present p items byte (Given item) = AtItems profile begun 
 DidItem profile begun present p items byte (Refused why) = AtItems profile begun present p items × RefusedBy (Plan profile) (IsItemWhy profile) p byte (Some why)
 DidItem profile begun present p items byte OutOfMemory = AtItems profile begun present p items × Next (Plan profile) p byte
 
--- Bytes that may be taken at once: those of a line, or of a path.
-abbrev pub IsItemRun : Option Writing → List ℕ → Type 0
-IsItemRun None run = ArePathBytes run
-IsItemRun (Some x) run = Lacks 10 run
-
 -- The records are of this profile, consumed the bytes p and gave the items; so these are closed, and some plan goes on.
 pub record HasTakenItems (s : PlanRecords) (profile : Profile) (p : List ℕ) (items : List ItemData) : Type 0 where
   pub profile_is : s.profile ≡ profile

@@ -1,5 +1,5 @@
 -- The examples of snapshots hold: each is spelled out in parts.
-use Rattle.std.proofs.Common.{◌≡◌, ◌≢◌, ℕ, inl, inr, Bool, true, false, not, nat_eq, nat_lt, nat_le, ◌&&◌, List, [], ◌∷◌, ◌++◌, Some, codes, refl, sym, append_assoc, arith, ltb-true, eq-eqb, All, zero, suc}
+use Rattle.std.proofs.Common.{◌≡◌, ◌≢◌, ℕ, ◌+◌, ◌≤◌, length, ap, ◌∙◌, inl, inr, Bool, true, false, not, nat_eq, nat_lt, nat_le, ◌&&◌, List, [], ◌∷◌, ◌++◌, Some, codes, refl, sym, append_assoc, arith, ltb-true, eq-eqb, All, zero, suc}
 use Rattle.std.proofs.lemmas.Bool.{and_parts}
 use Rattle.std.specs.List.{AllByRecursion}
 use Rattle.cg_text.specs.Decimal.{IsDecimal}
@@ -8,7 +8,9 @@ use Rattle.cg_text.specs.Texts.{Lacks}
 use Rattle.cg_text.specs.declared.values.Limit.TheVariants.{Max}
 use Rattle.cg_value.specs.Entry.{EntryData, IsEntry, IsItem, IsPath, IsPathByte, ItemData, ReadsAt, WritesAt}
 use Rattle.cg_value.specs.Files.{ReadLines}
+use Rattle.cg_value.specs.Held.{held_of_lines}
 use Rattle.cg_value.specs.Kind.{any_u64}
+use Rattle.cg_value.specs.Lines.{unlines}
 use Rattle.cg_value.specs.Path.{IsNameOf}
 use Rattle.cg_value.specs.Print.{print_lines}
 use Rattle.cg_value.specs.RowFacts.{decimal_tested, is_numeral, raw_tested, unlike, word_tested}
@@ -25,8 +27,12 @@ use Rattle.cg_value.specs.declared.setting.Setting.TheVariants as setting
 use Rattle.cg_value.specs.declared.value.Role.TheVariants as role
 use Rattle.cg_value.specs.declared.value.Value.{Value}
 use Rattle.cg_value.specs.declared.value.Value.TheVariants as value
+use Rattle.cg_file.specs.OneValueLaws.{one_value}
 use Rattle.cg_file.specs.WeightFileLaws.{not_empty}
+use Rattle.cg_line.specs.MadeLaws.{one_form}
 use Rattle.cg_snap.specs.Begun.{EndsRecord, IsBegun}
+use Rattle.cg_snap.specs.Closed.{Closed, IsHeldFor}
+use Rattle.cg_snap.specs.ClosedLaws.{begun_once, one_closing}
 use Rattle.cg_snap.specs.Rows.{at, NoEntry, LongerPath, TwoRecords, EqualPathsApart, RawAndReason, OpenPath, OtherPath, OneKeyHeld}
 use Rattle.cg_snap.specs.Rows.{NewlineInPath, EmptyPath, SlashAtEnd, NoReadForm, LineAfterTheLast, DigitOverRange, RecordOf19, RecordOf1, SecondRecord, FirstRecord}
 use Rattle.cg_snap.specs.Plan.{IsItemLine}
@@ -317,25 +323,41 @@ stat_lines = record {
   };
 }
 
+abbrev one_key : Closed One (at (codes "memory.stat") (codes "anon 1\n")) []
+one_key = record {
+  given = [];
+  present = at (codes "memory.stat") (codes "anon 1\n");
+  path = codes "memory.stat";
+  split = refl;
+  entries = refl;
+  good = path_tested (codes "memory.sta") 116 refl refl;
+  of_path = record { lines = codes "anon 1" ∷ []; begun = []; split = refl; plain = one_lacks (codes "anon 1") (lacks_tested 10 (codes "anon 1") refl); last = inl (tt, tt) };
+  begun = λ h. absurd (h refl);
+  other = tt;
+}
+
+one_key_begun : IsBegun (at (codes "memory.stat") (codes "anon 1\n")) []
+one_key_begun = record { front = at (codes "memory.stat") (codes "anon 1\n"); split = refl; ended = inr (at (codes "memory.stat") (codes "anon 1"), refl); plain = tt }
+
+-- Its line is read in one way.
+one_key_value : (kind : ReadForm) (v : Value) → ReadsAt One (codes "memory.stat") (Some kind) → ReadLines kind v (codes "anon 1" ∷ []) → v ≡ value.Flat (one_pair ∷ [])
+one_key_value kind v reads lines =
+    let is_flat : kind ≡ form.Flat = one_form One (codes "memory.stat") kind form.Flat reads stat_reads in
+    one_value form.Flat (unlines (codes "anon 1" ∷ [])) v (value.Flat (one_pair ∷ []))
+    (record { lines = codes "anon 1" ∷ []; spelled = rw is_flat at lines; text_is = refl })
+    (record { lines = codes "anon 1" ∷ []; spelled = stat_lines; text_is = refl })
+
+one_key_most : (n : ℕ) → IsHeldFor One (at (codes "memory.stat") (codes "anon 1\n")) [] n → n ≤ 18
+one_key_most n held =
+    let same = one_closing One (at (codes "memory.stat") (codes "anon 1\n")) [] held.0 one_key in
+    let path = same.path (λ none. let some = sym same.lines ∙ none in cc) in
+    let begun = ap length (begun_once (at (codes "memory.stat") (codes "anon 1\n")) held.1 [] held.3 one_key_begun) in
+    let may = rw (same.lines, path) at held.4 in
+    let whole = may.4 ∙ ap (λ v. length (codes "memory.stat") + held_of_lines v (codes "anon 1" ∷ [])) (one_key_value may.0 may.1 may.2 may.3) in
+    omega (arith, whole, begun, held.5)
+
 pub one_key_held : OneKeyHeld
-one_key_held = (
-  record {
-    given = [];
-    present = at (codes "memory.stat") (codes "anon 1\n");
-    path = codes "memory.stat";
-    split = refl;
-    entries = refl;
-    good = path_tested (codes "memory.sta") 116 refl refl;
-    of_path = record { lines = codes "anon 1" ∷ []; begun = []; split = refl; plain = one_lacks (codes "anon 1") (lacks_tested 10 (codes "anon 1") refl); last = inl (tt, tt) };
-    begun = λ h. absurd (h refl);
-    other = tt;
-  },
-  [],
-  18,
-  record { front = at (codes "memory.stat") (codes "anon 1\n"); split = refl; ended = inr (at (codes "memory.stat") (codes "anon 1"), refl); plain = tt },
-  (form.Flat, value.Flat (one_pair ∷ []), stat_reads, stat_lines, refl),
-  omega arith,
-)
+one_key_held = ((one_key, [], 18, one_key_begun, (form.Flat, value.Flat (one_pair ∷ []), stat_reads, stat_lines, refl), omega arith), one_key_most)
 
 -- ---- Which rule a byte breaks
 

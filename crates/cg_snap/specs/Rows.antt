@@ -1,5 +1,5 @@
 -- Snapshots and plans by example: texts with their entries or items, what some bytes close, which rule a byte breaks, and limits.
-use Rattle.std.specs.Prelude.{◌≡◌, ℕ, List, [], ◌∷◌, ◌++◌, false, Some, codes}
+use Rattle.std.specs.Prelude.{◌≡◌, ℕ, ◌≤◌, List, [], ◌∷◌, ◌++◌, false, Some, codes}
 use Rattle.std.specs.List.{AllZip}
 use Rattle.cg_text.specs.declared.values.Limit.TheVariants.{Max}
 use Rattle.cg_value.specs.Entry.{EntryData, ItemData}
@@ -74,9 +74,10 @@ OpenPath = Closes [] (at (codes "cpu.max") (codes "max 100000\ncpu.max"))
 abbrev pub OtherPath : Type 0
 OtherPath = Closes (no_limit ∷ []) (at (codes "cpu.max") (codes "max 100000\n" ++ at (codes "cpu.max.burst") []))
 
--- A place a line, the path, and the key's length plus 2.
+-- A place a line, the path, and the key's length plus 2: so much may be held, and no more.
 abbrev pub OneKeyHeld : Type 0
 OneKeyHeld = IsHeldFor One (at (codes "memory.stat") (codes "anon 1\n")) [] 18
+    × ((n : ℕ) → IsHeldFor One (at (codes "memory.stat") (codes "anon 1\n")) [] n → n ≤ 18)
 
 -- ---- Which rule a byte breaks
 

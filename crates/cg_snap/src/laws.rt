@@ -1,7 +1,30 @@
 //! The laws of snapshots and of plans. Each function takes and answers nothing: its contract is the law.
 ghost use Rattle.cg_snap.specs.Decoder.{PulledIsClosed};
+ghost use Rattle.cg_snap.specs.Headline.{EntriesOfTheBytes, ItemsOfTheBytes, OnePlanStop, OneStop};
 ghost use Rattle.cg_snap.specs.Laws.{ClosedOnce, ClosedPlanOnce, EntriesPrinted, ItemsPrinted, OneBegun, OneClosing, OneList, OnePlan, PlanIsOfItems, SnapIsOfEntries, SnapIsPrint, TwoProfiles};
+ghost use Rattle.cg_snap.specs.PlanDecoder.{PulledPlanIsClosed};
 ghost use Rattle.cg_snap.specs.RoundTrip.{EntriesGivenBack, ItemsGivenBack, PlanEncodedTwice, SnapGivenBack};
+
+/// The headline. However the bytes are cut, a decoder gives exactly the entries that they close, of the one snapshot
+/// that they may become, or the items of the one plan; none of the bytes that it consumed stops the stream, and a
+/// stream has one stop; and it holds no more than the record that is begun and what the whole records of the present
+/// entry may hold. Encoding and then decoding gives the entries, or the items, back; and decoding a snapshot and then
+/// encoding it gives its bytes back.
+///
+/// What a call does with the bytes that come, and with which stop it refuses one, `next` and `finish` of the decoders
+/// say, and of a whole stream in pieces `decode_snapshot_pieces` and `decode_plan_pieces`.
+pub fn headline()
+    ensures entries { EntriesOfTheBytes }
+    ensures items { ItemsOfTheBytes }
+    ensures one_list { OneList }
+    ensures one_plan { OnePlan }
+    ensures one_stop { OneStop }
+    ensures one_plan_stop { OnePlanStop }
+    ensures entries_back { EntriesGivenBack }
+    ensures snapshot_back { SnapGivenBack }
+    ensures items_back { ItemsGivenBack }
+    ensures plan_twice { PlanEncodedTwice }
+{}
 
 /// No text is the snapshot of two lists of entries, and a snapshot is its one list printed: the records of the canonical
 /// lines of each entry. So printing the entries that were read gives the same bytes again. Entries have a snapshot exactly
@@ -54,4 +77,10 @@ pub fn two_profiles()
 /// from them, and none of them stops the stream.
 pub fn pulled_is_closed()
     ensures { PulledIsClosed }
+{}
+
+/// The bytes that a decoder of plans consumed close the items that it gave, which are one list; some plan goes on from
+/// them, and none of them stops the stream.
+pub fn pulled_plan_is_closed()
+    ensures { PulledPlanIsClosed }
 {}
