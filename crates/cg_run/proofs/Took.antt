@@ -1,7 +1,7 @@
 -- How a piece is taken.
 use Rattle.std.proofs.Common.{◌≡◌, ℕ, zero, suc, Bool, ◌+◌, ◌-◌, ◌<◌, ◌≤◌, List, [], ◌∷◌, ◌++◌, take, drop, length, get_or, Option, Some, None, refl, sym, ap, ◌∙◌, append_assoc, append-nil, arith, length-append, length-drop, length-take}
 use Rattle.std.proofs.Math.Seq.{take-add, take-append_seam}
-use Rattle.std.proofs.lemmas.List.{get_or-drop, get_or-take, take_all, take_min}
+use Rattle.std.proofs.lemmas.List.{get_or-drop, get_or-take, take_min}
 use Rattle.std.specs.Io.KnownBytes.{Consumes, Keeps}
 use Rattle.cg_text.specs.Texts.{Viable, Next}
 use Rattle.cg_line.specs.declared.push.PushFault.{PushFault}
@@ -46,9 +46,6 @@ piece_starved L max taken piece i within room goes =
 module _ (Took : List ℕ → Type 0) (max : ℕ) (taken piece : List ℕ) where
   pub goes_first : GoesOn Took max taken → GoesOn Took max (taken ++ take 0 piece)
   goes_first h = rw (append-nil taken) h
-
-  pub goes_all : (i : ℕ) → length piece ≤ i → GoesOn Took max (taken ++ take i piece) → GoesOn Took max (taken ++ piece)
-  goes_all i done h = rw (take_all i piece done) at h
 
 pub place_is : (taken piece : List ℕ) (i : ℕ) → i < length piece → length (taken ++ take i piece) ≡ length taken + i
 place_is taken piece i within = omega (arith, length-append taken (take i piece), length-take i piece)

@@ -74,20 +74,6 @@ line_fault first a b parts line written more all failed wanted h w e =
     subst (λ (t : List ℕ). Wrote first b failed t wanted (out.WriteFault all)) (append-nil (joined parts ++ line))
     (fault_after first a b parts line [] written w.0 all failed wanted h w.1 w.2 w.4 (omega (arith, e, w.3, h.1)))
 
--- The last line was written, and no writer failed.
-pub line_written : (first a b : Option (List ℕ)) (parts : List (List ℕ)) (line : List ℕ) (written : ℕ)
-    (failed : Bool) (wanted o : Outcome) → HasWritten first a parts written → Wrote a b failed line wanted o →
-    ((n : ℕ) → o ≡ out.WriteFault n → ⊥) →
-    Wrote first b failed (joined parts ++ line) wanted o
-line_written first a b parts line written failed wanted out.Done h w n = (w.0, Appends-trans first a b (joined parts) line h.0 w.1)
-line_written first a b parts line written failed wanted (out.Findings k) h w n = (w.0, Appends-trans first a b (joined parts) line h.0 w.1)
-line_written first a b parts line written failed wanted (out.Stopped s) h w n = (w.0, Appends-trans first a b (joined parts) line h.0 w.1)
-line_written first a b parts line written failed wanted out.NotReadable h w n = (w.0, Appends-trans first a b (joined parts) line h.0 w.1)
-line_written first a b parts line written failed wanted out.NotWritable h w n = (w.0, Appends-trans first a b (joined parts) line h.0 w.1)
-line_written first a b parts line written failed wanted out.ReadFault h w n = (w.0, Appends-trans first a b (joined parts) line h.0 w.1)
-line_written first a b parts line written failed wanted (out.WriteFault k) h w n = absurd (n k refl)
-line_written first a b parts line written failed wanted out.OutOfMemory h w n = (w.0, Appends-trans first a b (joined parts) line h.0 w.1)
-
 -- ---- Texts that are gathered
 
 pub joined_append : (xs ys : List (List ℕ)) → joined (xs ++ ys) ≡ joined xs ++ joined ys

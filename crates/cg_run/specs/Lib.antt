@@ -10,6 +10,7 @@ pub mod Kept
 pub mod Kinds
 pub mod Outcome
 pub mod Planned
+pub mod Program
 pub mod Reading
 pub mod Rows
 pub mod Run

@@ -86,7 +86,8 @@ A line has the rule, the path of a cgroup.subtree_control and a controller that 
 C1  its group doesn't have in cgroup.controllers,
 C2  the group above doesn't have in cgroup.subtree_control,
 C3  isn't threaded, where the group is a domain and has processes.
-All entries are kept until the input has ended. The status is 1 where there is a line.
+It keeps the entries of cgroup.controllers, cgroup.subtree_control, cgroup.procs and cgroup.type,
+and no other, until the input has ended. The status is 1 where there is a line.
 
 Example:
   grep -rZ '' /sys/fs/cgroup 2> /dev/null | cgfile check",
@@ -106,7 +107,7 @@ Example:
 
 /// What the program is.
 pub(crate) const ABOUT: &str =
-    "Read the interface files of Linux control groups (cgroup v2) exactly as the kernel prints them";
+    "Read the interface files of Linux control groups (cgroup v2) exactly by their grammar";
 
 /// What else the program's help says.
 pub(crate) const MORE: &str = "\
@@ -131,7 +132,7 @@ memory.numa_stat is raw lines in 1 and nested in 2
 [default: 1]";
 
 pub(crate) const MAX_RECORD: &str =
-    "How many bytes a snapshot's record may have, newline too [default: 1048576]";
+    "How many bytes a record may have, of a plan too, with its newline [default: 1048576]";
 
 pub(crate) const MAX_LINES: &str =
     "How many records a snapshot's entry may have [default: 1000000]";
