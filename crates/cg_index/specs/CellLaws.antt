@@ -1,4 +1,5 @@
 -- What becomes of the tree in cells.
+use Rattle.std.specs.Prelude.{slice_set}
 use Rattle.std.proofs.Common.{◌≡◌, ℕ, zero, suc, ◌+◌, ◌-◌, ◌<◌, List, [], ◌∷◌, ◌++◌, inl, inr, Bool, length, get_or, set, take, map, Option, Some, None, IfSome}
 use Rattle.std.proofs.Common.{refl, sym, ap, ◌∙◌, arith}
 use Rattle.std.proofs.Math.ListN.{length-set}
@@ -6,11 +7,16 @@ use Rattle.std.proofs.Math.Seq.{take-set-lt}
 use Rattle.std.proofs.lemmas.List.{length-map, length-take-le, map-append, map-set, take-map, take_all, take_more_set, map_more, get_or-map, get_or-take}
 use Rattle.std.proofs.lemmas.Bool.{cases_lt}
 use Rattle.cg_text.specs.Distinct.{AreDistinct, LacksValue}
-use Rattle.cg_index.specs.Cells.{item_of, fork_of, tree_of}
+use Rattle.cg_text.specs.Mark.{mark_of}
+use Rattle.cg_index.specs.Cells.{item_of, places_in, places_of, fork_of, no_links, tree_of}
 use Rattle.cg_index.specs.Keyed.{IsLastChanged}
 use Rattle.cg_index.specs.KeyedLaws.{last_changed}
 use Rattle.cg_index.specs.PlaceLaws.{lacks_at, keys_read}
 use Rattle.cg_index.specs.Tree.{Indexes, IsSeat, fork_at, key_at, no_fork, turned, led_from, led_forks, led_root}
+use Rattle.cg_index.specs.Trie.{next, places_at, HasMark, IsEnd, IsTrie, linked}
+use Rattle.cg_index.specs.TrieLaws.{IsTrie-linked}
+use Rattle.cg_index.specs.declared.trie.End.TheVariants as end
+use Rattle.cg_index.specs.declared.trie.Opening.{Opening}
 use Rattle.cg_index.specs.declared.cell.Cell.{Cell}
 use Rattle.cg_index.specs.declared.fork.Fork.{Fork}
 use Rattle.cg_index.specs.declared.fork.Link.{Link}
@@ -37,8 +43,8 @@ take_led forks (Some f) digit l n h =
 
 module _ {T : Type 0} where
   -- The fork that is read in a cell.
-  pub fork_there : (cells : List (Cell T)) (i : ℕ) (cell : Cell T) → i < length (map fork_of cells) → fork_at (map fork_of cells) i ≡ (get_or cells i cell).fork
-  fork_there cells i cell h = get_or-map fork_of cells i cell no_fork (omega (arith, h, length-map cells fork_of))
+  pub fork_there : (cells : List (Cell T)) (i : ℕ) (cell : Cell T) (fork : Fork) → i < length (map fork_of cells) → cell ≡ get_or cells i cell → fork ≡ fork_of cell → fork_at (map fork_of cells) i ≡ fork
+  fork_there cells i cell fork h is read = get_or-map fork_of cells i cell no_fork (omega (arith, h, length-map cells fork_of)) ∙ ap fork_of (sym is) ∙ sym read
 
   -- The item that is read in a cell.
   pub item_there : (cells : List (Cell T)) (i : ℕ) (cell : Cell T) → i < length cells → cell ≡ get_or cells i cell → get_or (map item_of cells) i cell.item ≡ cell.item
@@ -52,13 +58,50 @@ module _ {T : Type 0} where
   key_in key cells i cell h is =
       keys_read key (map item_of cells) i cell.item (omega (arith, h, length-map cells item_of)) ∙ ap key (item_there cells i cell h is)
 
+  -- Where a walk goes on from a cell of the trie, and whose mark its key has.
+  pub next_there : (cells : List (Cell T)) (i : ℕ) (cell : Cell T) (digit : ℕ) → i < length cells → cell ≡ get_or cells i cell → next (map places_of cells) i digit ≡ get_or (places_of cell) digit 0
+  unfolding next
+  next_there cells i cell digit h is = ap (λ (x : List ℕ). get_or x digit 0) (get_or-map places_of cells i cell [] h ∙ ap places_of (sym is))
+
+  pub next_of_none : (cells : List (Cell T)) (i digit : ℕ) → (i < length cells → ⊥) → next (map places_of cells) i digit ≡ 0
+  unfolding next
+  next_of_none [] i digit h = refl
+  next_of_none (c ∷ cs) zero digit h = absurd (h (omega arith))
+  next_of_none (c ∷ cs) (suc i) digit h = next_of_none cs i digit (λ l. h (omega (arith, l)))
+
+  pub mark_there : (key : T → List ℕ) (cells : List (Cell T)) (i mark : ℕ) (cell : Cell T) → i < length cells → cell ≡ get_or cells i cell → mark_of (key cell.item) ≡ mark → HasMark (map key (map item_of cells)) mark i
+  mark_there key cells i mark cell h is has = (omega (arith, h, keys_length key cells), ap mark_of (key_in key cells i cell h is) ∙ has)
+
+  pub no_mark_there : (key : T → List ℕ) (cells : List (Cell T)) (i mark : ℕ) (cell : Cell T) → i < length cells → cell ≡ get_or cells i cell → (mark_of (key cell.item) ≡ mark → ⊥) →
+      HasMark (map key (map item_of cells)) mark i → ⊥
+  no_mark_there key cells i mark cell h is lacks has = lacks (sym (ap mark_of (key_in key cells i cell h is)) ∙ has.1)
+
+  -- The trie where an item has come in at an opening.
+  pub linked_there : (key : T → List ℕ) (old now new : List (Cell T)) (item : T) (at : Opening) (cell : Cell T) → cell.item ≡ item → cell.links ≡ no_links → new ≡ now ++ cell ∷ [] → map item_of now ≡ map item_of old →
+      map places_of now ≡ slice_set (map places_of old) at.place (slice_set (places_at (map places_of old) at.place) at.digit (length (map places_of old))) →
+      IsTrie (map places_of old) (map key (map item_of old)) → IsEnd (map places_of old) (map key (map item_of old)) (mark_of (key item)) (end.Open at) → IsTrie (map places_of new) (map key (map item_of new))
+  linked_there key old now new item at cell item_is links_are new_is items places trie ends =
+      let all : map key (map item_of new) ≡ map key (map item_of old) ++ key item ∷ [] =
+      ap (λ v. map key (map item_of v)) new_is ∙ ap (map key) (map-append item_of now (cell ∷ []) ∙ ap (λ v. v ++ cell.item ∷ []) items ∙ ap (λ v. map item_of old ++ v ∷ []) item_is) ∙ map-append key (map item_of old) (item ∷ []) in
+      let links : map places_of new ≡ linked (map places_of old) at =
+      ap (map places_of) new_is ∙ map-append places_of now (cell ∷ []) ∙ ap (λ v. v ++ places_of cell ∷ []) places ∙ ap (λ v. slice_set (map places_of old) at.place (slice_set (places_at (map places_of old) at.place) at.digit (length (map places_of old))) ++ places_in v ∷ []) links_are in
+      rw (all, links) (IsTrie-linked trie (key item) at ends)
+
+  -- A link of a cell leads to the next place.
+  pub linked_set : (cells : List (Cell T)) (i digit n : ℕ) (cell new : Cell T) → i < length cells → cell ≡ get_or cells i cell → n ≡ length cells → places_of new ≡ slice_set (places_of cell) digit n →
+      map places_of (set cells i new) ≡ slice_set (map places_of cells) i (slice_set (places_at (map places_of cells) i) digit (length (map places_of cells)))
+  linked_set cells i digit n cell new h is count new_is =
+      map-set places_of cells i new
+      ∙ ap (set (map places_of cells) i) (new_is ∙ ap (λ (x : List ℕ). set x digit n) (ap places_of is ∙ sym (get_or-map places_of cells i cell [] h))
+      ∙ ap (set (places_at (map places_of cells) i) digit) (count ∙ sym (length-map cells places_of)))
+
   -- A fork in a cell is turned.
-  pub turned_there : (cells : List (Cell T)) (i : ℕ) (cell : Cell T) (new : Cell T) (digit : Bool) (l : Link) → i < length cells → cell ≡ get_or cells i cell → new.fork ≡ turned cell.fork digit l →
-      map fork_of (set cells i new) ≡ led_from (map fork_of cells) (Some i) digit l
-  turned_there cells i cell new digit l h is new_is =
+  pub turned_there : (cells : List (Cell T)) (i : ℕ) (cell new : Cell T) (fork : Fork) (digit : Bool) (l : Link) → i < length cells → cell ≡ get_or cells i cell → fork ≡ fork_of cell →
+      fork_of new ≡ turned fork digit l → map fork_of (set cells i new) ≡ led_from (map fork_of cells) (Some i) digit l
+  turned_there cells i cell new fork digit l h is read new_is =
       let there : i < length (map fork_of cells) = omega (arith, h, length-map cells fork_of) in
       map-set fork_of cells i new
-      ∙ ap (set (map fork_of cells) i) (new_is ∙ ap (λ (x : Fork). turned x digit l) (ap fork_of is ∙ sym (fork_there cells i cell there)))
+      ∙ ap (set (map fork_of cells) i) (new_is ∙ ap (λ (x : Fork). turned x digit l) (sym (fork_there cells i cell fork there is read)))
 
   -- The tree where a seat has been taken.
   pub seated : (key : T → List ℕ) (old new : List (Cell T)) (root : Link) (item : T) (seat : Seat) → IsSeat (tree_of old root) (map key (map item_of old)) (key item) seat →

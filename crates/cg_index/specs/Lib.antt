@@ -1,13 +1,15 @@
 pub mod CellLaws
 pub mod Cells
+pub mod Found
+pub mod FoundLaws
 pub mod GrownLaws
 pub mod IndexLaws
 pub mod Keyed
 pub mod KeyedLaws
-pub mod Marked
-pub mod MarkedLaws
 pub mod PlaceLaws
 pub mod Position
 pub mod PositionLaws
 pub mod Tree
 pub mod TreeLaws
+pub mod Trie
+pub mod TrieLaws

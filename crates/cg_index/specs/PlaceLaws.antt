@@ -8,7 +8,7 @@ use Rattle.std.specs.Str.{bytes_eq}
 use Rattle.std.specs.Cmp.Lexicographic.{pointwise}
 use Rattle.cg_text.specs.Distinct.{AreDistinct, LacksValue}
 use Rattle.cg_index.specs.Keyed.{place_among}
-use Rattle.cg_index.specs.Marked.{IsOnlyPlace}
+use Rattle.cg_index.specs.Found.{IsOnlyPlace}
 use Rattle.cg_index.specs.Tree.{key_at}
 
 pub lacks_at : (key : List ℕ) (keys : List (List ℕ)) (k : ℕ) → LacksValue key keys → k < length keys → key_at keys k ≡ key → ⊥

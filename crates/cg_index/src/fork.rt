@@ -4,7 +4,7 @@ ghost use Rattle.cg_index.specs.Position.{number, side};
 ghost use Rattle.cg_index.specs.Cells.{item_of, fork_of};
 ghost use Rattle.cg_index.specs.Tree.{no_fork, IsTree, IsEdge, IsParting, Leads, way, turned, led_forks, led_root};
 
-use crate::cell::Cell;
+use crate::cell::{Cell, Links};
 use crate::position::{Position, side};
 
 /// Where a walk goes on.
@@ -117,7 +117,7 @@ pub(crate) fn key_of_walk<T>(cells: &[Cell<T>], root: Link, key: &[u8]) -> usize
         match link {
             Link::Key(place) => return place,
             Link::Fork(place) => {
-                let fork = cells[place].fork;
+                let fork = cells[place].fork();
                 link = fork.toward(side(key, fork.at));
             }
         }
@@ -137,7 +137,7 @@ pub(crate) fn edge_before<T>(cells: &[Cell<T>], root: Link, key: &[u8], at: Posi
         to: root,
     };
     while let Link::Fork(place) = edge.to {
-        let fork = cells[place].fork;
+        let fork = cells[place].fork();
         if !fork.at.is_before(at) {
             break;
         }
@@ -163,7 +163,7 @@ pub(crate) fn redirect<T: Drop>(cells: &mut Vec<Cell<T>>, root: Link, seat: Seat
     match seat.from {
         None => seat.link,
         Some(place) => {
-            cells[place].fork = cells[place].fork.turned(seat.digit, seat.link);
+            cells[place].links = Links::Tree(cells[place].fork().turned(seat.digit, seat.link));
             root
         }
     }

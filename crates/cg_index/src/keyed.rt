@@ -2,21 +2,18 @@
 ghost use Rattle.std.specs.Prelude.{◌≡◌, ℕ, List, ◌<◌, ◌++◌, ◌∷◌, [], IsTrue, IfErr, IsOk, OnOk, OnErr, length, map, slice_get, Some, MatchOption, ◌≤◌, IfSome, is_none, is_err};
 ghost use Rattle.std.specs.Cmp.Lexicographic.{pointwise};
 ghost use Rattle.cg_text.specs.Distinct.{AreDistinct, LacksValue};
-ghost use Rattle.cg_index.specs.Cells.{item_of};
-ghost use Rattle.cg_index.specs.Marked.{IsMarked, IsOnlyPlace, IsFree};
+ghost use Rattle.cg_index.specs.Cells.{item_of, places_of, fork_of};
+ghost use Rattle.cg_index.specs.Found.{IsKeyed, IsOnlyPlace, IsOpening};
 ghost use Rattle.cg_index.specs.Keyed.{IsLastChanged, IsHandedBack, is_repeated, is_among, place_among};
 
 use crate::cell::Cell;
 use crate::fork::Link;
 use crate::tree;
+use crate::trie::{self, End, Opening};
 use cg_text::{Key, OutOfMemory, make_room, mark_of};
 use std::alloc::Global;
 use std::marker::Model;
 use thiserror::Error;
-
-/// How many items are found by going over the marks of their keys. More are found by the tree of their keys, and so are
-/// fewer where marks don't tell them apart.
-const MOST: usize = 128;
 
 /// What has a key.
 pub trait HasKey: Drop {
@@ -63,48 +60,42 @@ pub enum Refused<T> {
     OutOfMemory(T),
 }
 
-/// The place of the first item whose key has the mark.
+/// Where an item goes whose key has this mark, none where that takes the tree.
 #[inline(always)]
-fn marked<T: HasKey>(cells: &[Cell<T>], mark: u32) -> Option<usize>
-    ensures { IsMarked (map T.key_of (map item_of cells.now)) mark result }
+fn opening<T: HasKey>(cells: &[Cell<T>], root: Option<Link>, mark: u32) -> Option<Opening>
+    requires { IsKeyed (map T.key_of (map item_of cells.now)) (map places_of cells.now) (map fork_of cells.now) root }
+    ensures { IfSome result (IsOpening (map places_of cells.now) (map T.key_of (map item_of cells.now)) root mark) }
 {
-    for (place, cell) in cells.iter().enumerate() {
-        if cell.item.key().mark() == mark {
-            return Some(place);
-        }
+    if root.is_some() {
+        return None;
     }
-    None
-}
-
-/// Whether a key with this mark is new and needs no tree.
-#[inline(always)]
-fn is_free<T: HasKey>(cells: &[Cell<T>], root: Option<Link>, mark: u32) -> bool
-    ensures { IsTrue result → IsFree (map T.key_of (map item_of cells.now)) root mark }
-{
-    root.is_none() && cells.len() < MOST && marked(cells, mark).is_none()
+    match trie::walk(cells, mark) {
+        End::Open(at) => Some(at),
+        End::Met(_) => None,
+    }
 }
 
 /// Items with keys that are all different, to which more can be added. It can make room for an item before the item is
 /// there. Contracts see the items and whether there is room.
 #[derive(Debug, Drop)]
 pub struct KeyedBuilder<T: HasKey> {
-    /// The only vector: the tree of the keys lies in it too.
+    /// The only vector: the trie of the marks, or the tree of the keys, lies in it too.
     cells: Vec<Cell<T>>,
-    /// Where a walk over that tree begins, none where marks tell the keys apart.
+    /// Where a walk over the tree of the keys begins, none where marks tell the keys apart.
     root: Option<Link>,
 }
 
 impl<T: HasKey> Model for KeyedBuilder<T> {
     ghost use Rattle.std.specs.Prelude.{nat_lt, map, vec_len, vec_capacity};
-    ghost use Rattle.cg_index.specs.Cells.{item_of, fork_of};
+    ghost use Rattle.cg_index.specs.Cells.{item_of, places_of, fork_of};
     ghost use Rattle.cg_index.specs.Keyed.{Collected};
-    ghost use Rattle.cg_index.specs.Marked.{IsKeyed};
+    ghost use Rattle.cg_index.specs.Found.{IsKeyed};
 
     ghost Value = { Collected T };
 
     ghost view = { λ s. record { items = map item_of s.cells.items; has_room = nat_lt (vec_len s.cells) (vec_capacity s.cells) } };
 
-    ghost invariant = { λ s. IsKeyed (map T.key_of (map item_of s.cells.items)) (map fork_of s.cells.items) s.root };
+    ghost invariant = { λ s. IsKeyed (map T.key_of (map item_of s.cells.items)) (map places_of s.cells.items) (map fork_of s.cells.items) s.root };
 }
 
 impl<T: HasKey> KeyedBuilder<T> {
@@ -150,7 +141,10 @@ impl<T: HasKey> KeyedBuilder<T> {
     {
         match self.root {
             Some(root) => tree::nearest(self.cells.as_slice(), root, key),
-            None => marked(self.cells.as_slice(), mark_of(key)),
+            None => match trie::walk(self.cells.as_slice(), mark_of(key)) {
+                End::Met(place) => Some(place),
+                End::Open(_) => None,
+            },
         }
     }
 
@@ -185,11 +179,10 @@ impl<T: HasKey> KeyedBuilder<T> {
         requires new { LacksValue (T.key_of item) (map T.key_of self.old.items) }
         ensures { self.new.items ≡ self.old.items ++ item ∷ [] }
     {
-        if is_free(self.cells.as_slice(), self.root, item.key().mark()) {
-            self.cells.push_reserved(Cell::new(item));
-            return;
+        match opening(self.cells.as_slice(), self.root, item.key().mark()) {
+            Some(at) => trie::insert(&mut self.cells, at, item),
+            None => self.root = Some(tree::push(&mut self.cells, self.root, item)),
         }
-        self.root = Some(tree::push(&mut self.cells, self.root, item));
     }
 
     /// Adds an item at the end. Where an item has its key it answers `Repeated`, and where memory is wanting
@@ -202,13 +195,13 @@ impl<T: HasKey> KeyedBuilder<T> {
         ensures repeated { is_repeated result ≡ is_among (T.key_of item) (map T.key_of self.old.items) }
         ensures room { IsTrue self.old.has_room → is_err result ≡ is_repeated result }
     {
-        if !is_free(self.cells.as_slice(), self.root, item.key().mark()) {
+        let Some(at) = opening(self.cells.as_slice(), self.root, item.key().mark()) else {
             return self.add_by_tree(item);
-        }
+        };
         if make_room(&mut self.cells).is_err() {
             return Err(Refused::OutOfMemory(item));
         }
-        self.cells.push_reserved(Cell::new(item));
+        trie::insert(&mut self.cells, at, item);
         Ok(())
     }
 

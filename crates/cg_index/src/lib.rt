@@ -6,6 +6,7 @@ mod fork;
 pub mod keyed;
 mod position;
 mod tree;
+mod trie;
 
 pub use cell::Cell;
 pub use keyed::{Change, HasKey, KeyedBuilder, KeyedItems, Refused};

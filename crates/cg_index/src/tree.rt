@@ -6,7 +6,7 @@ ghost use Rattle.cg_index.specs.Keyed.{is_among};
 ghost use Rattle.cg_index.specs.Position.{HasNoZero};
 ghost use Rattle.cg_index.specs.Tree.{Indexes, IsKeyThere, IsNearest, IsNear, IsOnlyFor, IsSeat, IsTree, led_forks, led_root};
 
-use crate::cell::Cell;
+use crate::cell::{Cell, Links};
 use crate::fork::{Fork, Link, Seat, edge_before, key_of_walk, redirect};
 use crate::keyed::HasKey;
 use crate::position::first_difference;
@@ -106,7 +106,7 @@ pub(crate) fn insert<T: HasKey>(cells: &mut Vec<Cell<T>>, root: Link, seat: Seat
     let root = redirect(cells, root, seat);
     cells.push_reserved(Cell {
         item,
-        fork: seat.fork,
+        links: Links::Tree(seat.fork),
     });
     root
 }
@@ -124,7 +124,7 @@ pub(crate) fn plant<T: HasKey>(cells: &mut Vec<Cell<T>>) -> Link
     for place in 0..cells.len() {
         let seat = new_seat(&cells[..place], root, cells[place].item.key());
         root = redirect(cells, root, seat);
-        cells[place].fork = seat.fork;
+        cells[place].links = Links::Tree(seat.fork);
     }
     root
 }

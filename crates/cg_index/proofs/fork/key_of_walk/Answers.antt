@@ -13,14 +13,14 @@ pub side-requires : goal.side-requires
 side-requires g c =
     let forks = map fork_of c.args.cells.now in
     let there = below_fork forks 0 c.loop-link.link c.in-Fork.place c.in-Fork.is c.loop-link.invariant.below in
-    let read = fork_there c.args.cells.now c.in-Fork.place c.index-cells-place.result there.1 in
+    let read = fork_there c.args.cells.now c.in-Fork.place c.index-cells-place.result c.fork-fork.result there.1 c.index-cells-place.is c.fork-fork.ensures in
     digit_read forks c.in-Fork.place _ read c.requires.tree there.1
 
 pub loop-link-smaller : goal.loop-link-smaller
 loop-link-smaller g c =
     let forks = map fork_of c.args.cells.now in
     let there = below_fork forks 0 c.loop-link.link c.in-Fork.place c.in-Fork.is c.loop-link.invariant.below in
-    let read = fork_there c.args.cells.now c.in-Fork.place c.index-cells-place.result there.1 in
+    let read = fork_there c.args.cells.now c.in-Fork.place c.index-cells-place.result c.fork-fork.result there.1 c.index-cells-place.is c.fork-fork.ensures in
     let goes = child_read forks c.in-Fork.place _ read c.args.key.now c.side.result c.toward-link.result c.side.ensures c.toward-link.ensures in
     rw (c.in-Fork.is) (left_falls c.requires.tree c.in-Fork.place there.0 there.1 (side c.args.key.now (at forks c.in-Fork.place)) c.toward-link.result goes)
 
@@ -28,7 +28,7 @@ pub loop-link-preserved : goal.loop-link-preserved
 loop-link-preserved g c =
     let forks = map fork_of c.args.cells.now in
     let there = below_fork forks 0 c.loop-link.link c.in-Fork.place c.in-Fork.is c.loop-link.invariant.below in
-    let read = fork_there c.args.cells.now c.in-Fork.place c.index-cells-place.result there.1 in
+    let read = fork_there c.args.cells.now c.in-Fork.place c.index-cells-place.result c.fork-fork.result there.1 c.index-cells-place.is c.fork-fork.ensures in
     let goes = child_read forks c.in-Fork.place _ read c.args.key.now c.side.result c.toward-link.result c.side.ensures c.toward-link.ensures in
     record {
       below = goes_on c.requires.tree c.in-Fork.place there.0 there.1 (side c.args.key.now (at forks c.in-Fork.place)) c.toward-link.result goes;

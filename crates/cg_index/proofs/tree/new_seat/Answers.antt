@@ -2,7 +2,7 @@ use Rattle.std.proofs.Common.{map, ◌∙◌}
 use Rattle.std.proofs.lemmas.List.{length-map}
 use Rattle.cg_index.specs.Cells.{item_of}
 use Rattle.cg_index.specs.IndexLaws.{word_bytes, near_is}
-use Rattle.cg_index.specs.MarkedLaws.{near_apart}
+use Rattle.cg_index.specs.FoundLaws.{near_apart}
 use Rattle.cg_index.proofs.tree.new_seat.Goals as goal
 
 pub seat_near-requires-clause-key : goal.seat_near-requires-clause-key

@@ -3,6 +3,7 @@ use Rattle.std.proofs.Math.Seq.{map-set_same}
 use Rattle.std.proofs.lemmas.List.{map-set}
 use Rattle.cg_index.specs.Cells.{item_of, fork_of}
 use Rattle.cg_index.specs.CellLaws.{planted, taken_lacks}
+use Rattle.cg_index.specs.declared.cell.Links.TheVariants as links
 use Rattle.cg_index.proofs.tree.plant.Goals as goal
 
 pub new_seat-seat-requires-clause-new : goal.new_seat-seat-requires-clause-new
@@ -18,8 +19,8 @@ loop-place-preserved g c =
     let old = c.loop-place.cells.items in
     let place = c.loop-place.place in
     let within : place < length old = omega (arith, c.loop-place-test.true, c.len-place-end.ensures, c.loop-place.invariant.len, c.loop-place.cells.ok.0) in
-    let items = map-set_same item_of c.redirect-root.new.cells.items place (record c.index_mut.result.now { fork = c.new_seat-seat.result.fork }) c.index_mut.result.now (ap item_of c.index_mut.ensures.value) ∙ c.redirect-root.ensures.items in
-    let forks = map-set fork_of c.redirect-root.new.cells.items place (record c.index_mut.result.now { fork = c.new_seat-seat.result.fork }) ∙ ap (λ v. set v place c.new_seat-seat.result.fork) c.redirect-root.ensures.forks in
+    let items = map-set_same item_of c.redirect-root.new.cells.items place (record c.index_mut.result.now { links = links.Tree c.new_seat-seat.result.fork }) c.index_mut.result.now (ap item_of c.index_mut.ensures.value) ∙ c.redirect-root.ensures.items in
+    let forks = map-set fork_of c.redirect-root.new.cells.items place (record c.index_mut.result.now { links = links.Tree c.new_seat-seat.result.fork }) ∙ ap (λ v. set v place c.new_seat-seat.result.fork) c.redirect-root.ensures.forks in
     let seat = rw (c.deref.ensures.value, c.key.ensures) at c.new_seat-seat.ensures in
     record {
       items = items ∙ c.loop-place.invariant.items;

@@ -4,7 +4,7 @@ use Rattle.std.proofs.lemmas.List.{length-map}
 use Rattle.cg_index.specs.Cells.{item_of}
 use Rattle.cg_index.specs.IndexLaws.{word_bytes, near_is}
 use Rattle.cg_index.specs.PlaceLaws.{same_key, not_same_key}
-use Rattle.cg_index.specs.MarkedLaws.{near_among, near_other}
+use Rattle.cg_index.specs.FoundLaws.{near_among, near_other}
 use Rattle.cg_index.proofs.tree.seat_of.Goals as goal
 
 pub returns-then-eq-clause-there : goal.returns-then-eq-clause-there
