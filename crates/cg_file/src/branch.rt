@@ -136,13 +136,18 @@ impl<A: Token, B: Token> Token for Branch<A, B> {
         }
     }
 
-    ghost completes = { λ s. choice_completes A.means B.means (may_first s.place) (may_second s.place) s.first s.second (one_may s.place) (A.completes s.first) (B.completes s.second) };
+    ghost completes = { λ s. choice_completes A.means B.means (may_first s.place) (may_second s.place) s.first s.second
+        (one_may s.place) (A.completes s.first) (B.completes s.second) };
 
-    ghost no_size = { λ e s. sum_none A.grows B.grows (A.size s.first) (B.size s.second) e (λ f. A.no_size f s.first) (λ f. B.no_size f s.second) };
+    ghost no_size = { λ e s. sum_none A.grows B.grows (A.size s.first) (B.size s.second) e (λ f. A.no_size f s.first)
+        (λ f. B.no_size f s.second) };
 
-    ghost ends_is = { λ s. branch_ends A.means B.means s.place s.first s.second (A.ends s.first) (B.ends s.second) s.differ s.filled (A.ends_is s.first) (B.ends_is s.second) };
+    ghost ends_is = { λ s. branch_ends A.means B.means s.place s.first s.second (A.ends s.first) (B.ends s.second)
+        s.differ s.filled (A.ends_is s.first) (B.ends_is s.second) };
 
-    ghost one_value = { λ s. choice_one A.means B.means (may_first s.place) (may_second s.place) s.first s.second (none_share A.means B.means s.place s.first s.second s.differ) (A.one_value s.first) (B.one_value s.second) };
+    ghost one_value = { λ s. choice_one A.means B.means (may_first s.place) (may_second s.place) s.first s.second
+        (none_share A.means B.means s.place s.first s.second s.differ) (A.one_value s.first) (B.one_value s.second) };
 
-    ghost holds_bytes = { λ s. choice_bytes A.means B.means (may_first s.place) (may_second s.place) s.first s.second (A.holds_bytes s.first) (B.holds_bytes s.second) };
+    ghost holds_bytes = { λ s. choice_bytes A.means B.means (may_first s.place) (may_second s.place) s.first s.second
+        (A.holds_bytes s.first) (B.holds_bytes s.second) };
 }

@@ -173,7 +173,8 @@ pub struct DeviceTargetsFile {
 impl DeviceTargetsFile {
     /// The text of a file of any number of devices and their targets.
     pub fn new(alloc: Global) -> DeviceTargetsFile
-        ensures spells { Spells ⟦<DeviceTargetsFile as Token>⟧.means result (λ text v. KindText DeviceTargetsForm v text) }
+        ensures spells { Spells ⟦<DeviceTargetsFile as Token>⟧.means result
+            (λ text v. KindText DeviceTargetsForm v text) }
         ensures size { ⟦<DeviceTargetsFile as Token>⟧.size result ≡ 0 }
     {
         DeviceTargetsFile {

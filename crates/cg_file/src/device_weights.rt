@@ -180,7 +180,8 @@ pub struct DeviceWeightsFile {
 impl DeviceWeightsFile {
     /// The text of a file of a default weight, and of any number of devices and their weights.
     pub fn new(alloc: Global) -> DeviceWeightsFile
-        ensures spells { Spells ⟦<DeviceWeightsFile as Token>⟧.means result (λ text v. KindText DeviceWeightsForm v text) }
+        ensures spells { Spells ⟦<DeviceWeightsFile as Token>⟧.means result
+            (λ text v. KindText DeviceWeightsForm v text) }
         ensures size { ⟦<DeviceWeightsFile as Token>⟧.size result ≡ 0 }
     {
         let default = spaced(decimal_in(1, 10000));

@@ -44,8 +44,9 @@ fn value_in_front(alloc: Global, form: ReadForm, bytes: &[u8]) -> Option<(Value,
 }
 
 impl FileText {
-    /// The value of a file of this kind with which the bytes begin, and its length, where it is one line with which no longer
-    /// file of the kind begins, and its value holds nothing. It may find none where there is one. It takes no memory.
+    /// The value of a file of this kind with which the bytes begin, and its length, where it is one line with which no
+    /// longer file of the kind begins, and its value holds nothing. It may find none where there is one. It takes no
+    /// memory.
     pub fn read_front(alloc: Global, kind: ReadKind, bytes: &[u8]) -> Option<(Value, usize)>
         ensures { IfSome result (λ r. IsFileFront kind bytes.now r.0 r.1) }
     {

@@ -93,8 +93,8 @@ impl FileText {
         text_of(alloc, kind.form())
     }
 
-    /// Takes bytes from the front of `bytes`, none of them a newline, and answers how many. It may leave some that `step`
-    /// would take: it stops before a byte that is refused, or for which memory is.
+    /// Takes bytes from the front of `bytes`, none of them a newline, and answers how many. It may leave some that
+    /// `step` would take: it stops before a byte that is refused, or for which memory is.
     pub fn run(&mut self, bytes: &[u8]) -> usize
         ensures within { result ≤ length bytes.now }
         ensures plain { Lacks 10 (take result bytes.now) }
@@ -126,8 +126,8 @@ impl FileText {
 }
 
 impl FileText {
-    /// Takes a whole line, and the newline after it, at once, where no line is begun; or leaves the text as it is, which it may
-    /// do with any line. Answers whether it took them.
+    /// Takes a whole line, and the newline after it, at once, where no line is begun; or leaves the text as it is,
+    /// which it may do with any line. Answers whether it took them.
     fn take_line(&mut self, line: &[u8]) -> bool
         ensures taken { IsTrue result → FollowsRun ⟦<FileText as Token>⟧.means self.old (line.now ++ 10 ∷ []) self.new }
         ensures left { IsFalse result → Same ⟦<FileText as Token>⟧.means self.old self.new }
@@ -161,8 +161,8 @@ impl FileText {
         if self.take_line(line) { end + 1 } else { 0 }
     }
 
-    /// Takes a whole line with its newline from the front of `bytes`, where no line is begun; or nothing, which it may do with any
-    /// line. Answers how many bytes it took.
+    /// Takes a whole line with its newline from the front of `bytes`, where no line is begun; or nothing, which it may
+    /// do with any line. Answers how many bytes it took.
     #[inline(always)]
     pub fn take_front(&mut self, bytes: &[u8]) -> usize
         ensures within { result ≤ length bytes.now }

@@ -1,8 +1,8 @@
 //! The laws of files and their values. Each function takes and answers nothing: its contract is the law.
 ghost use Rattle.cg_file.specs.Laws.{OneValue, OneValueOfName, ReadBack, ReadBackOfName};
 
-/// A text has one value, as a file of a kind and as the file of a name. It is so for any bounds, not only those of the file
-/// table.
+/// A text has one value, as a file of a kind and as the file of a name. It is so for any bounds, not only those of the
+/// file table.
 pub fn one_value()
     ensures kind { OneValue }
     ensures name { OneValueOfName }

@@ -134,16 +134,16 @@ impl Turn<NestedLines> for ToNested {
 
 type Text = Mapped<NestedLines, ToNested>;
 
-/// The text of a file of any number of keys, each with any number of pairs of a sub-key and a number. No key comes twice,
-/// and no sub-key twice in a line.
+/// The text of a file of any number of keys, each with any number of pairs of a sub-key and a number. No key comes
+/// twice, and no sub-key twice in a line.
 #[derive(Drop)]
 pub struct NestedFile {
     text: Text,
 }
 
 impl NestedFile {
-    /// The text of a file of any number of keys, each with any number of pairs of a sub-key and a number. No key comes twice,
-    /// and no sub-key twice in a line.
+    /// The text of a file of any number of keys, each with any number of pairs of a sub-key and a number. No key comes
+    /// twice, and no sub-key twice in a line.
     pub fn new(alloc: Global) -> NestedFile
         ensures spells { Spells ⟦<NestedFile as Token>⟧.means result (λ text v. KindText NestedForm v text) }
         ensures size { ⟦<NestedFile as Token>⟧.size result ≡ 0 }

@@ -39,7 +39,8 @@ impl<A: Token, B: Token> OneOrBoth<A, B> {
         requires apart { AreApart A.means B.means first second }
         requires filled { LacksEmpty (B.means second) }
         requires differ { Differ (A.means first) (B.means second) }
-        ensures spells { Spells ⟦<OneOrBoth<A, B> as Token>⟧.means result (λ text v. IsOneOrBoth (A.means first) (B.means second) text v.0 v.1) }
+        ensures spells { Spells ⟦<OneOrBoth<A, B> as Token>⟧.means result
+            (λ text v. IsOneOrBoth (A.means first) (B.means second) text v.0 v.1) }
         ensures size { ⟦<OneOrBoth<A, B> as Token>⟧.size result ≡ A.size first + B.size second }
     {
         OneOrBoth {
@@ -161,13 +162,18 @@ impl<A: Token, B: Token> Token for OneOrBoth<A, B> {
         first.saturating_add(second)
     }
 
-    ghost completes = { λ s. one_completes A.means B.means s.place s.first s.second (λ e. (A.ends_is s.first).0 (s.ended e)) (A.completes s.first) (B.completes s.second) };
+    ghost completes = { λ s. one_completes A.means B.means s.place s.first s.second
+        (λ e. (A.ends_is s.first).0 (s.ended e)) (A.completes s.first) (B.completes s.second) };
 
-    ghost no_size = { λ e s. sum_none A.grows B.grows (A.size s.first) (B.size s.second) e (λ f. A.no_size f s.first) (λ f. B.no_size f s.second) };
+    ghost no_size = { λ e s. sum_none A.grows B.grows (A.size s.first) (B.size s.second) e (λ f. A.no_size f s.first)
+        (λ f. B.no_size f s.second) };
 
-    ghost ends_is = { λ s. one_ends A.means B.means s.place s.first s.second (A.ends s.first) (B.ends s.second) s.differ s.filled s.ended (A.ends_is s.first) (B.ends_is s.second) };
+    ghost ends_is = { λ s. one_ends A.means B.means s.place s.first s.second (A.ends s.first) (B.ends s.second) s.differ
+        s.filled s.ended (A.ends_is s.first) (B.ends_is s.second) };
 
-    ghost one_value = { λ s. one_value_of A.means B.means s.place s.first s.second s.differ s.filled s.apart (A.one_value s.first) (B.one_value s.second) };
+    ghost one_value = { λ s. one_value_of A.means B.means s.place s.first s.second s.differ s.filled s.apart
+        (A.one_value s.first) (B.one_value s.second) };
 
-    ghost holds_bytes = { λ s. one_bytes A.means B.means s.place s.first s.second (A.holds_bytes s.first) (B.holds_bytes s.second) };
+    ghost holds_bytes = { λ s. one_bytes A.means B.means s.place s.first s.second (A.holds_bytes s.first)
+        (B.holds_bytes s.second) };
 }

@@ -43,8 +43,8 @@ impl RawFile {
         }
     }
 
-    /// Takes a whole line with its newline from the front of `bytes`; or nothing, where there is none, it has a NUL or no memory
-    /// is left for it. Answers how many bytes it took.
+    /// Takes a whole line with its newline from the front of `bytes`; or nothing, where there is none, it has a NUL or
+    /// no memory is left for it. Answers how many bytes it took.
     pub(crate) fn take_front(&mut self, bytes: &[u8]) -> usize
         ensures within { result ≤ length bytes.now }
         ensures line { 0 < result → IsLineFront bytes.now result }

@@ -55,7 +55,8 @@ fn take_all(reader: &mut ValueReader, bytes: &[u8]) -> Result<(), FileFault>
 
 /// The value of a whole file of which so many bytes were taken.
 fn value_of(reader: ValueReader, taken: u64) -> Result<Value, FileFault>
-    ensures { (kind : ReadForm) (bytes : List ℕ) → Reads reader kind bytes → taken ≡ length bytes → IsReadWhole kind bytes result }
+    ensures { (kind : ReadForm) (bytes : List ℕ) → Reads reader kind bytes → taken ≡ length bytes →
+        IsReadWhole kind bytes result }
 {
     match reader.finish() {
         Ok(value) => Ok(value),

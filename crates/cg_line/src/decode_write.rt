@@ -55,7 +55,8 @@ fn take_all(reader: &mut SettingReader, bytes: &[u8]) -> Result<(), SettingFault
 
 /// The setting of a whole write of which so many bytes were taken.
 fn setting_of(reader: SettingReader, taken: u64) -> Result<Setting, SettingFault>
-    ensures { (kind : WriteForm) (bytes : List ℕ) → Takes reader kind bytes → taken ≡ length bytes → IsWriteRead kind bytes result }
+    ensures { (kind : WriteForm) (bytes : List ℕ) → Takes reader kind bytes → taken ≡ length bytes →
+        IsWriteRead kind bytes result }
 {
     match reader.finish() {
         Ok(setting) => Ok(setting),

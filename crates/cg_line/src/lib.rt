@@ -1,4 +1,5 @@
-//! Readers of one file and of one write, which take its text a byte at a time; and entries of one profile read in the other.
+//! Readers of one file and of one write, which take its text a byte at a time; and entries of one profile read in the
+//! other.
 #![tactic(auto)]
 
 pub mod decode;

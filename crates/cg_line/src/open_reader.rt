@@ -20,7 +20,8 @@ use cg_text::{ByteSet, Token};
 use cg_value::{ReadKind, Value};
 use std::alloc::Global;
 
-/// A reader of the text of one file, which takes line bytes and newlines: the file's token, and the place among the lines.
+/// A reader of the text of one file, which takes line bytes and newlines: the file's token, and the place among the
+/// lines.
 #[derive(Drop)]
 pub(crate) struct OpenReader {
     text: FileText,
@@ -47,7 +48,8 @@ impl OpenReader {
     /// Takes a byte where some file of the kind goes on with it, and refuses every other.
     /// After a refusal the reader is unchanged.
     pub(crate) fn push(&mut self, byte: u8) -> Result<(), PushFault>
-        ensures pushed { (kind : ReadForm) (taken : List ℕ) → Took self.old kind taken → Leaves (Took self.new kind) kind taken byte result }
+        ensures pushed { (kind : ReadForm) (taken : List ℕ) → Took self.old kind taken →
+            Leaves (Took self.new kind) kind taken byte result }
         ensures held { open_held self.new ≤ open_held self.old + 1 }
         ensures same_held { OnErr result (open_held self.new ≡ open_held self.old) }
     {
@@ -64,7 +66,8 @@ impl OpenReader {
     fn scan(&mut self, bytes: &[u8]) -> usize
         ensures within { result ≤ length bytes.now }
         ensures plain { Lacks 10 (take result bytes.now) }
-        ensures reads { (kind : ReadForm) (taken : List ℕ) → Took self.old kind taken → Took self.new kind (taken ++ take result bytes.now) }
+        ensures reads { (kind : ReadForm) (taken : List ℕ) → Took self.old kind taken →
+            Took self.new kind (taken ++ take result bytes.now) }
         ensures held { open_held self.new ≤ open_held self.old + result }
         ensures same_held { result ≡ 0 → open_held self.new ≡ open_held self.old }
     {
@@ -75,13 +78,14 @@ impl OpenReader {
         used
     }
 
-    /// Takes a whole line with its newline from the front of `bytes`, where no line is begun; or nothing, which it may do with any
-    /// line. Answers how many bytes it took.
+    /// Takes a whole line with its newline from the front of `bytes`, where no line is begun; or nothing, which it may
+    /// do with any line. Answers how many bytes it took.
     #[inline(always)]
     pub(crate) fn push_front(&mut self, bytes: &[u8]) -> usize
         ensures within { result ≤ length bytes.now }
         ensures line { 0 < result → IsLineFront bytes.now result }
-        ensures reads { (kind : ReadForm) (taken : List ℕ) → Took self.old kind taken → Took self.new kind (taken ++ take result bytes.now) }
+        ensures reads { (kind : ReadForm) (taken : List ℕ) → Took self.old kind taken →
+            Took self.new kind (taken ++ take result bytes.now) }
         ensures held { open_held self.new ≤ open_held self.old + result }
         ensures same_held { result ≡ 0 → open_held self.new ≡ open_held self.old }
     {
@@ -95,7 +99,8 @@ impl OpenReader {
     /// Takes bytes from the front of `bytes` as `push` would take one after another: until a newline was taken, none is
     /// left, or one is refused or memory is.
     pub(crate) fn push_run(&mut self, bytes: &[u8]) -> PushedRun
-        ensures pushed { (kind : ReadForm) (taken : List ℕ) → Took self.old kind taken → LeavesRun (Took self.new kind) kind taken bytes.now result }
+        ensures pushed { (kind : ReadForm) (taken : List ℕ) → Took self.old kind taken →
+            LeavesRun (Took self.new kind) kind taken bytes.now result }
         ensures within { result.used ≤ length bytes.now }
         ensures goes_on { IfNone result.fault (0 < length bytes.now → 0 < result.used) }
         ensures held { open_held self.new ≤ open_held self.old + result.used }
@@ -135,7 +140,8 @@ impl OpenReader {
 
     /// Whether no line is begun and another may begin. It takes no memory.
     pub(crate) fn takes_line(&self) -> bool
-        ensures { (kind : ReadForm) (taken : List ℕ) → Took self.now kind taken → (IsTrue result ↔ TakesLine kind taken) }
+        ensures { (kind : ReadForm) (taken : List ℕ) → Took self.now kind taken →
+            (IsTrue result ↔ TakesLine kind taken) }
     {
         if self.place.is_in_line() {
             return false;
@@ -145,9 +151,11 @@ impl OpenReader {
 
     /// Whether any byte may come next.
     fn goes_on(&self) -> bool
-        ensures { (kind : ReadForm) (taken : List ℕ) → Took self.now kind taken → (IsTrue result ↔ SomeNext kind taken) }
+        ensures { (kind : ReadForm) (taken : List ℕ) → Took self.now kind taken →
+            (IsTrue result ↔ SomeNext kind taken) }
     {
-        // Nearly every line can begin with a 0, and others begin with a letter; the second line of pressure begins with an f.
+        // Nearly every line can begin with a 0, and others begin with a letter; the second line of pressure begins with
+        // an f.
         for likely in b"0af" {
             if self.text.allows(*likely) {
                 return true;
@@ -164,7 +172,8 @@ impl OpenReader {
     /// Whether the bytes so far are a whole file. It takes no memory.
     #[inline(always)]
     pub(crate) fn can_finish(&self) -> bool
-        ensures whole { (kind : ReadForm) (taken : List ℕ) → Took self.now kind taken → (IsTrue result ↔ KindFile kind taken) }
+        ensures whole { (kind : ReadForm) (taken : List ℕ) → Took self.now kind taken →
+            (IsTrue result ↔ KindFile kind taken) }
         ensures ends { result ≡ ⟦<FileText as Token>⟧.ends self.now.text }
     {
         self.text.can_end()
@@ -172,7 +181,8 @@ impl OpenReader {
 
     /// The bytes with which some file of the kind goes on. It takes no memory.
     pub(crate) fn allowed(&self) -> ByteSet
-        ensures { (kind : ReadForm) (taken : List ℕ) → Took self.now kind taken → (byte : ℕ) → HasByte result byte ↔ Next (KindFile kind) taken byte }
+        ensures { (kind : ReadForm) (taken : List ℕ) → Took self.now kind taken → (byte : ℕ) → HasByte result byte ↔
+            Next (KindFile kind) taken byte }
     {
         let mut set = ByteSet::new();
         for number in 0..256u16 {
@@ -187,8 +197,11 @@ impl OpenReader {
     /// The sum of the lengths of its vectors, or `u64::MAX` where that is more. It takes no memory.
     pub(crate) fn held(&self) -> u64
         ensures exact { result ≡ told (open_held self.now) }
-        ensures few { (kind : ReadForm) (taken : List ℕ) → Took self.now kind taken → open_held self.now ≤ length taken }
-        ensures most { (kind : ReadForm) (lines : List (List ℕ)) (line : List ℕ) (v : Value) → Took self.now kind (unlines lines ++ line) → Lacks 10 line → ReadLines kind v lines → open_held self.now ≤ held_of_lines v lines + length line }
+        ensures few { (kind : ReadForm) (taken : List ℕ) → Took self.now kind taken →
+            open_held self.now ≤ length taken }
+        ensures most { (kind : ReadForm) (lines : List (List ℕ)) (line : List ℕ) (v : Value) →
+            Took self.now kind (unlines lines ++ line) → Lacks 10 line → ReadLines kind v lines →
+            open_held self.now ≤ held_of_lines v lines + length line }
     {
         self.text.held()
     }

@@ -22,6 +22,8 @@ use cg_file::FileText;
 use cg_text::ByteSet;
 use cg_value::{ReadKind, Value};
 use std::alloc::Global;
+use std::fmt;
+use thiserror::Error;
 
 /// What a reader took.
 #[derive(Drop)]
@@ -34,8 +36,8 @@ pub(crate) enum State {
     Open(Box<OpenReader>),
 }
 
-/// A reader of the text of one file, which takes line bytes and newlines. What it keeps of most files of one line is their value;
-/// of others it is their token, which lies on the heap.
+/// A reader of the text of one file, which takes line bytes and newlines. What it keeps of most files of one line is
+/// their value; of others it is their token, which lies on the heap.
 #[derive(Drop)]
 pub struct ValueReader {
     pub(crate) state: State,
@@ -51,9 +53,16 @@ pub struct PushedRun {
 }
 
 /// A reader whose bytes are no whole file, handed back.
-#[derive(Drop)]
+#[derive(Drop, Error)]
+#[error("no whole file")]
 pub struct ReaderCut {
     pub reader: ValueReader,
+}
+
+impl fmt::Debug for ReaderCut {
+    fn fmt<W: fmt::Write>(&self, f: &mut fmt::Formatter<W>) -> fmt::Result {
+        f.write_str("ReaderCut")
+    }
 }
 
 /// What became of a run of bytes of a reader that took nothing, and the reader that took them where some were taken.
@@ -90,10 +99,12 @@ fn begin_by(alloc: Global, kind: ReadKind, byte: u8) -> Result<Box<OpenReader>, 
     }
 }
 
-/// The reader that took bytes from the front of `bytes`, until a newline was taken, none is left, or one is refused or memory is.
+/// The reader that took bytes from the front of `bytes`, until a newline was taken, none is left, or one is refused or
+/// memory is.
 #[inline(never)]
 fn begin_run(alloc: Global, kind: ReadKind, bytes: &[u8]) -> Begun
-    ensures reader { MatchOption result.reader (result.run.used ≡ 0) (λ reader. (0 < result.run.used) × Took reader.value kind (take result.run.used bytes.now) × (open_held reader.value ≤ result.run.used)) }
+    ensures reader { MatchOption result.reader (result.run.used ≡ 0) (λ reader. (0 < result.run.used) ×
+        Took reader.value kind (take result.run.used bytes.now) × (open_held reader.value ≤ result.run.used)) }
     ensures stops { RunStops kind [] bytes.now result.run.used result.run.fault }
     ensures within { result.run.used ≤ length bytes.now }
     ensures goes_on { IfNone result.run.fault (0 < length bytes.now → 0 < result.run.used) }
@@ -142,7 +153,8 @@ fn begin(state: &mut State, alloc: Global, kind: ReadKind, bytes: &[u8]) -> Push
 /// What a run of bytes does after a whole file with which no other goes on: nothing.
 fn refuse(bytes: &[u8]) -> PushedRun
     ensures used { result.used ≡ 0 }
-    ensures stops { (kind : ReadForm) (taken : List ℕ) → ((byte : ℕ) → Next (KindFile kind) taken byte → ⊥) → RunStops kind taken bytes.now result.used result.fault }
+    ensures stops { (kind : ReadForm) (taken : List ℕ) → ((byte : ℕ) → Next (KindFile kind) taken byte → ⊥) →
+        RunStops kind taken bytes.now result.used result.fault }
     ensures goes_on { IfNone result.fault (0 < length bytes.now → 0 < result.used) }
 {
     PushedRun {
@@ -195,7 +207,8 @@ fn empty_value(alloc: Global, kind: ReadKind) -> Option<Value>
 /// The value of a whole file, or else the reader.
 #[inline(never)]
 fn finish_open(reader: Box<OpenReader>) -> Result<Value, State>
-    ensures { (kind : ReadForm) (taken : List ℕ) → Took reader.value kind taken → IsFinished kind taken (State.Open reader) result }
+    ensures { (kind : ReadForm) (taken : List ℕ) → Took reader.value kind taken →
+        IsFinished kind taken (State.Open reader) result }
 {
     if reader.can_finish() {
         Ok(Box::into_inner(reader).into_value())
@@ -237,7 +250,8 @@ impl ValueReader {
     /// Takes a byte where some file of the kind goes on with it, and refuses every other.
     /// After a refusal the reader is unchanged.
     pub fn push(&mut self, byte: u8) -> Result<(), PushFault>
-        ensures pushed { (kind : ReadForm) (taken : List ℕ) → Reads self.old kind taken → IsPushed self.new kind taken byte result }
+        ensures pushed { (kind : ReadForm) (taken : List ℕ) → Reads self.old kind taken →
+            IsPushed self.new kind taken byte result }
         ensures held { held_by self.new ≤ held_by self.old + 1 }
         ensures same_held { OnErr result (held_by self.new ≡ held_by self.old) }
     {
@@ -254,13 +268,14 @@ impl ValueReader {
         }
     }
 
-    /// Takes a whole line with its newline from the front of `bytes`, where no line is begun; or nothing, which it may do with any
-    /// line. Answers how many bytes it took.
+    /// Takes a whole line with its newline from the front of `bytes`, where no line is begun; or nothing, which it may
+    /// do with any line. Answers how many bytes it took.
     #[inline(always)]
     pub fn push_front(&mut self, bytes: &[u8]) -> usize
         ensures within { result ≤ length bytes.now }
         ensures line { 0 < result → IsLineFront bytes.now result }
-        ensures reads { (kind : ReadForm) (taken : List ℕ) → Reads self.old kind taken → Reads self.new kind (taken ++ take result bytes.now) }
+        ensures reads { (kind : ReadForm) (taken : List ℕ) → Reads self.old kind taken →
+            Reads self.new kind (taken ++ take result bytes.now) }
         ensures held { held_by self.new ≤ held_by self.old + result }
         ensures same_held { result ≡ 0 → held_by self.new ≡ held_by self.old }
     {
@@ -274,7 +289,8 @@ impl ValueReader {
     /// left, or one is refused or memory is.
     #[inline(always)]
     pub fn push_run(&mut self, bytes: &[u8]) -> PushedRun
-        ensures pushed { (kind : ReadForm) (taken : List ℕ) → Reads self.old kind taken → IsPushedRun self.new kind taken bytes.now result }
+        ensures pushed { (kind : ReadForm) (taken : List ℕ) → Reads self.old kind taken →
+            IsPushedRun self.new kind taken bytes.now result }
         ensures within { result.used ≤ length bytes.now }
         ensures goes_on { IfNone result.fault (0 < length bytes.now → 0 < result.used) }
         ensures held { held_by self.new ≤ held_by self.old + result.used }
@@ -292,7 +308,8 @@ impl ValueReader {
 
     /// Whether no line is begun and another may begin. It takes no memory.
     pub fn takes_line(&self) -> bool
-        ensures { (kind : ReadForm) (taken : List ℕ) → Reads self.now kind taken → (IsTrue result ↔ TakesLine kind taken) }
+        ensures { (kind : ReadForm) (taken : List ℕ) → Reads self.now kind taken →
+            (IsTrue result ↔ TakesLine kind taken) }
     {
         match &self.state {
             State::New { alloc, kind } => begins_line(*alloc, *kind),
@@ -303,7 +320,8 @@ impl ValueReader {
 
     /// Whether the bytes so far are a whole file. It takes no memory.
     pub fn can_finish(&self) -> bool
-        ensures { (kind : ReadForm) (taken : List ℕ) → Reads self.now kind taken → (IsTrue result ↔ KindFile kind taken) }
+        ensures { (kind : ReadForm) (taken : List ℕ) → Reads self.now kind taken →
+            (IsTrue result ↔ KindFile kind taken) }
     {
         match &self.state {
             State::New { alloc, kind } => may_be_empty(*alloc, *kind),
@@ -314,7 +332,8 @@ impl ValueReader {
 
     /// The bytes with which some file of the kind goes on. It takes no memory.
     pub fn allowed(&self) -> ByteSet
-        ensures { (kind : ReadForm) (taken : List ℕ) → Reads self.now kind taken → (byte : ℕ) → HasByte result byte ↔ Next (KindFile kind) taken byte }
+        ensures { (kind : ReadForm) (taken : List ℕ) → Reads self.now kind taken → (byte : ℕ) → HasByte result byte ↔
+            Next (KindFile kind) taken byte }
     {
         match &self.state {
             State::New { alloc, kind } => first_allowed(*alloc, *kind),
@@ -327,7 +346,9 @@ impl ValueReader {
     pub fn held(&self) -> u64
         ensures exact { result ≡ told (held_by self.now) }
         ensures few { (kind : ReadForm) (taken : List ℕ) → Reads self.now kind taken → held_by self.now ≤ length taken }
-        ensures most { (kind : ReadForm) (lines : List (List ℕ)) (line : List ℕ) (v : Value) → Reads self.now kind (unlines lines ++ line) → Lacks 10 line → ReadLines kind v lines → held_by self.now ≤ held_of_lines v lines + length line }
+        ensures most { (kind : ReadForm) (lines : List (List ℕ)) (line : List ℕ) (v : Value) →
+            Reads self.now kind (unlines lines ++ line) → Lacks 10 line → ReadLines kind v lines →
+            held_by self.now ≤ held_of_lines v lines + length line }
     {
         match &self.state {
             State::New { .. } => 0,
@@ -339,7 +360,8 @@ impl ValueReader {
     /// The value of a whole file, and none of other bytes, where the reader isn't wanted again. It takes no memory.
     #[inline(always)]
     pub fn into_value(self) -> Option<Value>
-        ensures { (kind : ReadForm) (taken : List ℕ) → Reads self kind taken → MatchOption result (KindFile kind taken → ⊥) (λ v. KindText kind v taken) }
+        ensures { (kind : ReadForm) (taken : List ℕ) → Reads self kind taken →
+            MatchOption result (KindFile kind taken → ⊥) (λ v. KindText kind v taken) }
     {
         match self.finish() {
             Ok(value) => Some(value),
@@ -350,7 +372,8 @@ impl ValueReader {
     /// The value of a whole file, or else the reader. It takes no memory.
     #[inline(always)]
     pub fn finish(self) -> Result<Value, ReaderCut>
-        ensures { (kind : ReadForm) (taken : List ℕ) → Reads self kind taken → MatchResult result (λ v. KindText kind v taken) (λ cut. (cut.reader ≡ self) × (KindFile kind taken → ⊥)) }
+        ensures { (kind : ReadForm) (taken : List ℕ) → Reads self kind taken →
+            MatchResult result (λ v. KindText kind v taken) (λ cut. (cut.reader ≡ self) × (KindFile kind taken → ⊥)) }
     {
         match finish_state(self.state) {
             Ok(value) => Ok(value),

@@ -12,6 +12,8 @@ use cg_text::{ByteSet, Token};
 use cg_value::{Setting, WriteKind};
 use cg_write::WriteText;
 use std::alloc::Global;
+use std::fmt;
+use thiserror::Error;
 
 /// A reader of the text of one write, which takes the bytes of its line and its newline.
 #[derive(Drop)]
@@ -20,9 +22,16 @@ pub struct SettingReader {
 }
 
 /// A reader whose bytes are no whole write, handed back.
-#[derive(Drop)]
+#[derive(Drop, Error)]
+#[error("no whole write")]
 pub struct SettingCut {
     pub reader: SettingReader,
+}
+
+impl fmt::Debug for SettingCut {
+    fn fmt<W: fmt::Write>(&self, f: &mut fmt::Formatter<W>) -> fmt::Result {
+        f.write_str("SettingCut")
+    }
 }
 
 impl SettingReader {
@@ -41,7 +50,8 @@ impl SettingReader {
     /// Takes a byte where some write of the kind goes on with it, and refuses every other.
     /// After a refusal the reader is unchanged.
     pub fn push(&mut self, byte: u8) -> Result<(), PushFault>
-        ensures pushed { (kind : WriteForm) (taken : List ℕ) → Takes self.old kind taken → IsBytePushed self.new kind taken byte result }
+        ensures pushed { (kind : WriteForm) (taken : List ℕ) → Takes self.old kind taken →
+            IsBytePushed self.new kind taken byte result }
         ensures held { held_of self.new ≤ held_of self.old + 1 }
         ensures same_held { OnErr result (held_of self.new ≡ held_of self.old) }
     {
@@ -52,7 +62,8 @@ impl SettingReader {
     fn scan(&mut self, bytes: &[u8]) -> usize
         ensures within { result ≤ length bytes.now }
         ensures plain { Lacks 10 (take result bytes.now) }
-        ensures takes { (kind : WriteForm) (taken : List ℕ) → Takes self.old kind taken → Takes self.new kind (taken ++ take result bytes.now) }
+        ensures takes { (kind : WriteForm) (taken : List ℕ) → Takes self.old kind taken →
+            Takes self.new kind (taken ++ take result bytes.now) }
         ensures held { held_of self.new ≤ held_of self.old + result }
         ensures same_held { result ≡ 0 → held_of self.new ≡ held_of self.old }
     {
@@ -62,7 +73,8 @@ impl SettingReader {
     /// Takes bytes from the front of `bytes` as `push` would take one after another: until a newline was taken, none is
     /// left, or one is refused or memory is.
     pub fn push_run(&mut self, bytes: &[u8]) -> PushedRun
-        ensures pushed { (kind : WriteForm) (taken : List ℕ) → Takes self.old kind taken → IsRunPushed self.new kind taken bytes.now result }
+        ensures pushed { (kind : WriteForm) (taken : List ℕ) → Takes self.old kind taken →
+            IsRunPushed self.new kind taken bytes.now result }
         ensures within { result.used ≤ length bytes.now }
         ensures goes_on { IfNone result.fault (0 < length bytes.now → 0 < result.used) }
         ensures held { held_of self.new ≤ held_of self.old + result.used }
@@ -95,14 +107,16 @@ impl SettingReader {
 
     /// Whether the bytes so far are a whole write. It takes no memory.
     pub fn can_finish(&self) -> bool
-        ensures { (kind : WriteForm) (taken : List ℕ) → Takes self.now kind taken → (IsTrue result ↔ KindWrite kind taken) }
+        ensures { (kind : WriteForm) (taken : List ℕ) → Takes self.now kind taken →
+            (IsTrue result ↔ KindWrite kind taken) }
     {
         self.text.can_end()
     }
 
     /// The bytes with which some write of the kind goes on. It takes no memory.
     pub fn allowed(&self) -> ByteSet
-        ensures { (kind : WriteForm) (taken : List ℕ) → Takes self.now kind taken → (byte : ℕ) → HasByte result byte ↔ Next (KindWrite kind) taken byte }
+        ensures { (kind : WriteForm) (taken : List ℕ) → Takes self.now kind taken → (byte : ℕ) → HasByte result byte ↔
+            Next (KindWrite kind) taken byte }
     {
         let mut set = ByteSet::new();
         for number in 0..256u16 {
@@ -117,14 +131,16 @@ impl SettingReader {
     /// The sum of the lengths of its vectors, or `u64::MAX` where that is more. It takes no memory.
     pub fn held(&self) -> u64
         ensures exact { result ≡ told (held_of self.now) }
-        ensures most { (kind : WriteForm) (taken : List ℕ) → Takes self.now kind taken → held_of self.now ≤ length taken }
+        ensures most { (kind : WriteForm) (taken : List ℕ) → Takes self.now kind taken →
+            held_of self.now ≤ length taken }
     {
         self.text.held()
     }
 
     /// The setting of a whole write, or else the reader. It takes no memory.
     pub fn finish(self) -> Result<Setting, SettingCut>
-        ensures { (kind : WriteForm) (taken : List ℕ) → Takes self kind taken → MatchResult result (λ s. IsWriteText kind s taken) (λ cut. (cut.reader ≡ self) × (KindWrite kind taken → ⊥)) }
+        ensures { (kind : WriteForm) (taken : List ℕ) → Takes self kind taken →
+            MatchResult result (λ s. IsWriteText kind s taken) (λ cut. (cut.reader ≡ self) × (KindWrite kind taken → ⊥)) }
     {
         if self.text.can_end() {
             Ok(self.text.take())

@@ -16,8 +16,8 @@ use thiserror::Error;
 /// Why an entry has no form in the second profile.
 #[derive(Clone, Copy, Debug, PartialEq, Eq, Error)]
 pub enum UpgradeFault {
-    /// The first raw line, counted from 0, that can't stand there in a file of the second profile, and the place in it of
-    /// the first byte with which no such file goes on: the line's length where that is its newline.
+    /// The first raw line, counted from 0, that can't stand there in a file of the second profile, and the place in it
+    /// of the first byte with which no such file goes on: the line's length where that is its newline.
     #[error("line {line} refused at {at}")]
     Line { line: u64, at: u64 },
     #[error("out of memory")]
@@ -39,7 +39,8 @@ fn fault_at(fault: PushFault, line: u64, at: u64) -> UpgradeFault
 
 /// Takes the line of this number, and its newline.
 fn take_line(reader: &mut ValueReader, number: u64, line: &[u8]) -> Result<(), UpgradeFault>
-    ensures { (before : List ℕ) → Reads reader.old Nested before → Lacks 10 line.now → IsLineTaken reader.new before number line.now result }
+    ensures { (before : List ℕ) → Reads reader.old Nested before → Lacks 10 line.now →
+        IsLineTaken reader.new before number line.now result }
 {
     let run = reader.push_run(line);
     if let Some(fault) = run.fault {
@@ -53,7 +54,8 @@ fn take_line(reader: &mut ValueReader, number: u64, line: &[u8]) -> Result<(), U
 
 /// Takes the lines, each with its newline.
 fn take_lines(reader: &mut ValueReader, lines: &RawLines) -> Result<(), UpgradeFault>
-    ensures { Reads reader.old Nested [] → AllByRecursion (Lacks 10) lines.now → AreLinesTaken reader.new lines.now result }
+    ensures { Reads reader.old Nested [] → AllByRecursion (Lacks 10) lines.now →
+        AreLinesTaken reader.new lines.now result }
 {
     let mut number: u64 = 0;
     for line in lines.lines() {
@@ -82,7 +84,8 @@ fn read_lines(alloc: Global, lines: &RawLines) -> Result<Value, UpgradeFault>
 
 /// The raw lines of `memory.numa_stat` as the first profile reads it; none of another entry.
 fn raw_lines(entry: &Entry) -> Option<&RawLines>
-    ensures { MatchOption result ((lines : List (List ℕ)) → AreRawNuma entry.now lines → ⊥) (λ lines. AreRawNuma entry.now lines.now) }
+    ensures { MatchOption result ((lines : List (List ℕ)) → AreRawNuma entry.now lines → ⊥)
+        (λ lines. AreRawNuma entry.now lines.now) }
 {
     if entry.name() != NUMA_STAT {
         return None;
@@ -109,8 +112,8 @@ fn read_again(alloc: Global, entry: &Entry, lines: &RawLines) -> Result<Entry, U
     }
 }
 
-/// The entry as the second profile reads it. The raw lines of `memory.numa_stat` are read as nested there, or the first byte
-/// is told with which they can't be; every other entry is copied.
+/// The entry as the second profile reads it. The raw lines of `memory.numa_stat` are read as nested there, or the first
+/// byte is told with which they can't be; every other entry is copied.
 pub fn upgrade(alloc: Global, entry: &Entry) -> Result<Entry, UpgradeFault>
     ensures { IsUpgraded entry.now result }
 {

@@ -52,8 +52,8 @@ pub fn print_entry(alloc: Global, entry: &Entry) -> Result<Vec<u8>, OutOfMemory>
     print_marked(alloc, entry, b"\0")
 }
 
-/// The lines of an entry to be read by people: its records with a colon and a space in place of each NUL. `OutOfMemory` where
-/// no memory is left.
+/// The lines of an entry to be read by people: its records with a colon and a space in place of each NUL. `OutOfMemory`
+/// where no memory is left.
 #[tactic(auto, using(crate::specs::JoinedLaws::headed_shown))]
 pub fn print_shown(alloc: Global, entry: &Entry) -> Result<Vec<u8>, OutOfMemory>
     ensures { IfOk result (λ text. text.items ≡ shown entry.now.path (print_lines entry.now.value)) }
@@ -86,7 +86,8 @@ pub fn append_entry(out: &mut Vec<u8>, entry: &Entry) -> Result<(), OutOfMemory>
 
 /// Adds the record of an item. After `OutOfMemory` the bytes are as before.
 pub fn append_item(out: &mut Vec<u8>, item: &PlanItem) -> Result<(), OutOfMemory>
-    ensures added { OnOk result (out.new.items ≡ out.old.items ++ (item.now.path ++ 0 ∷ print_setting_of item.now.setting)) }
+    ensures added { OnOk result (out.new.items ≡ out.old.items ++
+        (item.now.path ++ 0 ∷ print_setting_of item.now.setting)) }
     ensures kept { OnErr result (out.new.items ≡ out.old.items) }
 {
     let text = print_item(*out.allocator(), item)?;

@@ -31,8 +31,10 @@ pub(crate) struct Progress<Part> {
 /// Takes one byte.
 fn advance<R: Records>(records: &mut R, meter: &mut Meter, byte: u8) -> Moved<R::Part>
     ensures moved { (form : Profile) (p : List ℕ) (es : List R.Part) →
-        IsAlong (R.language form) (R.breaks form) (R.many form) (R.closes form) (λ s. R.at s form) records.old meter.old p es →
-        ByteDid (R.language form) (R.breaks form) (R.many form) (R.closes form) (λ s. R.at s form) records.new meter.new p es byte result }
+        IsAlong (R.language form) (R.breaks form) (R.many form) (R.closes form) (λ s. R.at s form) records.old meter.old
+        p es →
+        ByteDid (R.language form) (R.breaks form) (R.many form) (R.closes form) (λ s. R.at s form) records.new meter.new
+        p es byte result }
     ensures profile { R.profile records.new ≡ R.profile records.old }
     ensures limits { meter.new.limits ≡ meter.old.limits }
 {
@@ -60,8 +62,10 @@ fn advance<R: Records>(records: &mut R, meter: &mut Meter, byte: u8) -> Moved<R:
 /// Takes at once the path of one more record with its NUL, and answers how many bytes.
 fn skip_head<R: Records>(records: &mut R, meter: &mut Meter, piece: &[u8]) -> usize
     ensures skipped { (form : Profile) (p : List ℕ) (es : List R.Part) →
-        IsAlong (R.language form) (R.breaks form) (R.many form) (R.closes form) (λ s. R.at s form) records.old meter.old p es →
-        IsAlong (R.language form) (R.breaks form) (R.many form) (R.closes form) (λ s. R.at s form) records.new meter.new (p ++ take result piece.now) es }
+        IsAlong (R.language form) (R.breaks form) (R.many form) (R.closes form) (λ s. R.at s form) records.old meter.old
+        p es →
+        IsAlong (R.language form) (R.breaks form) (R.many form) (R.closes form) (λ s. R.at s form) records.new meter.new
+        (p ++ take result piece.now) es }
     ensures within { result ≤ length piece.now }
     ensures profile { R.profile records.new ≡ R.profile records.old }
     ensures limits { meter.new.limits ≡ meter.old.limits }
@@ -74,8 +78,10 @@ fn skip_head<R: Records>(records: &mut R, meter: &mut Meter, piece: &[u8]) -> us
 /// Takes at once what comes of a line, with its newline where it gets that far.
 fn skip_line<R: Records>(records: &mut R, meter: &mut Meter, piece: &[u8]) -> LineTaken
     ensures skipped { (form : Profile) (p : List ℕ) (es : List R.Part) →
-        IsAlong (R.language form) (R.breaks form) (R.many form) (R.closes form) (λ s. R.at s form) records.old meter.old p es →
-        IsAlong (R.language form) (R.breaks form) (R.many form) (R.closes form) (λ s. R.at s form) records.new meter.new (p ++ take result.used piece.now) es }
+        IsAlong (R.language form) (R.breaks form) (R.many form) (R.closes form) (λ s. R.at s form) records.old meter.old
+        p es →
+        IsAlong (R.language form) (R.breaks form) (R.many form) (R.closes form) (λ s. R.at s form) records.new meter.new
+        (p ++ take result.used piece.now) es }
     ensures within { result.used ≤ length piece.now }
     ensures some { IsTrue result.ended → 0 < result.used }
     ensures profile { R.profile records.new ≡ R.profile records.old }
@@ -93,8 +99,10 @@ fn skip_line<R: Records>(records: &mut R, meter: &mut Meter, piece: &[u8]) -> Li
 /// Takes at once one more record whole, and answers how many bytes.
 fn skip_whole<R: Records>(records: &mut R, meter: &mut Meter, piece: &[u8]) -> usize
     ensures skipped { (form : Profile) (p : List ℕ) (es : List R.Part) →
-        IsAlong (R.language form) (R.breaks form) (R.many form) (R.closes form) (λ s. R.at s form) records.old meter.old p es →
-        IsAlong (R.language form) (R.breaks form) (R.many form) (R.closes form) (λ s. R.at s form) records.new meter.new (p ++ take result piece.now) es }
+        IsAlong (R.language form) (R.breaks form) (R.many form) (R.closes form) (λ s. R.at s form) records.old meter.old
+        p es →
+        IsAlong (R.language form) (R.breaks form) (R.many form) (R.closes form) (λ s. R.at s form) records.new meter.new
+        (p ++ take result piece.now) es }
     ensures within { result ≤ length piece.now }
     ensures profile { R.profile records.new ≡ R.profile records.old }
     ensures limits { meter.new.limits ≡ meter.old.limits }
@@ -106,12 +114,14 @@ fn skip_whole<R: Records>(records: &mut R, meter: &mut Meter, piece: &[u8]) -> u
     whole
 }
 
-/// Takes at once one more record whole; or its path with its NUL, and what comes of its line with the newline, as far as it
-/// can. Answers how many bytes, and whether a line was ended.
+/// Takes at once one more record whole; or its path with its NUL, and what comes of its line with the newline, as far
+/// as it can. Answers how many bytes, and whether a line was ended.
 fn skip_record<R: Records>(records: &mut R, meter: &mut Meter, piece: &[u8]) -> (usize, bool)
     ensures skipped { (form : Profile) (p : List ℕ) (es : List R.Part) →
-        IsAlong (R.language form) (R.breaks form) (R.many form) (R.closes form) (λ s. R.at s form) records.old meter.old p es →
-        IsAlong (R.language form) (R.breaks form) (R.many form) (R.closes form) (λ s. R.at s form) records.new meter.new (p ++ take result.0 piece.now) es }
+        IsAlong (R.language form) (R.breaks form) (R.many form) (R.closes form) (λ s. R.at s form) records.old meter.old
+        p es →
+        IsAlong (R.language form) (R.breaks form) (R.many form) (R.closes form) (λ s. R.at s form) records.new meter.new
+        (p ++ take result.0 piece.now) es }
     ensures within { result.0 ≤ length piece.now }
     ensures some { IsTrue result.1 → 0 < result.0 }
     ensures profile { R.profile records.new ≡ R.profile records.old }
@@ -127,11 +137,14 @@ fn skip_record<R: Records>(records: &mut R, meter: &mut Meter, piece: &[u8]) -> 
     (head + line.used, line.ended)
 }
 
-/// Takes at once records of the entry at hand, as many as it can, and perhaps the path of another. Answers how many bytes.
+/// Takes at once records of the entry at hand, as many as it can, and perhaps the path of another. Answers how many
+/// bytes.
 fn skip_records<R: Records>(records: &mut R, meter: &mut Meter, piece: &[u8]) -> usize
     ensures skipped { (form : Profile) (p : List ℕ) (es : List R.Part) →
-        IsAlong (R.language form) (R.breaks form) (R.many form) (R.closes form) (λ s. R.at s form) records.old meter.old p es →
-        IsAlong (R.language form) (R.breaks form) (R.many form) (R.closes form) (λ s. R.at s form) records.new meter.new (p ++ take result piece.now) es }
+        IsAlong (R.language form) (R.breaks form) (R.many form) (R.closes form) (λ s. R.at s form) records.old meter.old
+        p es →
+        IsAlong (R.language form) (R.breaks form) (R.many form) (R.closes form) (λ s. R.at s form) records.new meter.new
+        (p ++ take result piece.now) es }
     ensures within { result ≤ length piece.now }
     ensures profile { R.profile records.new ≡ R.profile records.old }
     ensures limits { meter.new.limits ≡ meter.old.limits }
@@ -150,8 +163,10 @@ fn skip_records<R: Records>(records: &mut R, meter: &mut Meter, piece: &[u8]) ->
 /// Takes at once what comes of a path or of a line, and answers how many bytes.
 fn skip_run<R: Records>(records: &mut R, meter: &mut Meter, piece: &[u8]) -> usize
     ensures skipped { (form : Profile) (p : List ℕ) (es : List R.Part) →
-        IsAlong (R.language form) (R.breaks form) (R.many form) (R.closes form) (λ s. R.at s form) records.old meter.old p es →
-        IsAlong (R.language form) (R.breaks form) (R.many form) (R.closes form) (λ s. R.at s form) records.new meter.new (p ++ take result piece.now) es }
+        IsAlong (R.language form) (R.breaks form) (R.many form) (R.closes form) (λ s. R.at s form) records.old meter.old
+        p es →
+        IsAlong (R.language form) (R.breaks form) (R.many form) (R.closes form) (λ s. R.at s form) records.new meter.new
+        (p ++ take result piece.now) es }
     ensures within { result ≤ length piece.now }
     ensures profile { R.profile records.new ≡ R.profile records.old }
     ensures limits { meter.new.limits ≡ meter.old.limits }
@@ -164,8 +179,10 @@ fn skip_run<R: Records>(records: &mut R, meter: &mut Meter, piece: &[u8]) -> usi
 /// Takes at once records of the entry at hand, and what then comes of a path or of a line, and answers how many bytes.
 fn skip<R: Records>(records: &mut R, meter: &mut Meter, piece: &[u8]) -> usize
     ensures skipped { (form : Profile) (p : List ℕ) (es : List R.Part) →
-        IsAlong (R.language form) (R.breaks form) (R.many form) (R.closes form) (λ s. R.at s form) records.old meter.old p es →
-        IsAlong (R.language form) (R.breaks form) (R.many form) (R.closes form) (λ s. R.at s form) records.new meter.new (p ++ take result piece.now) es }
+        IsAlong (R.language form) (R.breaks form) (R.many form) (R.closes form) (λ s. R.at s form) records.old meter.old
+        p es →
+        IsAlong (R.language form) (R.breaks form) (R.many form) (R.closes form) (λ s. R.at s form) records.new meter.new
+        (p ++ take result piece.now) es }
     ensures within { result ≤ length piece.now }
     ensures profile { R.profile records.new ≡ R.profile records.old }
     ensures limits { meter.new.limits ≡ meter.old.limits }
@@ -175,15 +192,18 @@ fn skip<R: Records>(records: &mut R, meter: &mut Meter, piece: &[u8]) -> usize
     whole + skip_run(records, meter, rest)
 }
 
-/// Takes bytes until a part is there, a byte stops the stream or no memory is left; where none of these comes, the whole piece.
+/// Takes bytes until a part is there, a byte stops the stream or no memory is left; where none of these comes, the
+/// whole piece.
 pub(crate) fn pull<R: Records>(
     records: &mut R,
     meter: &mut Meter,
     piece: &[u8],
 ) -> Progress<R::Part>
     ensures pulled { (form : Profile) (p : List ℕ) (es : List R.Part) →
-        IsAlong (R.language form) (R.breaks form) (R.many form) (R.closes form) (λ s. R.at s form) records.old meter.old p es →
-        PieceDid (R.language form) (R.breaks form) (R.many form) (R.closes form) (λ s. R.at s form) records.new meter.new p es piece.now result.used result.moved }
+        IsAlong (R.language form) (R.breaks form) (R.many form) (R.closes form) (λ s. R.at s form) records.old meter.old
+        p es →
+        PieceDid (R.language form) (R.breaks form) (R.many form) (R.closes form) (λ s. R.at s form) records.new
+        meter.new p es piece.now result.used result.moved }
     ensures used { result.used ≤ length piece.now }
     ensures progress { IsMovedBy (length piece.now) result.used result.moved }
     ensures profile { R.profile records.new ≡ R.profile records.old }
@@ -225,7 +245,8 @@ pub(crate) fn pull<R: Records>(
 
 /// The bytes with which some text goes on.
 pub(crate) fn allowed<R: Records>(records: &R) -> ByteSet
-    ensures { (form : Profile) (p : List ℕ) (es : List R.Part) → R.at records.now form p es → (byte : ℕ) → HasByte result byte ↔ Next (R.language form) p byte }
+    ensures { (form : Profile) (p : List ℕ) (es : List R.Part) → R.at records.now form p es → (byte : ℕ) →
+        HasByte result byte ↔ Next (R.language form) p byte }
 {
     if let Some(set) = records.line_allowed() {
         return set;

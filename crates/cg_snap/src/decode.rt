@@ -15,12 +15,15 @@ use crate::snapshot_records::SnapshotRecords;
 use crate::stop::Stop;
 use cg_value::{Entry, PlanItem, Profile};
 use std::alloc::Global;
+use thiserror::Error;
 
 /// Why bytes give no list of entries, or of items.
-#[derive(Clone, Copy, Debug, PartialEq, Eq)]
+#[derive(Clone, Copy, Debug, PartialEq, Eq, Error)]
 pub enum StreamFault {
     /// A byte stops the stream, or the bytes end before a snapshot, or a plan, does.
+    #[error("{0}")]
     Stopped(Stop),
+    #[error("out of memory")]
     OutOfMemory,
 }
 
@@ -31,8 +34,10 @@ fn take_all<R: Records>(
     parts: &mut Vec<R::Part>,
     bytes: &[u8],
 ) -> Option<StreamFault>
-    ensures taken { (form : Profile) → IsAlong (R.language form) (R.breaks form) (R.many form) (R.closes form) (λ s. R.at s form) records.old meter.old [] parts.old.items →
-        MatchOption result (IsAlong (R.language form) (R.breaks form) (R.many form) (R.closes form) (λ s. R.at s form) records.new meter.new bytes.now parts.new.items)
+    ensures taken { (form : Profile) → IsAlong (R.language form) (R.breaks form) (R.many form) (R.closes form)
+        (λ s. R.at s form) records.old meter.old [] parts.old.items →
+        MatchOption result (IsAlong (R.language form) (R.breaks form) (R.many form) (R.closes form) (λ s. R.at s form)
+        records.new meter.new bytes.now parts.new.items)
         (λ fault. IsStreamFault (R.language form) (R.breaks form) (R.many form) meter.old.limits bytes.now fault) }
     ensures limits { meter.new.limits ≡ meter.old.limits }
 {
@@ -61,7 +66,8 @@ fn finish_all(
     entries: &mut Vec<Entry>,
 ) -> Option<StreamFault>
     ensures { (profile : Profile) (bytes : List ℕ) → AreAlong profile records meter.now bytes entries.old.items →
-        MatchOption result (IsDecoded profile meter.now.limits bytes entries.new.items) (λ fault. IsSnapFault profile meter.now.limits bytes fault) }
+        MatchOption result (IsDecoded profile meter.now.limits bytes entries.new.items)
+        (λ fault. IsSnapFault profile meter.now.limits bytes fault) }
 {
     match finish_at(records, meter.offset) {
         Ok(None) => None,
@@ -80,7 +86,8 @@ pub fn decode_snapshot(
     limits: Limits,
     bytes: &[u8],
 ) -> Result<Vec<Entry>, StreamFault>
-    ensures { MatchResult result (λ entries. IsDecoded profile limits bytes.now entries.items) (λ fault. IsSnapFault profile limits bytes.now fault) }
+    ensures { MatchResult result (λ entries. IsDecoded profile limits bytes.now entries.items)
+        (λ fault. IsSnapFault profile limits bytes.now fault) }
 {
     let mut records = SnapshotRecords::new(alloc, profile);
     let mut meter = Meter::new(limits);
@@ -101,7 +108,8 @@ pub fn decode_plan(
     limits: Limits,
     bytes: &[u8],
 ) -> Result<Vec<PlanItem>, StreamFault>
-    ensures { MatchResult result (λ items. IsPlanDecoded profile limits bytes.now items.items) (λ fault. IsPlanFault profile limits bytes.now fault) }
+    ensures { MatchResult result (λ items. IsPlanDecoded profile limits bytes.now items.items)
+        (λ fault. IsPlanFault profile limits bytes.now fault) }
 {
     let mut records = PlanRecords::new(alloc, profile);
     let mut meter = Meter::new(limits);

@@ -39,8 +39,8 @@ pub struct Pulled {
     pub what: What,
 }
 
-/// A decoder of a snapshot: records of a path, a NUL, a line and a newline, which become an entry for each path. It takes
-/// the snapshot in pieces, however it's cut.
+/// A decoder of a snapshot: records of a path, a NUL, a line and a newline, which become an entry for each path. It
+/// takes the snapshot in pieces, however it's cut.
 #[derive(Drop)]
 pub struct SnapshotDecoder {
     records: SnapshotRecords,
@@ -66,10 +66,11 @@ impl SnapshotDecoder {
     }
 
     /// Consumes bytes until one event: an entry, a stop, or no memory. Where none comes, it consumes the whole piece.
-    /// After a stop it consumes nothing and answers the same stop. After `OutOfMemory` the call may be made again with the
-    /// rest of the piece.
+    /// After a stop it consumes nothing and answers the same stop. After `OutOfMemory` the call may be made again with
+    /// the rest of the piece.
     pub fn next(&mut self, piece: &[u8]) -> Pulled
-        ensures pulled { (p : List ℕ) (es : List EntryData) → stop_of self.old ≡ None → Stands self.old p es → WhatIs self.new p es piece.now result.used result.what }
+        ensures pulled { (p : List ℕ) (es : List EntryData) → stop_of self.old ≡ None → Stands self.old p es →
+            WhatIs self.new p es piece.now result.used result.what }
         ensures used { result.used ≤ length piece.now }
         ensures progress { IsProgress (length piece.now) result.used result.what }
         ensures stuck { (s : Stop) → stop_of self.old ≡ Some s → IsStuck self.old self.new result s }
@@ -116,7 +117,8 @@ impl SnapshotDecoder {
 
     /// The bytes with which some snapshot goes on. Limits don't matter, nor a stop that came. It takes no memory.
     pub fn allowed(&self) -> ByteSet
-        ensures { (p : List ℕ) (es : List EntryData) → Stands self.now p es → (byte : ℕ) → HasByte result byte ↔ Next (Snap (profile_of self.now)) p byte }
+        ensures { (p : List ℕ) (es : List EntryData) → Stands self.now p es → (byte : ℕ) → HasByte result byte ↔
+            Next (Snap (profile_of self.now)) p byte }
     {
         allowed(&self.records)
     }
@@ -124,7 +126,8 @@ impl SnapshotDecoder {
     /// The sum of the lengths of its vectors, or `u64::MAX` where that is more. It takes no memory.
     pub fn held(&self) -> u64
         ensures exact { result ≡ told (held_by self.now) }
-        ensures held { (p : List ℕ) (es : List EntryData) → Stands self.now p es → IsHeldFor (profile_of self.now) p es (held_by self.now) }
+        ensures held { (p : List ℕ) (es : List EntryData) → Stands self.now p es →
+            IsHeldFor (profile_of self.now) p es (held_by self.now) }
     {
         let begun = self.records.begun.len() as u64;
         match &self.records.present {
@@ -135,10 +138,11 @@ impl SnapshotDecoder {
         }
     }
 
-    /// The last entry, none of an empty snapshot; or where a record is begun, `Cut` with the stream's length; or the stop
-    /// that came. It takes no memory.
+    /// The last entry, none of an empty snapshot; or where a record is begun, `Cut` with the stream's length; or the
+    /// stop that came. It takes no memory.
     pub fn finish(self) -> Result<Option<Entry>, Stop>
-        ensures finished { (p : List ℕ) (es : List EntryData) → stop_of self ≡ None → Stands self p es → FinishIs (profile_of self) p es result }
+        ensures finished { (p : List ℕ) (es : List EntryData) → stop_of self ≡ None → Stands self p es →
+            FinishIs (profile_of self) p es result }
         ensures stuck { (s : Stop) → stop_of self ≡ Some s → result ≡ Err s }
     {
         let SnapshotDecoder {
@@ -155,7 +159,8 @@ impl SnapshotDecoder {
 
 /// What the end of the stream makes of the records.
 pub(crate) fn finish_at(records: SnapshotRecords, at: u64) -> Result<Option<Entry>, Stop>
-    ensures { (profile : Profile) (p : List ℕ) (es : List EntryData) → HasTakenRecords records profile p es → at ≡ length p → FinishIs profile p es result }
+    ensures { (profile : Profile) (p : List ℕ) (es : List EntryData) → HasTakenRecords records profile p es → at ≡
+        length p → FinishIs profile p es result }
 {
     let SnapshotRecords {
         alloc: _,

@@ -43,10 +43,12 @@ fn records_of(alloc: Global, entries: &[Entry]) -> Result<Vec<u8>, OutOfMemory>
     Ok(text)
 }
 
-/// The snapshot of the entries: for each, in order, the records of its canonical lines, as `grep -rZ` prints a hierarchy.
+/// The snapshot of the entries: for each, in order, the records of its canonical lines, as `grep -rZ` prints a
+/// hierarchy.
 ///
-/// `SamePath` where an entry has the path of the one before it, since their records would be read as one entry's. It takes no
-/// profile: entries of several are encoded record by record, and what a decoder makes of them depends on its own.
+/// `SamePath` where an entry has the path of the one before it, since their records would be read as one entry's. It
+/// takes no profile: entries of several are encoded record by record, and what a decoder makes of them depends on its
+/// own.
 pub fn encode_snapshot(alloc: Global, entries: &[Entry]) -> Result<Vec<u8>, EncodeFault>
     ensures { MatchResult result (λ text. IsEncoded entries.now text.items) (λ fault. IsEncodeFault entries.now fault) }
 {
@@ -59,8 +61,8 @@ pub fn encode_snapshot(alloc: Global, entries: &[Entry]) -> Result<Vec<u8>, Enco
     }
 }
 
-/// The plan of the items: for each, in order, its path, a NUL and the canonical line of its setting with a newline. Adjacent
-/// items may have the same path. `OutOfMemory` where no memory is left.
+/// The plan of the items: for each, in order, its path, a NUL and the canonical line of its setting with a newline.
+/// Adjacent items may have the same path. `OutOfMemory` where no memory is left.
 pub fn encode_plan(alloc: Global, items: &[PlanItem]) -> Result<Vec<u8>, OutOfMemory>
     ensures { IfOk result (λ text. text.items ≡ print_items items.now) }
 {

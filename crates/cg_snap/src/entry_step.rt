@@ -29,8 +29,8 @@ fn is_in_line(present: &Option<Present>) -> bool
     }
 }
 
-/// Whether so many records have ended of the entry whose path is begun: none where it's another entry than the present one. The
-/// paths are compared only where so many have ended of the present entry.
+/// Whether so many records have ended of the entry whose path is begun: none where it's another entry than the present
+/// one. The paths are compared only where so many have ended of the present entry.
 fn has_lines(begun: &Vec<u8>, present: &Option<Present>, count: u64) -> bool
     ensures { (n : ℕ) → IsLineCount begun.now.items present.now n → IsTrue result ↔ count ≤ n }
 {
@@ -46,7 +46,8 @@ fn has_lines(begun: &Vec<u8>, present: &Option<Present>, count: u64) -> bool
 
 /// Whether a NUL would begin a record too many of its entry.
 pub(crate) fn is_full(begun: &Vec<u8>, present: &Option<Present>, max_lines: u64) -> bool
-    ensures { (profile : Profile) (p : List ℕ) (es : List EntryData) → At profile begun.now.items present.now p es → FullIs (Snap profile) (IsManyRecords profile) max_lines p 0 result }
+    ensures { (profile : Profile) (p : List ℕ) (es : List EntryData) → At profile begun.now.items present.now p es →
+        FullIs (Snap profile) (IsManyRecords profile) max_lines p 0 result }
 {
     !is_in_line(present) && has_lines(begun, present, max_lines)
 }
@@ -87,7 +88,8 @@ pub(crate) fn ended(present: Present) -> Option<Entry>
 
 /// A byte of a line, or the newline after it.
 fn line_byte(begun: &Vec<u8>, present: &mut Present, byte: u8) -> Stepped<Entry>
-    ensures { (profile : Profile) (p : List ℕ) (es : List EntryData) → At profile begun.now.items (Some present.old) p es → present.old.in_line ≡ true →
+    ensures { (profile : Profile) (p : List ℕ) (es : List EntryData) →
+        At profile begun.now.items (Some present.old) p es → present.old.in_line ≡ true →
         Did profile begun.now.items (Some present.new) p es byte result }
 {
     match present.reader.push(byte) {
@@ -130,7 +132,8 @@ fn end_path(
     requires path { ArePathBytes begun.old.items }
     requires readable { IsReadable begun.old.items kind }
     ensures path { ArePathBytes begun.new.items }
-    ensures did { (profile : Profile) (p : List ℕ) (es : List EntryData) → At profile begun.old.items present.old p es → IsBetween present.old → IsOfKind profile begun.old.items kind →
+    ensures did { (profile : Profile) (p : List ℕ) (es : List EntryData) → At profile begun.old.items present.old p es →
+        IsBetween present.old → IsOfKind profile begun.old.items kind →
         Did profile begun.new.items present.new p es 0 result }
 {
     match present {
@@ -166,7 +169,8 @@ fn path_byte(
 ) -> Stepped<Entry>
     requires { ArePathBytes begun.old.items }
     ensures path { ArePathBytes begun.new.items }
-    ensures did { (p : List ℕ) (es : List EntryData) → At profile begun.old.items present.old p es → IsBetween present.old → Did profile begun.new.items present.new p es byte result }
+    ensures did { (p : List ℕ) (es : List EntryData) → At profile begun.old.items present.old p es →
+        IsBetween present.old → Did profile begun.new.items present.new p es byte result }
 {
     if byte == 0 {
         return match classify(profile, begun.as_slice()) {
@@ -194,7 +198,8 @@ pub(crate) fn step(
 ) -> Stepped<Entry>
     requires { ArePathBytes begun.old.items }
     ensures path { ArePathBytes begun.new.items }
-    ensures did { (p : List ℕ) (es : List EntryData) → At profile begun.old.items present.old p es → Did profile begun.new.items present.new p es byte result }
+    ensures did { (p : List ℕ) (es : List EntryData) → At profile begun.old.items present.old p es →
+        Did profile begun.new.items present.new p es byte result }
 {
     if let Some(x) = present {
         if x.in_line {

@@ -10,7 +10,8 @@ ghost use Rattle.cg_snap.specs.SnapStop.{IsManyRecords};
 
 use crate::present::Present;
 
-/// Whether the piece begins with the entry's path and a NUL, for which there is room, and one more record isn't one too many.
+/// Whether the piece begins with the entry's path and a NUL, for which there is room, and one more record isn't one too
+/// many.
 pub(crate) fn has_head(present: &Present, piece: &[u8], room: u64, max_lines: u64) -> bool
     ensures { IsTrue result → HasHead present.now piece.now room max_lines }
 {
@@ -32,8 +33,8 @@ fn repeats(present: &Present, piece: &[u8], room: u64, max_lines: u64) -> bool
     has_head(present, piece, room, max_lines) && present.reader.takes_line()
 }
 
-/// Takes the present entry's path with the NUL after it, where the piece begins with them, no path is begun, there is room for
-/// them and one more record may come. Answers how many bytes it took.
+/// Takes the present entry's path with the NUL after it, where the piece begins with them, no path is begun, there is
+/// room for them and one more record may come. Answers how many bytes it took.
 pub(crate) fn take_head(
     begun: &Vec<u8>,
     present: &mut Option<Present>,
@@ -41,9 +42,13 @@ pub(crate) fn take_head(
     room: u64,
     max_lines: u64,
 ) -> usize
-    ensures taken { (profile : Profile) (p : List ℕ) (es : List EntryData) → At profile begun.now.items present.old p es → At profile begun.now.items present.new (p ++ take result piece.now) es }
-    ensures few { (profile : Profile) (p : List ℕ) (es : List EntryData) → At profile begun.now.items present.old p es → AreFew (IsManyRecords profile max_lines) p (take result piece.now) }
-    ensures plain { (profile : Profile) (p : List ℕ) (es : List EntryData) → At profile begun.now.items present.old p es → Lacks 10 (take result piece.now) }
+    ensures taken { (profile : Profile) (p : List ℕ) (es : List EntryData) →
+        At profile begun.now.items present.old p es → At profile begun.now.items present.new
+        (p ++ take result piece.now) es }
+    ensures few { (profile : Profile) (p : List ℕ) (es : List EntryData) → At profile begun.now.items present.old p es →
+        AreFew (IsManyRecords profile max_lines) p (take result piece.now) }
+    ensures plain { (profile : Profile) (p : List ℕ) (es : List EntryData) →
+        At profile begun.now.items present.old p es → Lacks 10 (take result piece.now) }
     ensures within { result ≤ length piece.now }
     ensures room { result ≤ room }
 {

@@ -1,5 +1,5 @@
-//! Snapshots of a hierarchy and plans of writes to it: what they are, how they are read and written, and what can stop a stream
-//! of bytes.
+//! Snapshots of a hierarchy and plans of writes to it: what they are, how they are read and written, and what can stop
+//! a stream of bytes.
 #![tactic(auto)]
 
 mod class;

@@ -72,7 +72,8 @@ impl Meter {
     /// Counts what comes of a line with its newline.
     pub(crate) fn count_line(&mut self, run: usize)
         requires stream { run ≤ self.old.limits.max_stream - self.old.offset }
-        ensures counted { (p line : List ℕ) → IsCounted self.old p → run ≡ length line + 1 → IsCounted self.new (p ++ (line ++ 10 ∷ [])) }
+        ensures counted { (p line : List ℕ) → IsCounted self.old p → run ≡ length line + 1 →
+            IsCounted self.new (p ++ (line ++ 10 ∷ [])) }
         ensures limits { self.new.limits ≡ self.old.limits }
     {
         self.offset += run as u64;
@@ -83,7 +84,8 @@ impl Meter {
     pub(crate) fn count_run(&mut self, run: usize)
         requires stream { run ≤ self.old.limits.max_stream - self.old.offset }
         requires record { run ≤ self.old.limits.max_record - self.old.record_len }
-        ensures counted { (p bytes : List ℕ) → IsCounted self.old p → Lacks 10 bytes → run ≡ length bytes → IsCounted self.new (p ++ bytes) }
+        ensures counted { (p bytes : List ℕ) → IsCounted self.old p → Lacks 10 bytes → run ≡ length bytes →
+            IsCounted self.new (p ++ bytes) }
         ensures limits { self.new.limits ≡ self.old.limits }
     {
         self.offset += run as u64;

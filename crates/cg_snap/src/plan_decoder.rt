@@ -66,10 +66,11 @@ impl PlanDecoder {
     }
 
     /// Consumes bytes until one event: an item, a stop, or no memory. Where none comes, it consumes the whole piece.
-    /// After a stop it consumes nothing and answers the same stop. After `OutOfMemory` the call may be made again with the
-    /// rest of the piece.
+    /// After a stop it consumes nothing and answers the same stop. After `OutOfMemory` the call may be made again with
+    /// the rest of the piece.
     pub fn next(&mut self, piece: &[u8]) -> PlanPulled
-        ensures pulled { (p : List ℕ) (items : List ItemData) → plan_stop_of self.old ≡ None → StandsForPlan self.old p items → PlanWhatIs self.new p items piece.now result.used result.what }
+        ensures pulled { (p : List ℕ) (items : List ItemData) → plan_stop_of self.old ≡ None →
+            StandsForPlan self.old p items → PlanWhatIs self.new p items piece.now result.used result.what }
         ensures used { result.used ≤ length piece.now }
         ensures progress { IsPlanProgress (length piece.now) result.used result.what }
         ensures stuck { (s : Stop) → plan_stop_of self.old ≡ Some s → IsPlanStuck self.old self.new result s }
@@ -123,16 +124,18 @@ impl PlanDecoder {
 
     /// The bytes with which some plan goes on. Limits don't matter, nor a stop that came. It takes no memory.
     pub fn allowed(&self) -> ByteSet
-        ensures { (p : List ℕ) (items : List ItemData) → StandsForPlan self.now p items → (byte : ℕ) → HasByte result byte ↔ Next (Plan (plan_profile_of self.now)) p byte }
+        ensures { (p : List ℕ) (items : List ItemData) → StandsForPlan self.now p items → (byte : ℕ) →
+            HasByte result byte ↔ Next (Plan (plan_profile_of self.now)) p byte }
     {
         allowed(&self.records)
     }
 
-    /// The sum of the lengths of its vectors, or `u64::MAX` where that is more: never more than the record that is begun.
-    /// It takes no memory.
+    /// The sum of the lengths of its vectors, or `u64::MAX` where that is more: never more than the record that is
+    /// begun. It takes no memory.
     pub fn held(&self) -> u64
         ensures exact { result ≡ told (plan_held_by self.now) }
-        ensures held { (p : List ℕ) (items : List ItemData) → StandsForPlan self.now p items → (begun : List ℕ) × IsBegun p begun × (plan_held_by self.now ≤ length begun) }
+        ensures held { (p : List ℕ) (items : List ItemData) → StandsForPlan self.now p items → (begun : List ℕ) ×
+            IsBegun p begun × (plan_held_by self.now ≤ length begun) }
     {
         let begun = self.records.begun.len() as u64;
         match &self.records.present {
@@ -143,10 +146,11 @@ impl PlanDecoder {
         }
     }
 
-    /// Whether the stream is a whole plan, whose items were all given; or where a record is begun, `Cut` with the stream's
-    /// length; or the stop that came. It takes no memory.
+    /// Whether the stream is a whole plan, whose items were all given; or where a record is begun, `Cut` with the
+    /// stream's length; or the stop that came. It takes no memory.
     pub fn finish(self) -> Result<(), Stop>
-        ensures finished { (p : List ℕ) (items : List ItemData) → plan_stop_of self ≡ None → StandsForPlan self p items → PlanFinishIs (plan_profile_of self) p items result }
+        ensures finished { (p : List ℕ) (items : List ItemData) → plan_stop_of self ≡ None →
+            StandsForPlan self p items → PlanFinishIs (plan_profile_of self) p items result }
         ensures stuck { (s : Stop) → plan_stop_of self ≡ Some s → result ≡ Err s }
     {
         match self.stop {
@@ -158,7 +162,8 @@ impl PlanDecoder {
 
 /// What the end of the stream makes of the records.
 pub(crate) fn finish_plan(records: &PlanRecords, at: u64) -> Result<(), Stop>
-    ensures { (profile : Profile) (p : List ℕ) (items : List ItemData) → HasTakenItems records.now profile p items → at ≡ length p → PlanFinishIs profile p items result }
+    ensures { (profile : Profile) (p : List ℕ) (items : List ItemData) → HasTakenItems records.now profile p items →
+        at ≡ length p → PlanFinishIs profile p items result }
 {
     match &records.present {
         Some(_) => Err(Stop::Cut { at }),

@@ -47,8 +47,9 @@ fn item_of(alloc: Global, profile: Profile, path: &[u8], line: &[u8]) -> Option<
     Some(PlanItem::known(path, setting))
 }
 
-/// The item of a whole record with which the piece begins, and how many bytes the record has. It finds none where a record is
-/// begun, where there is no room for the record, where no whole record of a plan comes, or where memory is refused.
+/// The item of a whole record with which the piece begins, and how many bytes the record has. It finds none where a
+/// record is begun, where there is no room for the record, where no whole record of a plan comes, or where memory is
+/// refused.
 pub(crate) fn item_in_front(
     records: &PlanRecords,
     piece: &[u8],

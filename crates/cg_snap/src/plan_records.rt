@@ -54,7 +54,9 @@ impl PlanRecords {
 
 /// Why the byte can't come within a line.
 fn line_refusal(begun: &Vec<u8>, writing: &Writing, byte: u8) -> Option<Why>
-    ensures { (profile : Profile) (p : List ℕ) (items : List ItemData) → AtItemLine profile begun.now.items writing.now p items → RefusedBy (Plan profile) (IsItemWhy profile) p byte result }
+    ensures { (profile : Profile) (p : List ℕ) (items : List ItemData) →
+        AtItemLine profile begun.now.items writing.now p items →
+        RefusedBy (Plan profile) (IsItemWhy profile) p byte result }
 {
     if writing.reader.allowed().contains(byte) {
         None
@@ -65,7 +67,8 @@ fn line_refusal(begun: &Vec<u8>, writing: &Writing, byte: u8) -> Option<Why>
 
 /// Why the byte can't come within a path, or after it.
 fn path_refusal(profile: Profile, begun: &Vec<u8>, byte: u8) -> Option<Why>
-    ensures { (p : List ℕ) (items : List ItemData) → AtItemPath profile begun.now.items p items → RefusedBy (Plan profile) (IsItemWhy profile) p byte result }
+    ensures { (p : List ℕ) (items : List ItemData) → AtItemPath profile begun.now.items p items →
+        RefusedBy (Plan profile) (IsItemWhy profile) p byte result }
 {
     if byte == 0 {
         return match classify_write(profile, begun.as_slice()) {
@@ -82,7 +85,8 @@ fn path_refusal(profile: Profile, begun: &Vec<u8>, byte: u8) -> Option<Why>
 
 /// The item of a whole line. There always is one.
 fn written(profile: Profile, writing: Writing) -> Option<PlanItem>
-    ensures { (kind : WriteForm) (line : List ℕ) → IsPath writing.path.items → WritesAt profile writing.path.items (Some kind) → Lacks 10 line → Takes writing.reader kind (line ++ 10 ∷ []) →
+    ensures { (kind : WriteForm) (line : List ℕ) → IsPath writing.path.items →
+        WritesAt profile writing.path.items (Some kind) → Lacks 10 line → Takes writing.reader kind (line ++ 10 ∷ []) →
         MatchOption result ⊥ (λ item. (item.path ≡ writing.path.items) × IsItemLine profile item line) }
 {
     let Writing { path, reader } = writing;
@@ -103,7 +107,9 @@ fn line_byte(
     mut writing: Writing,
     byte: u8,
 ) -> Stepped<PlanItem>
-    ensures { (p : List ℕ) (items : List ItemData) → present.old ≡ None → AtItemLine profile begun.now.items writing p items → DidItem profile begun.now.items present.new p items byte result }
+    ensures { (p : List ℕ) (items : List ItemData) → present.old ≡ None →
+        AtItemLine profile begun.now.items writing p items →
+        DidItem profile begun.now.items present.new p items byte result }
 {
     match writing.reader.push(byte) {
         Ok(()) => {
@@ -135,7 +141,8 @@ fn path_byte(
     present: &mut Option<Writing>,
     byte: u8,
 ) -> Stepped<PlanItem>
-    ensures { (p : List ℕ) (items : List ItemData) → present.old ≡ None → AtItemPath profile begun.old.items p items → DidItem profile begun.new.items present.new p items byte result }
+    ensures { (p : List ℕ) (items : List ItemData) → present.old ≡ None → AtItemPath profile begun.old.items p items →
+        DidItem profile begun.new.items present.new p items byte result }
 {
     if byte == 0 {
         return match classify_write(profile, begun.as_slice()) {
@@ -162,7 +169,9 @@ fn path_byte(
 
 /// Takes what comes of a line, and answers how many bytes.
 fn take_line(begun: &Vec<u8>, writing: &mut Writing, piece: &[u8], room: u64) -> usize
-    ensures taken { (profile : Profile) (p : List ℕ) (items : List ItemData) → AtItemLine profile begun.now.items writing.old p items → AtItemLine profile begun.now.items writing.new (p ++ take result piece.now) items }
+    ensures taken { (profile : Profile) (p : List ℕ) (items : List ItemData) →
+        AtItemLine profile begun.now.items writing.old p items →
+        AtItemLine profile begun.now.items writing.new (p ++ take result piece.now) items }
     ensures within { result ≤ length piece.now }
     ensures room { result ≤ room }
     ensures plain { Lacks 10 (take result piece.now) }

@@ -12,13 +12,17 @@ use crate::head::has_head;
 use crate::present::Present;
 use crate::run::at_most;
 
-/// Takes the record with which the piece begins, whose head is known, if its line is there whole and the reader takes it so.
+/// Takes the record with which the piece begins, whose head is known, if its line is there whole and the reader takes
+/// it so.
 fn take_known(present: &mut Present, piece: &[u8], room: u64, max_lines: u64) -> usize
     requires head { HasHead present.old piece.now room max_lines }
     requires between { present.old.in_line ≡ false }
-    ensures taken { (profile : Profile) (p : List ℕ) (es : List EntryData) → AtPath profile [] present.old p es → AtPath profile [] present.new (p ++ take result piece.now) es }
-    ensures few { (profile : Profile) (p : List ℕ) (es : List EntryData) → AtPath profile [] present.old p es → AreFew (IsManyRecords profile max_lines) p (take result piece.now) }
-    ensures line { (profile : Profile) (p : List ℕ) (es : List EntryData) → AtPath profile [] present.old p es → 0 < result → IsLineFront piece.now result }
+    ensures taken { (profile : Profile) (p : List ℕ) (es : List EntryData) → AtPath profile [] present.old p es →
+        AtPath profile [] present.new (p ++ take result piece.now) es }
+    ensures few { (profile : Profile) (p : List ℕ) (es : List EntryData) → AtPath profile [] present.old p es →
+        AreFew (IsManyRecords profile max_lines) p (take result piece.now) }
+    ensures line { (profile : Profile) (p : List ℕ) (es : List EntryData) → AtPath profile [] present.old p es →
+        0 < result → IsLineFront piece.now result }
     ensures within { result ≤ length piece.now }
     ensures room { result ≤ room }
     ensures between { present.new.in_line ≡ present.old.in_line }
@@ -34,8 +38,8 @@ fn take_known(present: &mut Present, piece: &[u8], room: u64, max_lines: u64) ->
     head + used
 }
 
-/// Takes one more record of the present entry, where the piece begins with it, no path and no line is begun, there is room for
-/// it, and it isn't one too many. Answers how many bytes it took; it may take none.
+/// Takes one more record of the present entry, where the piece begins with it, no path and no line is begun, there is
+/// room for it, and it isn't one too many. Answers how many bytes it took; it may take none.
 pub(crate) fn take_record(
     begun: &Vec<u8>,
     present: &mut Option<Present>,
@@ -43,9 +47,13 @@ pub(crate) fn take_record(
     room: u64,
     max_lines: u64,
 ) -> usize
-    ensures taken { (profile : Profile) (p : List ℕ) (es : List EntryData) → At profile begun.now.items present.old p es → At profile begun.now.items present.new (p ++ take result piece.now) es }
-    ensures few { (profile : Profile) (p : List ℕ) (es : List EntryData) → At profile begun.now.items present.old p es → AreFew (IsManyRecords profile max_lines) p (take result piece.now) }
-    ensures line { (profile : Profile) (p : List ℕ) (es : List EntryData) → At profile begun.now.items present.old p es → 0 < result → IsLineFront piece.now result }
+    ensures taken { (profile : Profile) (p : List ℕ) (es : List EntryData) →
+        At profile begun.now.items present.old p es → At profile begun.now.items present.new
+        (p ++ take result piece.now) es }
+    ensures few { (profile : Profile) (p : List ℕ) (es : List EntryData) → At profile begun.now.items present.old p es →
+        AreFew (IsManyRecords profile max_lines) p (take result piece.now) }
+    ensures line { (profile : Profile) (p : List ℕ) (es : List EntryData) →
+        At profile begun.now.items present.old p es → 0 < result → IsLineFront piece.now result }
     ensures within { result ≤ length piece.now }
     ensures room { result ≤ room }
 {

@@ -10,7 +10,9 @@ use cg_value::Profile;
 
 /// Why the byte can't come within a line.
 fn line_refusal(begun: &Vec<u8>, present: &Present, byte: u8) -> Option<Why>
-    ensures { (profile : Profile) (p : List ℕ) (es : List EntryData) → At profile begun.now.items (Some present.now) p es → present.now.in_line ≡ true → RefusalIs profile p byte result }
+    ensures { (profile : Profile) (p : List ℕ) (es : List EntryData) →
+        At profile begun.now.items (Some present.now) p es → present.now.in_line ≡ true →
+        RefusalIs profile p byte result }
 {
     if present.reader.allowed().contains(byte) {
         None
@@ -21,7 +23,8 @@ fn line_refusal(begun: &Vec<u8>, present: &Present, byte: u8) -> Option<Why>
 
 /// Why no NUL can come after the path.
 fn nul_refusal(profile: Profile, begun: &Vec<u8>, present: &Option<Present>) -> Option<Why>
-    ensures { (p : List ℕ) (es : List EntryData) → At profile begun.now.items present.now p es → IsBetween present.now → RefusalIs profile p 0 result }
+    ensures { (p : List ℕ) (es : List EntryData) → At profile begun.now.items present.now p es → IsBetween present.now →
+        RefusalIs profile p 0 result }
 {
     match classify(profile, begun.as_slice()) {
         PathClass::NoName => Some(Why::NoName),
@@ -50,7 +53,8 @@ fn path_refusal(
     present: &Option<Present>,
     byte: u8,
 ) -> Option<Why>
-    ensures { (p : List ℕ) (es : List EntryData) → At profile begun.now.items present.now p es → IsBetween present.now → RefusalIs profile p byte result }
+    ensures { (p : List ℕ) (es : List EntryData) → At profile begun.now.items present.now p es → IsBetween present.now →
+        RefusalIs profile p byte result }
 {
     if byte == 0 {
         return nul_refusal(profile, begun, present);
@@ -68,7 +72,8 @@ pub(crate) fn refusal(
     present: &Option<Present>,
     byte: u8,
 ) -> Option<Why>
-    ensures { (p : List ℕ) (es : List EntryData) → At profile begun.now.items present.now p es → RefusalIs profile p byte result }
+    ensures { (p : List ℕ) (es : List EntryData) → At profile begun.now.items present.now p es →
+        RefusalIs profile p byte result }
 {
     if let Some(x) = present {
         if x.in_line {

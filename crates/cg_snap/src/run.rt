@@ -56,7 +56,8 @@ fn path_length(piece: &[u8], room: u64) -> usize
 
 /// Takes what comes of a line, and answers how many bytes.
 fn take_line(begun: &Vec<u8>, present: &mut Present, piece: &[u8], room: u64) -> usize
-    ensures taken { (profile : Profile) (p : List ℕ) (es : List EntryData) → At profile begun.now.items (Some present.old) p es → present.old.in_line ≡ true →
+    ensures taken { (profile : Profile) (p : List ℕ) (es : List EntryData) →
+        At profile begun.now.items (Some present.old) p es → present.old.in_line ≡ true →
         At profile begun.now.items (Some present.new) (p ++ take result piece.now) es }
     ensures within { result ≤ length piece.now }
     ensures room { result ≤ room }
@@ -76,11 +77,14 @@ fn ends_line(bytes: &[u8], used: usize) -> bool
 
 /// Takes what comes of a line as far as it can, with its newline where it gets that far.
 fn take_rest(begun: &Vec<u8>, present: &mut Present, piece: &[u8], room: u64) -> LineTaken
-    ensures taken { (profile : Profile) (p : List ℕ) (es : List EntryData) → At profile begun.now.items (Some present.old) p es → present.old.in_line ≡ true →
+    ensures taken { (profile : Profile) (p : List ℕ) (es : List EntryData) →
+        At profile begun.now.items (Some present.old) p es → present.old.in_line ≡ true →
         At profile begun.now.items (Some present.new) (p ++ take result.used piece.now) es }
-    ensures line { (profile : Profile) (p : List ℕ) (es : List EntryData) → At profile begun.now.items (Some present.old) p es → present.old.in_line ≡ true →
+    ensures line { (profile : Profile) (p : List ℕ) (es : List EntryData) →
+        At profile begun.now.items (Some present.old) p es → present.old.in_line ≡ true →
         IsTrue result.ended → IsLineFront piece.now result.used }
-    ensures plain { (profile : Profile) (p : List ℕ) (es : List EntryData) → At profile begun.now.items (Some present.old) p es → present.old.in_line ≡ true →
+    ensures plain { (profile : Profile) (p : List ℕ) (es : List EntryData) →
+        At profile begun.now.items (Some present.old) p es → present.old.in_line ≡ true →
         IsFalse result.ended → Lacks 10 (take result.used piece.now) }
     ensures some { IsTrue result.ended → 0 < result.used }
     ensures within { result.used ≤ length piece.now }
@@ -96,17 +100,22 @@ fn take_rest(begun: &Vec<u8>, present: &mut Present, piece: &[u8], room: u64) ->
     LineTaken { used, ended: true }
 }
 
-/// Takes what comes of a line as far as it can, with its newline where it gets that far, if one is begun; or else nothing.
+/// Takes what comes of a line as far as it can, with its newline where it gets that far, if one is begun; or else
+/// nothing.
 pub(crate) fn take_begun_line(
     begun: &Vec<u8>,
     present: &mut Option<Present>,
     piece: &[u8],
     room: u64,
 ) -> LineTaken
-    ensures taken { (profile : Profile) (p : List ℕ) (es : List EntryData) → At profile begun.now.items present.old p es → At profile begun.now.items present.new (p ++ take result.used piece.now) es }
+    ensures taken { (profile : Profile) (p : List ℕ) (es : List EntryData) →
+        At profile begun.now.items present.old p es → At profile begun.now.items present.new
+        (p ++ take result.used piece.now) es }
     ensures begun { 0 < result.used → IsInLine present.old }
-    ensures line { (profile : Profile) (p : List ℕ) (es : List EntryData) → At profile begun.now.items present.old p es → IsTrue result.ended → IsLineFront piece.now result.used }
-    ensures plain { (profile : Profile) (p : List ℕ) (es : List EntryData) → At profile begun.now.items present.old p es → IsFalse result.ended → Lacks 10 (take result.used piece.now) }
+    ensures line { (profile : Profile) (p : List ℕ) (es : List EntryData) →
+        At profile begun.now.items present.old p es → IsTrue result.ended → IsLineFront piece.now result.used }
+    ensures plain { (profile : Profile) (p : List ℕ) (es : List EntryData) →
+        At profile begun.now.items present.old p es → IsFalse result.ended → Lacks 10 (take result.used piece.now) }
     ensures some { IsTrue result.ended → 0 < result.used }
     ensures within { result.used ≤ length piece.now }
     ensures room { result.used ≤ room }
@@ -137,8 +146,8 @@ pub(crate) fn take_path(begun: &mut Vec<u8>, piece: &[u8], room: u64) -> usize
     }
 }
 
-/// Takes what comes of a path or of a line, at most so many bytes as there is room for, and answers how many. A byte that
-/// can't be taken is left, whatever the reason.
+/// Takes what comes of a path or of a line, at most so many bytes as there is room for, and answers how many. A byte
+/// that can't be taken is left, whatever the reason.
 pub(crate) fn take_run(
     begun: &mut Vec<u8>,
     present: &mut Option<Present>,
@@ -147,7 +156,9 @@ pub(crate) fn take_run(
 ) -> usize
     requires { ArePathBytes begun.old.items }
     ensures path { ArePathBytes begun.new.items }
-    ensures taken { (profile : Profile) (p : List ℕ) (es : List EntryData) → At profile begun.old.items present.old p es → At profile begun.new.items present.new (p ++ take result piece.now) es }
+    ensures taken { (profile : Profile) (p : List ℕ) (es : List EntryData) →
+        At profile begun.old.items present.old p es → At profile begun.new.items present.new
+        (p ++ take result piece.now) es }
     ensures within { result ≤ length piece.now }
     ensures room { result ≤ room }
     ensures plain { IsRun present.old (take result piece.now) }

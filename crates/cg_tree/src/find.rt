@@ -164,8 +164,8 @@ fn is_ruled_name(name: &[u8]) -> bool
         || name == b"cgroup.type".as_slice()
 }
 
-/// Whether the rules speak of files of the entry's name. Other entries break nothing, and change nothing in what these break.
-/// It takes no memory.
+/// Whether the rules speak of files of the entry's name. Other entries break nothing, and change nothing in what these
+/// break. It takes no memory.
 pub fn is_ruled(entry: &Entry) -> bool
     ensures { result ≡ is_ruled (name_of entry.now.path) }
 {

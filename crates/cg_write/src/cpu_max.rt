@@ -47,7 +47,8 @@ pub struct CpuMaxWrite {
 }
 
 impl CpuMaxWrite {
-    /// The text of a write of a quota of at least 1000, and perhaps a period of 1000 to 1000000, in microseconds (cgroup-v2.rst, cpu.max).
+    /// The text of a write of a quota of at least 1000, and perhaps a period of 1000 to 1000000, in microseconds
+    /// (cgroup-v2.rst, cpu.max).
     pub fn new() -> CpuMaxWrite
         ensures spells { Spells ⟦<CpuMaxWrite as Token>⟧.means result (λ text s. WriteText CpuMaxForm s text) }
         ensures size { ⟦<CpuMaxWrite as Token>⟧.size result ≡ 0 }

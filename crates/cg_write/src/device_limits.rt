@@ -128,7 +128,8 @@ pub struct DeviceLimitsWrite {
 impl DeviceLimitsWrite {
     /// The text of a write of a device and one to four of its limits, in any order (cgroup-v2.rst, io.max).
     pub fn new() -> DeviceLimitsWrite
-        ensures spells { Spells ⟦<DeviceLimitsWrite as Token>⟧.means result (λ text s. WriteText DeviceLimitsForm s text) }
+        ensures spells { Spells ⟦<DeviceLimitsWrite as Token>⟧.means result
+            (λ text s. WriteText DeviceLimitsForm s text) }
         ensures size { ⟦<DeviceLimitsWrite as Token>⟧.size result ≡ 0 }
     {
         DeviceLimitsWrite {

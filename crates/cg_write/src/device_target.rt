@@ -45,7 +45,8 @@ pub struct DeviceTargetWrite {
 impl DeviceTargetWrite {
     /// The text of a write of a device and its target latency in microseconds (cgroup-v2.rst, io.latency).
     pub fn new() -> DeviceTargetWrite
-        ensures spells { Spells ⟦<DeviceTargetWrite as Token>⟧.means result (λ text s. WriteText DeviceTargetForm s text) }
+        ensures spells { Spells ⟦<DeviceTargetWrite as Token>⟧.means result
+            (λ text s. WriteText DeviceTargetForm s text) }
         ensures size { ⟦<DeviceTargetWrite as Token>⟧.size result ≡ 0 }
     {
         DeviceTargetWrite {

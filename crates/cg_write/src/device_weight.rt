@@ -135,9 +135,11 @@ pub struct DeviceWeightWrite {
 }
 
 impl DeviceWeightWrite {
-    /// The text of a write of the default weight, or of the weight of a device, which `default` takes away (cgroup-v2.rst, io.weight).
+    /// The text of a write of the default weight, or of the weight of a device, which `default` takes away
+    /// (cgroup-v2.rst, io.weight).
     pub fn new() -> DeviceWeightWrite
-        ensures spells { Spells ⟦<DeviceWeightWrite as Token>⟧.means result (λ text s. WriteText DeviceWeightForm s text) }
+        ensures spells { Spells ⟦<DeviceWeightWrite as Token>⟧.means result
+            (λ text s. WriteText DeviceWeightForm s text) }
         ensures size { ⟦<DeviceWeightWrite as Token>⟧.size result ≡ 0 }
     {
         DeviceWeightWrite {

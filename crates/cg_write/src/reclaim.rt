@@ -61,7 +61,8 @@ pub struct ReclaimWrite {
 }
 
 impl ReclaimWrite {
-    /// The text of a write of a size to reclaim, and perhaps a swappiness of at most 200 (cgroup-v2.rst, memory.reclaim).
+    /// The text of a write of a size to reclaim, and perhaps a swappiness of at most 200 (cgroup-v2.rst,
+    /// memory.reclaim).
     pub fn new() -> ReclaimWrite
         ensures spells { Spells ⟦<ReclaimWrite as Token>⟧.means result (λ text s. WriteText ReclaimForm s text) }
         ensures size { ⟦<ReclaimWrite as Token>⟧.size result ≡ 0 }

@@ -43,7 +43,8 @@ pub struct SetWrite {
 }
 
 impl SetWrite {
-    /// The text of a write of a set of numbers up to `most`, as a list of ranges in any order (cgroup-v2.rst, cpuset.cpus; cpuset(7), "List format").
+    /// The text of a write of a set of numbers up to `most`, as a list of ranges in any order (cgroup-v2.rst,
+    /// cpuset.cpus; cpuset(7), "List format").
     pub fn new(alloc: Global, most: u32) -> SetWrite
         ensures spells { Spells ⟦<SetWrite as Token>⟧.means result (λ text s. WriteText (SetForm most) s text) }
         ensures size { ⟦<SetWrite as Token>⟧.size result ≡ 0 }

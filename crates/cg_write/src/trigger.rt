@@ -68,7 +68,8 @@ pub struct TriggerWrite {
 }
 
 impl TriggerWrite {
-    /// The text of a write of `some` or `full`, and a stall and a window in microseconds (psi.rst, "Monitoring for pressure thresholds").
+    /// The text of a write of `some` or `full`, and a stall and a window in microseconds (psi.rst, "Monitoring for
+    /// pressure thresholds").
     pub fn new() -> TriggerWrite
         ensures spells { Spells ⟦<TriggerWrite as Token>⟧.means result (λ text s. WriteText TriggerForm s text) }
         ensures size { ⟦<TriggerWrite as Token>⟧.size result ≡ 0 }

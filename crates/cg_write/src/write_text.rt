@@ -141,16 +141,16 @@ impl WriteText {
         text_of(alloc, kind.form())
     }
 
-    /// The setting of a write of this kind whose whole text the bytes are, its newline among them. None where they are no
-    /// such text, or where memory is refused.
+    /// The setting of a write of this kind whose whole text the bytes are, its newline among them. None where they are
+    /// no such text, or where memory is refused.
     pub fn read(alloc: Global, kind: WriteKind, text: &[u8]) -> Option<Setting>
         ensures { IfSome result (λ s. IsWriteText kind s text.now) }
     {
         setting_of(alloc, kind.form(), text)
     }
 
-    /// Takes bytes from the front of `bytes`, none of them a newline, and answers how many. It may leave some that `step`
-    /// would take: it stops before a byte that is refused, or for which memory is.
+    /// Takes bytes from the front of `bytes`, none of them a newline, and answers how many. It may leave some that
+    /// `step` would take: it stops before a byte that is refused, or for which memory is.
     pub fn run(&mut self, bytes: &[u8]) -> usize
         ensures within { result ≤ length bytes.now }
         ensures plain { Lacks 10 (take result bytes.now) }

@@ -1,5 +1,5 @@
-//! A reader and writer of cgroup interface files. All that it does is `run_words` of `cg_run`: this hands over the words,
-//! standard input and standard output.
+//! A reader and writer of cgroup interface files. All that it does is `run_words` of `cg_run`: this hands over the
+//! words, standard input and standard output.
 #![tactic(auto)]
 
 #[cfg(test)]

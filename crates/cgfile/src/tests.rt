@@ -1,4 +1,5 @@
-//! What no table of rows can say: what decoders hold, calls with the heap starved, calls that no command makes, and the texts of faults.
+//! What no table of rows can say: what decoders hold, calls with the heap starved, calls that no command makes, and the
+//! texts of faults.
 mod calls;
 mod encoded;
 mod entries;

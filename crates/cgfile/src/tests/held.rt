@@ -3,8 +3,9 @@ use crate::tests::snapshots::decoder;
 use std::alloc::{AllocError, Global};
 use std::test::Fail;
 
-/// How much may be held of a flat keyed file, or of a file that has no whole line: the record that is begun, and where lines
-/// are whole the path, and for each line a place and its key's length plus 2. It goes over the bytes of the text alone.
+/// How much may be held of a flat keyed file, or of a file that has no whole line: the record that is begun, and where
+/// lines are whole the path, and for each line a place and its key's length plus 2. It goes over the bytes of the text
+/// alone.
 #[derive(Clone, Copy)]
 struct Bound {
     begun: u64,

@@ -1,5 +1,5 @@
-//! Calls that may want memory, made with the heap starved: after each refusal one block is given back, and the call is made
-//! again. Each answer is want of memory, or the answer with ample memory.
+//! Calls that may want memory, made with the heap starved: after each refusal one block is given back, and the call is
+//! made again. Each answer is want of memory, or the answer with ample memory.
 ghost use Rattle.std.specs.Prelude.{◌≤◌};
 
 use crate::tests::snapshots::{
@@ -25,8 +25,8 @@ use std::test::Fail;
 /// The blocks that keep the heap starved.
 pub(crate) type Blocks = Vec<Vec<u8>>;
 
-/// Takes all memory that is to be had, in blocks of falling size: of halves, and at last of each size of which the heap may
-/// keep a freed block that serves no other.
+/// Takes all memory that is to be had, in blocks of falling size: of halves, and at last of each size of which the heap
+/// may keep a freed block that serves no other.
 pub(crate) fn hog(alloc: Global) -> Result<Blocks, AllocError> {
     let mut held: Blocks = Vec::with_capacity(alloc, 400000)?;
     let mut size: usize = 17179869184;
@@ -170,7 +170,8 @@ fn is_file_cpu_max(profile: Profile, command: &Command, limits: Limits) -> bool 
     is_named && profile == Profile::One && limits == Limits::DEFAULT
 }
 
-/// Whether the words `file`, `cpu.max` are read. Without memory they may be refused otherwise, but never be another command.
+/// Whether the words `file`, `cpu.max` are read. Without memory they may be refused otherwise, but never be another
+/// command.
 fn parses_words(alloc: Global, words: &[String]) -> Option<bool> {
     match parse_words(alloc, words) {
         Ok(parsed) => Some(is_file_cpu_max(parsed.0, &parsed.1, parsed.2)),
@@ -181,8 +182,8 @@ fn parses_words(alloc: Global, words: &[String]) -> Option<bool> {
 /// The last line of a run for which no memory was left.
 const WANT_OF_MEMORY: &[u8] = b"cgfile: out of memory\n";
 
-/// Whether a run for which no memory was left wrote first lines of its output but not all, none where it writes all at the
-/// end, and then its last line.
+/// Whether a run for which no memory was left wrote first lines of its output but not all, none where it writes all at
+/// the end, and then its last line.
 fn is_want_told(case: &Case, written: &[u8]) -> bool {
     let at = written.len().saturating_sub(WANT_OF_MEMORY.len());
     let (front, line) = written.split_at(at);
@@ -374,7 +375,8 @@ fn refusals_of(call: Call, alloc: Global, given: &Given) -> Result<(u64, bool), 
     Ok((refusals, false))
 }
 
-/// Each call is made once before the heap is ever starved, so that the stack has grown to what it needs: later it couldn't.
+/// Each call is made once before the heap is ever starved, so that the stack has grown to what it needs: later it
+/// couldn't.
 #[test]
 fn whole_calls(rt: HostRuntime) -> Result<(), Fail> {
     let given = all_given(rt.alloc())?;
@@ -530,8 +532,8 @@ fn items(rt: HostRuntime) -> Result<(), Fail> {
     Ok(())
 }
 
-/// Inserts a range once there is memory, of which a block is given back after each refusal. Answers how often memory was
-/// refused, and whether the set was as before each time.
+/// Inserts a range once there is memory, of which a block is given back after each refusal. Answers how often memory
+/// was refused, and whether the set was as before each time.
 fn insert_starved(set: &mut NumberSet, held: &mut Blocks, first: u32, last: u32) -> (u64, bool)
     requires { first ≤ last }
 {
@@ -611,8 +613,8 @@ fn is_added(out: &mut Vec<u8>, added: &Added) -> bool {
     }
 }
 
-/// Adds this to `x` once there is memory, of which a block is given back after each refusal. Answers how often memory was
-/// refused, and whether the bytes were as before each time.
+/// Adds this to `x` once there is memory, of which a block is given back after each refusal. Answers how often memory
+/// was refused, and whether the bytes were as before each time.
 fn add_starved(out: &mut Vec<u8>, held: &mut Blocks, added: &Added) -> (u64, bool) {
     let mut refusals: u64 = 0;
     for _ in 0..5000 {
@@ -651,8 +653,8 @@ fn added_records(rt: HostRuntime) -> Result<(), Fail> {
     Ok(())
 }
 
-/// What a decoder tells of a piece from this place on, where it's called again with the rest of it after each refusal of
-/// memory, for which a block is given back. With it comes the place up to which bytes were consumed.
+/// What a decoder tells of a piece from this place on, where it's called again with the rest of it after each refusal
+/// of memory, for which a block is given back. With it comes the place up to which bytes were consumed.
 fn next_starved(
     snapshot: &mut SnapshotDecoder,
     held: &mut Blocks,
