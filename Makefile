@@ -10,12 +10,20 @@ SHAREDIR = $(DESTDIR)$(PREFIX)/share
 all: build/cgfile
 	printf '10000\n' | build/cgfile file cpu.weight
 
-# The libraries, lowest first: each that was never proved here is, by as many processes as there are processors. Then the
-# program over them, which proves again what has changed.
+# The libraries: each is proved where it was never proved here, once those are that it stands on, and beside others that
+# stand on the same. Then the program over them, which proves again what has changed.
 LIBRARIES = $(filter-out cgfile cg_rows, $(shell sed -n 's/^\([a-z_]*\):.*/\1/p' crates.txt))
+below = $(filter $(LIBRARIES), $(shell sed -n 's/^$(1)://p' crates.txt))
+MAKEFLAGS += --jobs=$(shell nproc)
 
-build/cgfile: crates.txt $(shell find crates -path '*/out' -prune -o -type f -print) | version
-	for library in $(LIBRARIES); do (cd crates/$$library && { [ -e out/rlib/stamp ] || rt lib --jobs $(shell nproc); }) || exit 1; done
+define library
+.PHONY: $(1)
+$(1): $(call below,$(1)) | version
+	cd crates/$(1) && { [ -e out/rlib/stamp ] || rt lib --jobs 2; }
+endef
+$(foreach it,$(LIBRARIES),$(eval $(call library,$(it))))
+
+build/cgfile: crates.txt $(shell find crates -path '*/out' -prune -o -type f -print) | $(LIBRARIES) version
 	cd crates/cgfile && rt run < stdin -- file cpu.weight
 	mkdir -p build
 	install -m 755 crates/cgfile/out/cgfile build/cgfile
