@@ -8,7 +8,6 @@ use Rattle.cg_join.specs.Spelling.{IsConcat, IsEither}
 use Rattle.cg_join.specs.TextBytes.{IsFixed}
 use Rattle.cg_join.specs.declared.choice.Either.{Either}
 use Rattle.cg_join.specs.declared.choice.Either.TheVariants.{Left, Right}
-use Rattle.cg_value.specs.Held.{held_of_reason}
 use Rattle.cg_value.specs.declared.value.Role.{Role}
 use Rattle.cg_value.specs.declared.value.Role.TheVariants.{Member, Root, Isolated}
 use Rattle.cg_value.specs.declared.value.Value.{Value}
@@ -67,7 +66,3 @@ partition_parts (Right v) = root_parts (root_role v.0) v.1
 abbrev pub partition_value : PartitionValue × Unit {0} → Value
 partition_value v = Partition ((partition_parts v.0).0) ((partition_parts v.0).1) ((partition_parts v.0).2)
 
--- The length of the reason.
-abbrev pub partition_size : Value → ℕ
-partition_size (Partition role valid reason) = held_of_reason reason
-partition_size _ = 0

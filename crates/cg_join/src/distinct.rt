@@ -37,7 +37,8 @@ impl DistinctWords {
     pub fn new(alloc: Global, start: WordStart, separator: u8) -> DistinctWords
         requires stops { Stops (SpellsWord start.controller) separator }
         requires filled { LacksEmpty (SpellsWord start.controller) }
-        ensures spells { Spells ⟦<DistinctWords as Token>⟧.means result (AreDistinctJoined (SpellsWord start.controller) separator) }
+        ensures spells { Spells ⟦<DistinctWords as Token>⟧.means result
+            (AreDistinctJoined (SpellsWord start.controller) separator) }
         ensures size { ⟦<DistinctWords as Token>⟧.size result ≡ 0 }
     {
         let current = start.start();
@@ -69,13 +70,15 @@ impl Token for DistinctWords {
     ghost use Rattle.cg_join.specs.RepeatLaws.{true_not_false};
     ghost use Rattle.cg_join.specs.DistinctLaws.{distinct_completes, distinct_ends, distinct_one};
 
-    ghost means = { λ s rest all. IsDistinctAfter s.items.items (⟦<WordText as Token>⟧.means s.current) (SpellsWord s.start.controller) s.separator rest all };
+    ghost means = { λ s rest all. IsDistinctAfter s.items.items (⟦<WordText as Token>⟧.means s.current)
+        (SpellsWord s.start.controller) s.separator rest all };
 
     ghost size = { λ s. items_size ⟦<WordText as Token>⟧.value_size s.items.items + ⟦<WordText as Token>⟧.size s.current };
 
     ghost value_size = { out_size ⟦<WordText as Token>⟧.value_size };
 
-    ghost ends = { λ s. ⟦<WordText as Token>⟧.ends s.current && not (any_value (is_taken s.current.bytes.items) s.items.items) };
+    ghost ends = { λ s. ⟦<WordText as Token>⟧.ends s.current && not
+        (any_value (is_taken s.current.bytes.items) s.items.items) };
 
     ghost grows = { true };
 
@@ -158,7 +161,9 @@ impl Token for DistinctWords {
         (taken_is s.current.controller s.current.bytes.items s.current.sound)
         (⟦<WordText as Token>⟧.one_value s.current) (⟦<WordText as Token>⟧.ends_is s.current) };
 
-    ghost one_value = { λ s. distinct_one (⟦<WordText as Token>⟧.means s.current) (SpellsWord s.start.controller) s.separator s.items.items s.stops s.starts (⟦<WordText as Token>⟧.one_value s.current) (one_word s.start.controller) };
+    ghost one_value = { λ s. distinct_one (⟦<WordText as Token>⟧.means s.current) (SpellsWord s.start.controller)
+        s.separator s.items.items s.stops s.starts (⟦<WordText as Token>⟧.one_value s.current)
+        (one_word s.start.controller) };
 
     ghost holds_bytes = { λ s rest all h. list_bytes (⟦<WordText as Token>⟧.means s.current)
         (SpellsWord s.start.controller) s.separator s.small (⟦<WordText as Token>⟧.holds_bytes s.current)

@@ -72,7 +72,9 @@ impl<V: Token, B: Follow<V>, C: Collection<V>> KeyedLines<V, B, C> {
         requires values_end { LacksByte (B.texts values) end }
         requires apart { mark ≡ end → ⊥ }
         requires empty { C.pairs_of pairs ≡ [] }
-        ensures spells { Spells ⟦<KeyedLines<V, B, C> as Token>⟧.means result (IsTurned (AreKeyedLines C.key_of (IsKeyed C.key_of C.value_of (SpellsWord keys.controller) (B.texts values) (B.alone values) mark) end) C.given) }
+        ensures spells { Spells ⟦<KeyedLines<V, B, C> as Token>⟧.means result
+            (IsTurned (AreKeyedLines C.key_of (IsKeyed C.key_of C.value_of (SpellsWord keys.controller) (B.texts values)
+            (B.alone values) mark) end) C.given) }
         ensures size { ⟦<KeyedLines<V, B, C> as Token>⟧.size result ≡ C.size pairs }
     {
         let key = keys.start();
@@ -92,7 +94,8 @@ impl<V: Token, B: Follow<V>, C: Collection<V>> KeyedLines<V, B, C> {
 
     /// Whether the key can end, and no line before has it.
     fn is_new_key(&self) -> bool
-        ensures { result ≡ ⟦<WordText as Token>⟧.ends self.now.key && not (any_value (is_taken self.now.key.bytes.items) (map C.key_of (C.pairs_of self.now.pairs))) }
+        ensures { result ≡ ⟦<WordText as Token>⟧.ends self.now.key && not
+            (any_value (is_taken self.now.key.bytes.items) (map C.key_of (C.pairs_of self.now.pairs))) }
     {
         self.key.can_end() && !self.pairs.has(&self.key)
     }
@@ -103,8 +106,10 @@ impl<V: Token, B: Follow<V>, C: Collection<V>> KeyedLines<V, B, C> {
         ensures taken { IfTaken result (Follows ⟦<KeyedLines<V, B, C> as Token>⟧.means self.old self.old.mark self.new) }
         ensures refused { IfRefused result (NoneBegins ⟦<KeyedLines<V, B, C> as Token>⟧.means self.old self.old.mark) }
         ensures same { UnlessTaken result (Same ⟦<KeyedLines<V, B, C> as Token>⟧.means self.old self.new) }
-        ensures same_size { UnlessTaken result (⟦<KeyedLines<V, B, C> as Token>⟧.size self.new ≡ ⟦<KeyedLines<V, B, C> as Token>⟧.size self.old) }
-        ensures size { ⟦<KeyedLines<V, B, C> as Token>⟧.size self.new ≤ ⟦<KeyedLines<V, B, C> as Token>⟧.size self.old + 1 }
+        ensures same_size { UnlessTaken result (⟦<KeyedLines<V, B, C> as Token>⟧.size self.new ≡
+            ⟦<KeyedLines<V, B, C> as Token>⟧.size self.old) }
+        ensures size { ⟦<KeyedLines<V, B, C> as Token>⟧.size self.new ≤ ⟦<KeyedLines<V, B, C> as Token>⟧.size self.old +
+            1 }
         ensures last { OnErr result (Begins ⟦<KeyedLines<V, B, C> as Token>⟧.means self.old self.old.mark) }
     {
         if !self.is_new_key() {
@@ -126,8 +131,10 @@ impl<V: Token, B: Follow<V>, C: Collection<V>> KeyedLines<V, B, C> {
         ensures taken { IfTaken result (Follows ⟦<KeyedLines<V, B, C> as Token>⟧.means self.old self.old.end self.new) }
         ensures refused { IfRefused result (NoneBegins ⟦<KeyedLines<V, B, C> as Token>⟧.means self.old self.old.end) }
         ensures same { UnlessTaken result (Same ⟦<KeyedLines<V, B, C> as Token>⟧.means self.old self.new) }
-        ensures same_size { UnlessTaken result (⟦<KeyedLines<V, B, C> as Token>⟧.size self.new ≡ ⟦<KeyedLines<V, B, C> as Token>⟧.size self.old) }
-        ensures size { ⟦<KeyedLines<V, B, C> as Token>⟧.size self.new ≤ ⟦<KeyedLines<V, B, C> as Token>⟧.size self.old + 1 }
+        ensures same_size { UnlessTaken result (⟦<KeyedLines<V, B, C> as Token>⟧.size self.new ≡
+            ⟦<KeyedLines<V, B, C> as Token>⟧.size self.old) }
+        ensures size { ⟦<KeyedLines<V, B, C> as Token>⟧.size self.new ≤ ⟦<KeyedLines<V, B, C> as Token>⟧.size self.old +
+            1 }
         ensures last { OnErr result (Begins ⟦<KeyedLines<V, B, C> as Token>⟧.means self.old self.old.end) }
     {
         let value = match self.values.alone() {
@@ -154,8 +161,10 @@ impl<V: Token, B: Follow<V>, C: Collection<V>> KeyedLines<V, B, C> {
         ensures taken { IfTaken result (Follows ⟦<KeyedLines<V, B, C> as Token>⟧.means self.old byte self.new) }
         ensures refused { IfRefused result (NoneBegins ⟦<KeyedLines<V, B, C> as Token>⟧.means self.old byte) }
         ensures same { UnlessTaken result (Same ⟦<KeyedLines<V, B, C> as Token>⟧.means self.old self.new) }
-        ensures same_size { UnlessTaken result (⟦<KeyedLines<V, B, C> as Token>⟧.size self.new ≡ ⟦<KeyedLines<V, B, C> as Token>⟧.size self.old) }
-        ensures size { ⟦<KeyedLines<V, B, C> as Token>⟧.size self.new ≤ ⟦<KeyedLines<V, B, C> as Token>⟧.size self.old + 1 }
+        ensures same_size { UnlessTaken result (⟦<KeyedLines<V, B, C> as Token>⟧.size self.new ≡
+            ⟦<KeyedLines<V, B, C> as Token>⟧.size self.old) }
+        ensures size { ⟦<KeyedLines<V, B, C> as Token>⟧.size self.new ≤ ⟦<KeyedLines<V, B, C> as Token>⟧.size self.old +
+            1 }
         ensures last { OnErr result (Begins ⟦<KeyedLines<V, B, C> as Token>⟧.means self.old byte) }
     {
         if byte == self.mark {
@@ -197,8 +206,10 @@ impl<V: Token, B: Follow<V>, C: Collection<V>> KeyedLines<V, B, C> {
         ensures taken { IfTaken result (Follows ⟦<KeyedLines<V, B, C> as Token>⟧.means self.old byte self.new) }
         ensures refused { IfRefused result (NoneBegins ⟦<KeyedLines<V, B, C> as Token>⟧.means self.old byte) }
         ensures same { UnlessTaken result (Same ⟦<KeyedLines<V, B, C> as Token>⟧.means self.old self.new) }
-        ensures same_size { UnlessTaken result (⟦<KeyedLines<V, B, C> as Token>⟧.size self.new ≡ ⟦<KeyedLines<V, B, C> as Token>⟧.size self.old) }
-        ensures size { ⟦<KeyedLines<V, B, C> as Token>⟧.size self.new ≤ ⟦<KeyedLines<V, B, C> as Token>⟧.size self.old + 1 }
+        ensures same_size { UnlessTaken result (⟦<KeyedLines<V, B, C> as Token>⟧.size self.new ≡
+            ⟦<KeyedLines<V, B, C> as Token>⟧.size self.old) }
+        ensures size { ⟦<KeyedLines<V, B, C> as Token>⟧.size self.new ≤ ⟦<KeyedLines<V, B, C> as Token>⟧.size self.old +
+            1 }
         ensures last { OnErr result (Begins ⟦<KeyedLines<V, B, C> as Token>⟧.means self.old byte) }
     {
         if byte != self.end {
@@ -227,8 +238,10 @@ impl<V: Token, B: Follow<V>, C: Collection<V>> KeyedLines<V, B, C> {
         requires { IsFalse (is_marked self.old.stage) }
         ensures within { result ≤ length bytes.now }
         ensures follows { FollowsRun ⟦<KeyedLines<V, B, C> as Token>⟧.means self.old (take result bytes.now) self.new }
-        ensures size { ⟦<KeyedLines<V, B, C> as Token>⟧.size self.new ≤ ⟦<KeyedLines<V, B, C> as Token>⟧.size self.old + result }
-        ensures same_size { result ≡ 0 → ⟦<KeyedLines<V, B, C> as Token>⟧.size self.new ≡ ⟦<KeyedLines<V, B, C> as Token>⟧.size self.old }
+        ensures size { ⟦<KeyedLines<V, B, C> as Token>⟧.size self.new ≤ ⟦<KeyedLines<V, B, C> as Token>⟧.size self.old +
+            result }
+        ensures same_size { result ≡ 0 → ⟦<KeyedLines<V, B, C> as Token>⟧.size self.new ≡
+            ⟦<KeyedLines<V, B, C> as Token>⟧.size self.old }
     {
         let count = self.key.run(bytes);
         if count > 0 {
@@ -242,8 +255,10 @@ impl<V: Token, B: Follow<V>, C: Collection<V>> KeyedLines<V, B, C> {
         requires { self.old.stage ≡ InValue }
         ensures within { result ≤ length bytes.now }
         ensures follows { FollowsRun ⟦<KeyedLines<V, B, C> as Token>⟧.means self.old (take result bytes.now) self.new }
-        ensures size { ⟦<KeyedLines<V, B, C> as Token>⟧.size self.new ≤ ⟦<KeyedLines<V, B, C> as Token>⟧.size self.old + result }
-        ensures same_size { result ≡ 0 → ⟦<KeyedLines<V, B, C> as Token>⟧.size self.new ≡ ⟦<KeyedLines<V, B, C> as Token>⟧.size self.old }
+        ensures size { ⟦<KeyedLines<V, B, C> as Token>⟧.size self.new ≤ ⟦<KeyedLines<V, B, C> as Token>⟧.size self.old +
+            result }
+        ensures same_size { result ≡ 0 → ⟦<KeyedLines<V, B, C> as Token>⟧.size self.new ≡
+            ⟦<KeyedLines<V, B, C> as Token>⟧.size self.old }
     {
         run_parts(&mut self.value, bytes)
     }
@@ -259,10 +274,11 @@ impl<V: Token, B: Follow<V>, C: Collection<V>> KeyedLines<V, B, C> {
         }
     }
 
-    /// The key and the value, where they and the mark between them are what is left of the line. It may find none where there is
-    /// one.
+    /// The key and the value, where they and the mark between them are what is left of the line. It may find none where
+    /// there is one.
     fn read_line(&self, line: &[u8]) -> Option<(Key, V::Out)>
-        ensures pair { IfSome result (IsPairOf (⟦<WordText as Token>⟧.means self.now.key) (V.means self.now.value) self.now.mark line.now) }
+        ensures pair { IfSome result (IsPairOf (⟦<WordText as Token>⟧.means self.now.key) (V.means self.now.value)
+            self.now.mark line.now) }
         ensures size { IfSome result (λ r. ⟦<WordText as Token>⟧.value_size r.0 + (1 + V.value_size r.1) ≤ ⟦<WordText as Token>⟧.size self.now.key + (V.size self.now.value + length line.now)) }
     {
         let (key, count) = match self.key.whole(line) {
@@ -293,7 +309,8 @@ impl<V: Token, B: Follow<V>, C: Collection<V>> Token for KeyedLines<V, B, C> {
         (IsKeyed C.key_of C.value_of (SpellsWord s.keys.controller) (B.texts s.values) (B.alone s.values) s.mark)
         s.end) C.given };
 
-    ghost size = { λ s. C.size s.pairs + items_size ⟦<WordText as Token>⟧.value_size s.ended.items + (⟦<WordText as Token>⟧.size s.key + V.size s.value) };
+    ghost size = { λ s. C.size s.pairs + items_size ⟦<WordText as Token>⟧.value_size s.ended.items +
+        (⟦<WordText as Token>⟧.size s.key + V.size s.value) };
 
     ghost value_size = { C.value_size };
 
@@ -359,7 +376,8 @@ impl<V: Token, B: Follow<V>, C: Collection<V>> Token for KeyedLines<V, B, C> {
         (C.pairs_of s.pairs) (IsKeyed C.key_of C.value_of (SpellsWord s.keys.controller) (B.texts s.values)
         (B.alone s.values) s.mark) (⟦<WordText as Token>⟧.means s.key) (V.means s.value)
         (B.alone s.values) s.mark s.end (is_begun s.stage) s.ended.items s.distinct (is_marked s.stage) s.kept
-        (word_new s.key.controller s.key.bytes.items [] (⟦<WordText as Token>⟧.completes s.key) (map C.key_of (C.pairs_of s.pairs))) (V.completes s.value) };
+        (word_new s.key.controller s.key.bytes.items [] (⟦<WordText as Token>⟧.completes s.key)
+        (map C.key_of (C.pairs_of s.pairs))) (V.completes s.value) };
 
     ghost no_size = { λ e s. absurd (true_not_false e) };
 
@@ -372,12 +390,14 @@ impl<V: Token, B: Follow<V>, C: Collection<V>> Token for KeyedLines<V, B, C> {
     ghost one_value = { λ s. state_one C.key_of C.value_of C.given (C.pairs_of s.pairs)
         (⟦<WordText as Token>⟧.means s.key) (V.means s.value) (SpellsWord s.keys.controller) (B.texts s.values)
         (B.alone s.values) s.mark s.end (is_begun s.stage) s.ended.items C.paired C.whole s.apart
-        s.key_mark s.key_end s.keys_mark s.keys_end s.value_end s.values_end (⟦<WordText as Token>⟧.one_value s.key) (V.one_value s.value) (one_word s.keys.controller) (B.one_text s.values) (is_marked s.stage) };
+        s.key_mark s.key_end s.keys_mark s.keys_end s.value_end s.values_end (⟦<WordText as Token>⟧.one_value s.key)
+        (V.one_value s.value) (one_word s.keys.controller) (B.one_text s.values) (is_marked s.stage) };
 
     ghost holds_bytes = { λ s. state_bytes C.key_of C.value_of C.given (C.pairs_of s.pairs)
         (⟦<WordText as Token>⟧.means s.key) (V.means s.value) (SpellsWord s.keys.controller) (B.texts s.values)
         (B.alone s.values) s.mark s.end (is_begun s.stage) s.ended.items s.small_mark s.small_end
-        (⟦<WordText as Token>⟧.holds_bytes s.key) (V.holds_bytes s.value) (word_text_bytes s.keys.controller) (B.text_bytes s.values) (is_marked s.stage) };
+        (⟦<WordText as Token>⟧.holds_bytes s.key) (V.holds_bytes s.value) (word_text_bytes s.keys.controller)
+        (B.text_bytes s.values) (is_marked s.stage) };
 }
 
 impl<V: Token, B: Follow<V>, C: Collection<V>> WholeLines for KeyedLines<V, B, C> {

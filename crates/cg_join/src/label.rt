@@ -105,7 +105,8 @@ pub type Spaced<T> = Sequence<ByteText, T>;
 
 /// The keyword's text, and then the token.
 pub fn labelled<T: Token>(keyword: Keyword, token: T) -> LabelText<T>
-    ensures spells { Spells ⟦<LabelText<T> as Token>⟧.means result (IsConcat (IsFixed (text_of keyword)) (T.means token)) }
+    ensures spells { Spells ⟦<LabelText<T> as Token>⟧.means result
+        (IsConcat (IsFixed (text_of keyword)) (T.means token)) }
     ensures size { ⟦<LabelText<T> as Token>⟧.size result ≡ T.size token }
 {
     LabelText {
@@ -116,7 +117,8 @@ pub fn labelled<T: Token>(keyword: Keyword, token: T) -> LabelText<T>
 
 /// A space, and then the token.
 pub fn spaced<T: Token>(token: T) -> Spaced<T>
-    ensures spells { Spells ⟦<Sequence<ByteText, T> as Token>⟧.means result (IsConcat (IsFixed (32 ∷ [])) (T.means token)) }
+    ensures spells { Spells ⟦<Sequence<ByteText, T> as Token>⟧.means result
+        (IsConcat (IsFixed (32 ∷ [])) (T.means token)) }
     ensures size { ⟦<Sequence<ByteText, T> as Token>⟧.size result ≡ T.size token }
 {
     Sequence::new(ByteText::new(b' '), token)

@@ -47,7 +47,8 @@ pub struct LimitText {
 impl LimitText {
     /// A token of `max` and the numbers from `lo` to `hi`, unless there are no such numbers.
     pub fn new(lo: u64, hi: u64) -> Option<LimitText>
-        ensures spells { MatchOption result (hi < lo) (λ token. (lo ≤ hi) × Spells ⟦<LimitText as Token>⟧.means token (λ rest v. IsLimit lo hi v rest)) }
+        ensures spells { MatchOption result (hi < lo) (λ token. (lo ≤ hi) ×
+            Spells ⟦<LimitText as Token>⟧.means token (λ rest v. IsLimit lo hi v rest)) }
         ensures size { MatchOption result ⊤ (λ token. ⟦<LimitText as Token>⟧.size token ≡ 0) }
     {
         match DecimalText::new(lo, hi) {

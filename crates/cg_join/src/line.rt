@@ -14,7 +14,8 @@ pub type Line<T, F> = Mapped<Sequence<T, ByteText>, F>;
 /// The token's text and a newline.
 pub fn one_line<T: Token, F: Turn<Sequence<T, ByteText>>>(token: T) -> Line<T, F>
     requires { LacksByte (T.means token) 10 }
-    ensures spells { Spells ⟦<Mapped<Sequence<T, ByteText>, F> as Token>⟧.means result (IsTurned (IsLine (T.means token)) F.turned) }
+    ensures spells { Spells ⟦<Mapped<Sequence<T, ByteText>, F> as Token>⟧.means result
+        (IsTurned (IsLine (T.means token)) F.turned) }
     ensures size { ⟦<Mapped<Sequence<T, ByteText>, F> as Token>⟧.size result ≡ T.size token }
 {
     Mapped::new(Sequence::new(token, ByteText::new(b'\n')))

@@ -14,8 +14,8 @@ use cg_text::{Items, OutOfMemory, Token, make_room};
 use std::alloc::Global;
 use std::mem;
 
-/// Any number of a token, also none, each with a byte after it that none of its texts has. The token `current` counts only
-/// where a line is begun.
+/// Any number of a token, also none, each with a byte after it that none of its texts has. The token `current` counts
+/// only where a line is begun.
 #[derive(Drop)]
 pub struct Lines<T: Token, S: Start<T>> {
     start: S,
@@ -32,7 +32,8 @@ pub struct Lines<T: Token, S: Start<T>> {
 /// Makes the token at hand anew where no line is begun.
 fn renew<T: Token, S: Start<T>>(current: &mut T, start: &S, begun: bool)
     requires { IsFalse begun → T.size current.old ≡ 0 }
-    ensures is { (rest : List ℕ) (v : T.Out) → T.means current.new rest v ↔ at_hand begun (T.means current.old) (S.texts start.now) rest v }
+    ensures is { (rest : List ℕ) (v : T.Out) → T.means current.new rest v ↔
+        at_hand begun (T.means current.old) (S.texts start.now) rest v }
     ensures size { T.size current.new ≡ T.size current.old }
 {
     if !begun {
@@ -65,7 +66,8 @@ impl<T: Token, S: Start<T>> Token for Lines<T, S> {
     ghost use Rattle.cg_join.specs.LinesLaws.{lines_ends};
     ghost use Rattle.cg_join.specs.LinesStateLaws.{hand_completes, hand_after_one, hand_bytes};
 
-    ghost means = { λ s rest all. AreLinesAfter s.items.items s.begun (at_hand s.begun (T.means s.current) (S.texts s.start)) (S.texts s.start) s.end rest all };
+    ghost means = { λ s rest all. AreLinesAfter s.items.items s.begun
+        (at_hand s.begun (T.means s.current) (S.texts s.start)) (S.texts s.start) s.end rest all };
 
     ghost size = { λ s. items_size T.value_size s.items.items + T.size s.current };
 
@@ -141,15 +143,19 @@ impl<T: Token, S: Start<T>> Token for Lines<T, S> {
         held_in_all::<T>(value.as_slice())
     }
 
-    ghost completes = { λ s. hand_completes (T.means s.current) (S.texts s.start) s.end s.items.items s.begun (T.completes s.current) };
+    ghost completes = { λ s. hand_completes (T.means s.current) (S.texts s.start) s.end s.items.items s.begun
+        (T.completes s.current) };
 
     ghost no_size = { λ e s. absurd (true_not_false e) };
 
-    ghost ends_is = { λ s. lines_ends s.end (at_hand s.begun (T.means s.current) (S.texts s.start)) (S.texts s.start) s.items.items s.begun };
+    ghost ends_is = { λ s. lines_ends s.end (at_hand s.begun (T.means s.current) (S.texts s.start)) (S.texts s.start)
+        s.items.items s.begun };
 
-    ghost one_value = { λ s. hand_after_one (T.means s.current) (S.texts s.start) s.end s.items.items s.begun s.lacks s.starts (T.one_value s.current) (S.one_text s.start) };
+    ghost one_value = { λ s. hand_after_one (T.means s.current) (S.texts s.start) s.end s.items.items s.begun s.lacks
+        s.starts (T.one_value s.current) (S.one_text s.start) };
 
-    ghost holds_bytes = { λ s rest all h. hand_bytes (T.means s.current) (S.texts s.start) s.end s.small (T.holds_bytes s.current) (S.text_bytes s.start) s.begun rest h.0 h.2 };
+    ghost holds_bytes = { λ s rest all h. hand_bytes (T.means s.current) (S.texts s.start) s.end s.small
+        (T.holds_bytes s.current) (S.text_bytes s.start) s.begun rest h.0 h.2 };
 }
 
 impl<T: Token, S: Start<T>> WholeLines for Lines<T, S> {

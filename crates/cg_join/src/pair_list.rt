@@ -101,7 +101,8 @@ impl<V: Token, F: MakePair<V>> Collection<V> for PairList<V, F> {
 
     ghost has_room = { λ s. IsTrue s.pairs.has_room };
 
-    ghost size = { λ s. items_size (pair_size F.key_of F.value_of ⟦<WordText as Token>⟧.value_size V.value_size) s.pairs.items };
+    ghost size = { λ s. items_size (pair_size F.key_of F.value_of ⟦<WordText as Token>⟧.value_size V.value_size)
+        s.pairs.items };
 
     ghost value_size = { items_size (pair_size F.key_of F.value_of ⟦<WordText as Token>⟧.value_size V.value_size) };
 

@@ -72,7 +72,9 @@ impl<V: Token, B: Start<V>, F: Pairing<V>> DistinctPairs<V, B, F> {
     ) -> DistinctPairs<V, B, F>
         requires lacks { LacksByte (SpellsWord words.controller) mark }
         requires stops { Stops (B.texts values) separator }
-        ensures spells { Spells ⟦<DistinctPairs<V, B, F> as Token>⟧.means result (ArePairs F.word_of (IsPairText F.word_of F.value_of (SpellsWord words.controller) (B.texts values) mark) separator) }
+        ensures spells { Spells ⟦<DistinctPairs<V, B, F> as Token>⟧.means result
+            (ArePairs F.word_of (IsPairText F.word_of F.value_of (SpellsWord words.controller) (B.texts values) mark)
+            separator) }
         ensures size { ⟦<DistinctPairs<V, B, F> as Token>⟧.size result ≡ 0 }
     {
         let word = words.start();
@@ -99,7 +101,9 @@ impl<V: Token, B: Start<V>, F: Pairing<V>> DistinctPairs<V, B, F> {
     ) -> DistinctPairs<V, B, F>
         requires lacks { LacksByte (SpellsWord words.controller) mark }
         requires stops { Stops (B.texts values) separator }
-        ensures spells { Spells ⟦<DistinctPairs<V, B, F> as Token>⟧.means result (AreJoinedPairs F.word_of (IsPairText F.word_of F.value_of (SpellsWord words.controller) (B.texts values) mark) separator) }
+        ensures spells { Spells ⟦<DistinctPairs<V, B, F> as Token>⟧.means result
+            (AreJoinedPairs F.word_of (IsPairText F.word_of F.value_of (SpellsWord words.controller) (B.texts values)
+            mark) separator) }
         ensures size { ⟦<DistinctPairs<V, B, F> as Token>⟧.size result ≡ 0 }
     {
         let word = words.start();
@@ -123,8 +127,10 @@ impl<V: Token, B: Start<V>, F: Pairing<V>> DistinctPairs<V, B, F> {
         ensures taken { IfTaken result (Follows ⟦<DistinctPairs<V, B, F> as Token>⟧.means self.old byte self.new) }
         ensures refused { IfRefused result (NoneBegins ⟦<DistinctPairs<V, B, F> as Token>⟧.means self.old byte) }
         ensures same { UnlessTaken result (Same ⟦<DistinctPairs<V, B, F> as Token>⟧.means self.old self.new) }
-        ensures same_size { UnlessTaken result (⟦<DistinctPairs<V, B, F> as Token>⟧.size self.new ≡ ⟦<DistinctPairs<V, B, F> as Token>⟧.size self.old) }
-        ensures size { ⟦<DistinctPairs<V, B, F> as Token>⟧.size self.new ≤ ⟦<DistinctPairs<V, B, F> as Token>⟧.size self.old + 1 }
+        ensures same_size { UnlessTaken result (⟦<DistinctPairs<V, B, F> as Token>⟧.size self.new ≡
+            ⟦<DistinctPairs<V, B, F> as Token>⟧.size self.old) }
+        ensures size { ⟦<DistinctPairs<V, B, F> as Token>⟧.size self.new ≤ ⟦<DistinctPairs<V, B, F> as Token>⟧.size
+            self.old + 1 }
         ensures last { OnErr result (Begins ⟦<DistinctPairs<V, B, F> as Token>⟧.means self.old byte) }
     {
         if byte != self.mark {
@@ -152,8 +158,10 @@ impl<V: Token, B: Start<V>, F: Pairing<V>> DistinctPairs<V, B, F> {
         ensures taken { IfTaken result (Follows ⟦<DistinctPairs<V, B, F> as Token>⟧.means self.old byte self.new) }
         ensures refused { IfRefused result (NoneBegins ⟦<DistinctPairs<V, B, F> as Token>⟧.means self.old byte) }
         ensures same { UnlessTaken result (Same ⟦<DistinctPairs<V, B, F> as Token>⟧.means self.old self.new) }
-        ensures same_size { UnlessTaken result (⟦<DistinctPairs<V, B, F> as Token>⟧.size self.new ≡ ⟦<DistinctPairs<V, B, F> as Token>⟧.size self.old) }
-        ensures size { ⟦<DistinctPairs<V, B, F> as Token>⟧.size self.new ≤ ⟦<DistinctPairs<V, B, F> as Token>⟧.size self.old + 1 }
+        ensures same_size { UnlessTaken result (⟦<DistinctPairs<V, B, F> as Token>⟧.size self.new ≡
+            ⟦<DistinctPairs<V, B, F> as Token>⟧.size self.old) }
+        ensures size { ⟦<DistinctPairs<V, B, F> as Token>⟧.size self.new ≤ ⟦<DistinctPairs<V, B, F> as Token>⟧.size
+            self.old + 1 }
         ensures last { OnErr result (Begins ⟦<DistinctPairs<V, B, F> as Token>⟧.means self.old byte) }
     {
         match self.value.step(byte) {
@@ -189,8 +197,8 @@ impl<V: Token, B: Start<V>, F: Pairing<V>> DistinctPairs<V, B, F> {
     }
 }
 
-/// The pair in front of the bytes, a rest of the word, the mark and a rest of the value, and how many bytes it has. It may find
-/// none where there is one.
+/// The pair in front of the bytes, a rest of the word, the mark and a rest of the value, and how many bytes it has. It
+/// may find none where there is one.
 #[inline(always)]
 fn pair_in_front<V: Token, F: Pairing<V>>(
     word: &WordText,
@@ -198,8 +206,10 @@ fn pair_in_front<V: Token, F: Pairing<V>>(
     mark: u8,
     bytes: &[u8],
 ) -> Option<(F::Pair, usize)>
-    ensures front { IfSome result (IsPairFront F.word_of F.value_of (⟦<WordText as Token>⟧.means word.now) (V.means value.now) mark bytes.now) }
-    ensures size { IfSome result (λ r. pair_size F.word_of F.value_of ⟦<WordText as Token>⟧.value_size V.value_size r.0 + 1 ≤ ⟦<WordText as Token>⟧.size word.now + (V.size value.now + r.1)) }
+    ensures front { IfSome result (IsPairFront F.word_of F.value_of (⟦<WordText as Token>⟧.means word.now)
+        (V.means value.now) mark bytes.now) }
+    ensures size { IfSome result (λ r. pair_size F.word_of F.value_of ⟦<WordText as Token>⟧.value_size V.value_size r.0
+        + 1 ≤ ⟦<WordText as Token>⟧.size word.now + (V.size value.now + r.1)) }
 {
     let (key, count) = match word.whole(bytes) {
         Some(found) => found,
@@ -233,7 +243,8 @@ impl<V: Token, B: Start<V>, F: Pairing<V>> Token for DistinctPairs<V, B, F> {
         (IsPairText F.word_of F.value_of (SpellsWord s.words.controller) (B.texts s.values) s.mark) s.separator rest
         all };
 
-    ghost size = { λ s. items_size (pair_size F.word_of F.value_of ⟦<WordText as Token>⟧.value_size V.value_size) s.items.items + (⟦<WordText as Token>⟧.size s.word + V.size s.value) };
+    ghost size = { λ s. items_size (pair_size F.word_of F.value_of ⟦<WordText as Token>⟧.value_size V.value_size)
+        s.items.items + (⟦<WordText as Token>⟧.size s.word + V.size s.value) };
 
     ghost value_size = { items_size (pair_size F.word_of F.value_of ⟦<WordText as Token>⟧.value_size V.value_size) };
 
@@ -351,7 +362,8 @@ impl<V: Token, B: Start<V>, F: Pairing<V>> Token for DistinctPairs<V, B, F> {
     ghost completes = { λ s. state_completes F.word_of F.value_of F.paired F.has_word F.has_value s.items.items
         (IsPairText F.word_of F.value_of (SpellsWord s.words.controller) (B.texts s.values) s.mark) s.separator
         s.mark (⟦<WordText as Token>⟧.means s.word) (V.means s.value) s.distinct s.stage
-        (word_new s.word.controller s.word.bytes.items [] (⟦<WordText as Token>⟧.completes s.word) (map F.word_of s.items.items)) (V.completes s.value) s.begun };
+        (word_new s.word.controller s.word.bytes.items [] (⟦<WordText as Token>⟧.completes s.word)
+        (map F.word_of s.items.items)) (V.completes s.value) s.begun };
 
     ghost no_size = { λ e s. absurd (true_not_false e) };
 
@@ -365,10 +377,14 @@ impl<V: Token, B: Start<V>, F: Pairing<V>> Token for DistinctPairs<V, B, F> {
         (WordAtHand F.word_of s.stage s.items.items (⟦<WordText as Token>⟧.means s.word))
         (V.means s.value) s.stage s.mark)
         (IsPairText F.word_of F.value_of (SpellsWord s.words.controller) (B.texts s.values) s.mark)
-        (state_stops F.word_of F.value_of (⟦<WordText as Token>⟧.means s.word) s.mark s.items.items (V.means s.value) s.stage s.separator s.lacks s.stops)
-        (pair_stops F.word_of F.value_of s.mark (SpellsWord s.words.controller) (B.texts s.values) s.separator s.words_lack s.values_stop)
-        (state_one F.word_of F.value_of (⟦<WordText as Token>⟧.means s.word) s.mark s.items.items F.paired F.whole (V.means s.value) s.stage s.lacks (⟦<WordText as Token>⟧.one_value s.word) (V.one_value s.value))
-        (pair_one F.word_of F.value_of (SpellsWord s.words.controller) s.mark F.paired F.whole (B.texts s.values) s.words_lack (one_word s.words.controller) (B.one_text s.values))
+        (state_stops F.word_of F.value_of (⟦<WordText as Token>⟧.means s.word) s.mark s.items.items (V.means s.value)
+        s.stage s.separator s.lacks s.stops)
+        (pair_stops F.word_of F.value_of s.mark (SpellsWord s.words.controller) (B.texts s.values) s.separator
+        s.words_lack s.values_stop)
+        (state_one F.word_of F.value_of (⟦<WordText as Token>⟧.means s.word) s.mark s.items.items F.paired F.whole
+        (V.means s.value) s.stage s.lacks (⟦<WordText as Token>⟧.one_value s.word) (V.one_value s.value))
+        (pair_one F.word_of F.value_of (SpellsWord s.words.controller) s.mark F.paired F.whole (B.texts s.values)
+        s.words_lack (one_word s.words.controller) (B.one_text s.values))
         rest v w h.0 k.0 };
 
     ghost holds_bytes = { λ s rest all h. led_after_bytes s.separator s.stage (whole_pairs s.stage s.items.items)
@@ -377,7 +393,9 @@ impl<V: Token, B: Start<V>, F: Pairing<V>> Token for DistinctPairs<V, B, F> {
         (V.means s.value) s.stage s.mark)
         (IsPairText F.word_of F.value_of (SpellsWord s.words.controller) (B.texts s.values) s.mark)
         s.small_separator
-        (state_bytes F.word_of F.value_of (⟦<WordText as Token>⟧.means s.word) s.mark s.items.items (V.means s.value) s.stage s.small_mark (⟦<WordText as Token>⟧.holds_bytes s.word) (V.holds_bytes s.value))
-        (pair_bytes F.word_of F.value_of s.mark (SpellsWord s.words.controller) (B.texts s.values) s.small_mark (word_text_bytes s.words.controller) (B.text_bytes s.values))
+        (state_bytes F.word_of F.value_of (⟦<WordText as Token>⟧.means s.word) s.mark s.items.items (V.means s.value)
+        s.stage s.small_mark (⟦<WordText as Token>⟧.holds_bytes s.word) (V.holds_bytes s.value))
+        (pair_bytes F.word_of F.value_of s.mark (SpellsWord s.words.controller) (B.texts s.values) s.small_mark
+        (word_text_bytes s.words.controller) (B.text_bytes s.values))
         rest all h.0 };
 }

@@ -66,7 +66,8 @@ impl<V: Token, B: Start<V> + Copy, F: Pairing<V>> Start<DistinctPairs<V, B, F>>
     ghost use Rattle.cg_join.specs.JoinedPairsLaws.{joined_bytes, joined_one, joined_some};
     ghost use Rattle.cg_join.specs.WordStartLaws.{new_word_text, one_word, word_text_bytes};
 
-    ghost texts = { λ s. AreJoinedPairs F.word_of (IsPairText F.word_of F.value_of (SpellsWord s.words.controller) (B.texts s.values) s.mark) s.separator };
+    ghost texts = { λ s. AreJoinedPairs F.word_of (IsPairText F.word_of F.value_of (SpellsWord s.words.controller)
+        (B.texts s.values) s.mark) s.separator };
 
     fn start(&self) -> DistinctPairs<V, B, F> {
         DistinctPairs::joined(
@@ -78,11 +79,14 @@ impl<V: Token, B: Start<V> + Copy, F: Pairing<V>> Start<DistinctPairs<V, B, F>>
         )
     }
 
-    ghost some_text = { λ s. joined_some F.word_of F.value_of (SpellsWord s.words.controller) (B.texts s.values) s.mark s.separator F.paired F.has_word F.has_value (new_word_text s.words.controller) (B.some_text s.values) };
+    ghost some_text = { λ s. joined_some F.word_of F.value_of (SpellsWord s.words.controller) (B.texts s.values) s.mark
+        s.separator F.paired F.has_word F.has_value (new_word_text s.words.controller) (B.some_text s.values) };
 
-    ghost one_text = { λ s. joined_one F.word_of F.value_of (SpellsWord s.words.controller) (B.texts s.values) s.mark s.separator F.paired F.whole s.lacks s.stops (one_word s.words.controller) (B.one_text s.values) };
+    ghost one_text = { λ s. joined_one F.word_of F.value_of (SpellsWord s.words.controller) (B.texts s.values) s.mark
+        s.separator F.paired F.whole s.lacks s.stops (one_word s.words.controller) (B.one_text s.values) };
 
-    ghost text_bytes = { λ s. joined_bytes F.word_of F.value_of (SpellsWord s.words.controller) (B.texts s.values) s.mark s.separator s.small_mark s.small_separator (word_text_bytes s.words.controller) (B.text_bytes s.values) };
+    ghost text_bytes = { λ s. joined_bytes F.word_of F.value_of (SpellsWord s.words.controller) (B.texts s.values)
+        s.mark s.separator s.small_mark s.small_separator (word_text_bytes s.words.controller) (B.text_bytes s.values) };
 }
 
 impl<V: Token, B: Start<V> + Copy, F: Pairing<V>> Follow<DistinctPairs<V, B, F>>
@@ -96,5 +100,6 @@ impl<V: Token, B: Start<V> + Copy, F: Pairing<V>> Follow<DistinctPairs<V, B, F>>
         Some(KeyedItems::new(self.alloc))
     }
 
-    ghost alone_bare = { λ s ps e. no_pairs (pair_size F.word_of F.value_of ⟦<WordText as Token>⟧.value_size V.value_size) ps e };
+    ghost alone_bare = { λ s ps e. no_pairs (pair_size F.word_of F.value_of ⟦<WordText as Token>⟧.value_size
+        V.value_size) ps e };
 }

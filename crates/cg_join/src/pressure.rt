@@ -17,7 +17,8 @@ pub type Averages = Sequence<
     >,
 >;
 
-/// ` avg10=`, ` avg60=`, ` avg300=`, each before a percentage of at most 999.99, and ` total=` before a number (psi.rst).
+/// ` avg10=`, ` avg60=`, ` avg300=`, each before a percentage of at most 999.99, and ` total=` before a number
+/// (psi.rst).
 pub fn averages() -> Averages
     ensures spells { Spells ⟦<Averages as Token>⟧.means result AreAverages }
     ensures size { ⟦<Averages as Token>⟧.size result ≡ 0 }

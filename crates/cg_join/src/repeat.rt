@@ -41,13 +41,14 @@ impl<T: Token, S: Start<T>> Repeat<T, S> {
         }
     }
 
-    /// Takes the item with which the bytes begin and the separator after it, or nothing, which it may do with any item. Answers
-    /// how many bytes it took.
+    /// Takes the item with which the bytes begin and the separator after it, or nothing, which it may do with any item.
+    /// Answers how many bytes it took.
     fn take_item(&mut self, bytes: &[u8]) -> usize
         ensures within { result ≤ length bytes.now }
         ensures follows { FollowsRun ⟦<Repeat<T, S> as Token>⟧.means self.old (take result bytes.now) self.new }
         ensures size { ⟦<Repeat<T, S> as Token>⟧.size self.new ≤ ⟦<Repeat<T, S> as Token>⟧.size self.old + result }
-        ensures same_size { result ≡ 0 → ⟦<Repeat<T, S> as Token>⟧.size self.new ≡ ⟦<Repeat<T, S> as Token>⟧.size self.old }
+        ensures same_size { result ≡ 0 → ⟦<Repeat<T, S> as Token>⟧.size self.new ≡
+            ⟦<Repeat<T, S> as Token>⟧.size self.old }
     {
         let (value, count) = match self.current.whole(bytes) {
             Some(found) => found,
@@ -69,7 +70,8 @@ impl<T: Token, S: Start<T>> Repeat<T, S> {
         ensures within { result ≤ length bytes.now }
         ensures follows { FollowsRun ⟦<Repeat<T, S> as Token>⟧.means self.old (take result bytes.now) self.new }
         ensures size { ⟦<Repeat<T, S> as Token>⟧.size self.new ≤ ⟦<Repeat<T, S> as Token>⟧.size self.old + result }
-        ensures same_size { result ≡ 0 → ⟦<Repeat<T, S> as Token>⟧.size self.new ≡ ⟦<Repeat<T, S> as Token>⟧.size self.old }
+        ensures same_size { result ≡ 0 → ⟦<Repeat<T, S> as Token>⟧.size self.new ≡
+            ⟦<Repeat<T, S> as Token>⟧.size self.old }
     {
         let mut used = 0;
         loop {
@@ -161,13 +163,17 @@ impl<T: Token, S: Start<T>> Token for Repeat<T, S> {
         held_in_joined::<T>(value.as_slice())
     }
 
-    ghost completes = { λ s. list_completes s.separator (T.means s.current) (S.texts s.start) s.items.items (T.completes s.current) };
+    ghost completes = { λ s. list_completes s.separator (T.means s.current) (S.texts s.start) s.items.items
+        (T.completes s.current) };
 
     ghost no_size = { λ e s. absurd (true_not_false e) };
 
-    ghost ends_is = { λ s. list_ends s.separator (T.means s.current) (S.texts s.start) s.items.items (T.ends s.current) (T.ends_is s.current) };
+    ghost ends_is = { λ s. list_ends s.separator (T.means s.current) (S.texts s.start) s.items.items (T.ends s.current)
+        (T.ends_is s.current) };
 
-    ghost one_value = { λ s. list_after_one s.separator (T.means s.current) (S.texts s.start) s.items.items s.stops s.starts (T.one_value s.current) (S.one_text s.start) };
+    ghost one_value = { λ s. list_after_one s.separator (T.means s.current) (S.texts s.start) s.items.items s.stops
+        s.starts (T.one_value s.current) (S.one_text s.start) };
 
-    ghost holds_bytes = { λ s rest all h. list_bytes (T.means s.current) (S.texts s.start) s.separator s.small (T.holds_bytes s.current) (S.text_bytes s.start) rest h.0 h.2 };
+    ghost holds_bytes = { λ s rest all h. list_bytes (T.means s.current) (S.texts s.start) s.separator s.small
+        (T.holds_bytes s.current) (S.text_bytes s.start) rest h.0 h.2 };
 }

@@ -6,7 +6,8 @@ ghost use Rattle.cg_text.specs.Texts.{Lacks};
 use cg_text::Token;
 use memchr::memchr;
 
-/// Takes bytes from the front of `bytes` at once, and the one after them by `step`. Answers how many it took, and whether
+/// Takes bytes from the front of `bytes` at once, and the one after them by `step`. Answers how many it took, and
+/// whether
 /// `step` took one.
 fn run_and_step<T: Token>(token: &mut T, bytes: &[u8]) -> (usize, bool)
     ensures within { result.0 ≤ length bytes.now }
@@ -26,8 +27,8 @@ fn run_and_step<T: Token>(token: &mut T, bytes: &[u8]) -> (usize, bool)
     }
 }
 
-/// Takes bytes from the front of `bytes` until one is refused or memory for it is, and answers how many: as many at once as
-/// the part at hand can take, and the byte between two parts by `step`.
+/// Takes bytes from the front of `bytes` until one is refused or memory for it is, and answers how many: as many at
+/// once as the part at hand can take, and the byte between two parts by `step`.
 pub fn run_parts<T: Token>(token: &mut T, bytes: &[u8]) -> usize
     ensures within { result ≤ length bytes.now }
     ensures follows { FollowsRun T.means token.old (take result bytes.now) token.new }

@@ -7,8 +7,8 @@ use cg_text::Token;
 
 /// A token of lines that takes one at once, with the byte after it.
 pub trait WholeLines: Token {
-    /// Takes the line, and the byte `end` after it, where no line is begun; or leaves the token as it is, which it may do with
-    /// any line. Answers whether it took them.
+    /// Takes the line, and the byte `end` after it, where no line is begun; or leaves the token as it is, which it may
+    /// do with any line. Answers whether it took them.
     fn take_line(&mut self, line: &[u8], end: u8) -> bool
         ensures taken { IsTrue result → FollowsRun Self.means self.old (line.now ++ end ∷ []) self.new }
         ensures left { IsFalse result → Same Self.means self.old self.new }

@@ -16,7 +16,6 @@ pub mod Lines
 pub mod LinesOfLaws
 pub mod LookUp
 pub mod LookUpLaws
-pub mod NextRowLaws
 pub mod Path
 pub mod PathLaws
 pub mod PlainWriteLaws
@@ -29,10 +28,6 @@ pub mod RawLines
 pub mod RawLinesLaws
 pub mod ReadLine
 pub mod Records
-pub mod RefusedPairLaws
-pub mod RefusedRowLaws
-pub mod RefusedWriteLaws
-pub mod RowBegins
 pub mod RowFacts
 pub mod RowLaws
 pub mod Rows

@@ -1,6 +1,5 @@
 -- Files by example: texts with their values, and the places where texts are refused.
-use Rattle.std.specs.Prelude.{◌≡◌, ◌⊎◌, ◌↔◌, ℕ, Bool, true, false, List, [], ◌∷◌, Some, None, codes}
-use Rattle.cg_text.specs.Texts.{Viable, Next, FirstBad}
+use Rattle.std.specs.Prelude.{◌≡◌, ℕ, Bool, true, false, List, [], ◌∷◌, Some, None, codes}
 use Rattle.cg_text.specs.declared.values.Amount.{Amount}
 use Rattle.cg_text.specs.declared.values.Amount.TheVariants as amount
 use Rattle.cg_text.specs.declared.values.Clamp.TheVariants as clamp
@@ -8,12 +7,11 @@ use Rattle.cg_text.specs.declared.values.Device.{Device}
 use Rattle.cg_text.specs.declared.values.Hundredths.{Hundredths}
 use Rattle.cg_text.specs.declared.values.Limit.{Limit}
 use Rattle.cg_text.specs.declared.values.Limit.TheVariants.{Max, At}
-use Rattle.cg_value.specs.Files.{FileText, File}
+use Rattle.cg_value.specs.Files.{FileText}
 use Rattle.cg_value.specs.LookUp.{amount_in, weight_in}
 use Rattle.cg_value.specs.Print.{print_of}
 use Rattle.cg_value.specs.Table.{read_form_of}
 use Rattle.cg_value.specs.declared.flat.FlatPair.{FlatPair}
-use Rattle.cg_value.specs.declared.profile.Profile.{Profile}
 use Rattle.cg_value.specs.declared.profile.Profile.TheVariants.{One, Two}
 use Rattle.cg_value.specs.declared.value.Averages.{Averages}
 use Rattle.cg_value.specs.declared.value.GroupMode.TheVariants as mode
@@ -26,23 +24,6 @@ use Rattle.cg_value.specs.declared.value.StatPair.{StatPair}
 use Rattle.cg_value.specs.declared.value.Value.{Value}
 use Rattle.cg_value.specs.declared.value.Value.TheVariants as value
 use Rattle.cg_value.specs.declared.value.WeightLine.{WeightLine}
-
--- The byte at this place is the first after which no file of the name begins so.
-abbrev pub RefusedAt : ℕ → Profile → List ℕ → List ℕ → Type 0
-RefusedAt place profile name text = FirstBad (File profile name) text place
-
--- No file of the name is this text.
-abbrev pub NoFile : Profile → List ℕ → List ℕ → Type 0
-NoFile profile name text = File profile name text → ⊥
-
--- The byte is one of these.
-abbrev pub IsOneOf : List ℕ → ℕ → Type 0
-IsOneOf [] b = ⊥
-IsOneOf (c ∷ cs) b = (b ≡ c) ⊎ IsOneOf cs b
-
--- After the bytes in front these may come next in a file of the name, and no others.
-abbrev pub MayFollow : Profile → List ℕ → List ℕ → List ℕ → Type 0
-MayFollow profile name front bytes = (b : ℕ) → Next (File profile name) front b ↔ IsOneOf bytes b
 
 -- ---- Parts of values
 
@@ -206,94 +187,3 @@ HighByte = FileText One (codes "x") (value.Raw ((255 ∷ []) ∷ [])) (255 ∷ 1
 
 abbrev pub NotReadable : Type 0
 NotReadable = read_form_of One (codes "cgroup.kill") ≡ None
-
--- ---- Refused
-
-abbrev pub WeightAbove : Type 0
-WeightAbove = RefusedAt 4 One (codes "cpu.weight") (codes "10001\n")
-
-abbrev pub LeadingZero : Type 0
-LeadingZero = RefusedAt 1 One (codes "cpu.weight") (codes "007\n")
-
-abbrev pub NoDigit : Type 0
-NoDigit = RefusedAt 0 One (codes "cpu.weight") (codes "\n")
-
-abbrev pub SecondLine : Type 0
-SecondLine = RefusedAt 2 One (codes "cpu.weight") (codes "1\n1\n")
-
-abbrev pub NoBytes : Type 0
-NoBytes = NoFile One (codes "cpu.weight") (codes "")
-
-abbrev pub NumberAbove : Type 0
-NumberAbove = RefusedAt 19 One (codes "memory.current") (codes "18446744073709551616\n")
-
-abbrev pub ClampAbove : Type 0
-ClampAbove = RefusedAt 5 One (codes "cpu.uclamp.min") (codes "100.01\n")
-
-abbrev pub AdjacentRanges : Type 0
-AdjacentRanges = RefusedAt 5 One (codes "cpuset.cpus") (codes "0-3,4\n")
-
-abbrev pub CommaAtEnd : Type 0
-CommaAtEnd = RefusedAt 5 One (codes "cpuset.cpus") (codes "65534,\n")
-
-abbrev pub DashAtEnd : Type 0
-DashAtEnd = RefusedAt 5 One (codes "cpuset.cpus") (codes "65535-\n")
-
-abbrev pub CommaAtLaterEnd : Type 0
-CommaAtLaterEnd = RefusedAt 7 Two (codes "cpuset.cpus") (codes "1048574,\n")
-
-abbrev pub DashBeforeLaterEnd : Type 0
-DashBeforeLaterEnd = Viable (File Two (codes "cpuset.cpus")) (codes "65535-")
-
-abbrev pub RepeatedWord : Type 0
-RepeatedWord = RefusedAt 7 One (codes "cgroup.controllers") (codes "cpu cpu\n")
-
-abbrev pub SpaceAtEnd : Type 0
-SpaceAtEnd = RefusedAt 4 One (codes "cgroup.controllers") (codes "cpu \n")
-
-abbrev pub NoDefault : Type 0
-NoDefault = RefusedAt 0 One (codes "io.weight") (codes "8:16 200\n")
-
-abbrev pub InvalidMember : Type 0
-InvalidMember = RefusedAt 6 One (codes "cpuset.cpus.partition") (codes "member invalid\n")
-
-abbrev pub AfterFull : Type 0
-AfterFull = RefusedAt 47 One (codes "cpu.pressure") (codes "full avg10=0.00 avg60=0.00 avg300=0.00 total=0\ns")
-
-abbrev pub RepeatedKey : Type 0
-RepeatedKey = RefusedAt 11 One (codes "memory.stat") (codes "anon 1\nanon 2\n")
-
-abbrev pub RepeatedSubKey : Type 0
-RepeatedSubKey = RefusedAt 19 One (codes "io.stat") (codes "8:0 rbytes=1 rbytes=2\n")
-
-abbrev pub LargeAmount : Type 0
-LargeAmount = RefusedAt 16 One (codes "io.stat") (codes "8:0 x=1000000000.\n")
-
-abbrev pub TwoSpacesAtEnd : Type 0
-TwoSpacesAtEnd = RefusedAt 5 One (codes "io.stat") (codes "8:0  \n")
-
-abbrev pub SpaceAfterPair : Type 0
-SpaceAfterPair = RefusedAt 13 One (codes "io.stat") (codes "8:0 rbytes=1 \n")
-
-abbrev pub LimitsOutOfOrder : Type 0
-LimitsOutOfOrder = RefusedAt 5 One (codes "io.max") (codes "8:16 wbps=max rbps=2097152 riops=max wiops=120\n")
-
-abbrev pub RepeatedNestedKey : Type 0
-RepeatedNestedKey = RefusedAt 12 Two (codes "memory.numa_stat") (codes "anon N0=1 N0=2\n")
-
--- ---- What may follow
-
-abbrev pub AfterLastNumber : Type 0
-AfterLastNumber = MayFollow One (codes "cpuset.cpus") (codes "65534") (codes "-\n")
-
-abbrev pub AfterLastComma : Type 0
-AfterLastComma = MayFollow One (codes "cpuset.cpus") (codes "65533,") (codes "6")
-
-abbrev pub AfterDash : Type 0
-AfterDash = MayFollow One (codes "cpuset.cpus") (codes "3-") (codes "123456789")
-
-abbrev pub AfterLaterNumber : Type 0
-AfterLaterNumber = MayFollow Two (codes "cpuset.cpus") (codes "65534") (codes "0123456789,-\n")
-
-abbrev pub AfterLaterComma : Type 0
-AfterLaterComma = MayFollow Two (codes "cpuset.cpus") (codes "65533,") (codes "123456789")

@@ -1,25 +1,15 @@
 -- Writes by example: texts with their settings, the canonical texts of these, and the places where texts are refused.
-use Rattle.std.specs.Prelude.{◌≡◌, ◌↔◌, ℕ, Bool, true, false, negsuc, List, [], ◌∷◌, Some, None, codes}
-use Rattle.cg_text.specs.Texts.{Next, FirstBad}
+use Rattle.std.specs.Prelude.{◌≡◌, ℕ, Bool, true, false, negsuc, List, [], ◌∷◌, Some, None, codes}
 use Rattle.cg_text.specs.declared.values.Clamp.TheVariants as clamp
 use Rattle.cg_text.specs.declared.values.Limit.TheVariants.{Max, At}
 use Rattle.cg_value.specs.Print.{print_setting_of}
-use Rattle.cg_value.specs.Rows.{device, hundredths, IsOneOf}
-use Rattle.cg_value.specs.Settings.{SettingText, Write}
+use Rattle.cg_value.specs.Rows.{device, hundredths}
+use Rattle.cg_value.specs.Settings.{SettingText}
 use Rattle.cg_value.specs.Table.{write_form_of}
-use Rattle.cg_value.specs.declared.profile.Profile.{Profile}
 use Rattle.cg_value.specs.declared.profile.Profile.TheVariants.{One}
 use Rattle.cg_value.specs.declared.setting.Setting.{Setting}
 use Rattle.cg_value.specs.declared.setting.Setting.TheVariants as setting
 use Rattle.cg_value.specs.declared.setting.Toggle.{Toggle}
-
--- The byte at this place is the first after which no write of a file of the name begins so.
-abbrev pub WriteRefusedAt : ℕ → Profile → List ℕ → List ℕ → Type 0
-WriteRefusedAt place profile name text = FirstBad (Write profile name) text place
-
--- After the bytes in front these may come next in a write of a file of the name, and no others.
-abbrev pub WriteMayFollow : Profile → List ℕ → List ℕ → List ℕ → Type 0
-WriteMayFollow profile name front bytes = (b : ℕ) → Next (Write profile name) front b ↔ IsOneOf bytes b
 
 abbrev pub toggle : Bool → List ℕ → Toggle
 toggle on name = record { on = on; name = name }
@@ -132,58 +122,3 @@ TogglesPrint = print_setting_of repeated_toggles ≡ codes "+cpu -io +cpu\n"
 
 abbrev pub NotWritable : Type 0
 NotWritable = write_form_of One (codes "memory.stat") ≡ None
-
--- ---- Refused
-
-abbrev pub NiceBelow : Type 0
-NiceBelow = WriteRefusedAt 2 One (codes "cpu.weight.nice") (codes "-21\n")
-
-abbrev pub NegativeZero : Type 0
-NegativeZero = WriteRefusedAt 1 One (codes "cpu.weight.nice") (codes "-0\n")
-
-abbrev pub NoKill : Type 0
-NoKill = WriteRefusedAt 0 One (codes "cgroup.kill") (codes "0\n")
-
-abbrev pub DotAtEnd : Type 0
-DotAtEnd = WriteRefusedAt 4 One (codes "cpu.uclamp.min") (codes "100.\n")
-
-abbrev pub ShortQuota : Type 0
-ShortQuota = WriteRefusedAt 3 One (codes "cpu.max") (codes "500\n")
-
-abbrev pub LongPeriod : Type 0
-LongPeriod = WriteRefusedAt 11 One (codes "cpu.max") (codes "1000 1000001\n")
-
-abbrev pub LargeSwappiness : Type 0
-LargeSwappiness = WriteRefusedAt 16 One (codes "memory.reclaim") (codes "1G swappiness=201\n")
-
-abbrev pub LargeSize : Type 0
-LargeSize = WriteRefusedAt 2 One (codes "memory.max") (codes "16E\n")
-
-abbrev pub ShortWindow : Type 0
-ShortWindow = WriteRefusedAt 13 One (codes "cpu.pressure") (codes "some 9999999 2\n")
-
-abbrev pub LargeMajor : Type 0
-LargeMajor = WriteRefusedAt 4 One (codes "io.weight") (codes "4096:\n")
-
-abbrev pub LargeWeight : Type 0
-LargeWeight = WriteRefusedAt 4 One (codes "io.weight") (codes "10001\n")
-
-abbrev pub ZeroWeight : Type 0
-ZeroWeight = WriteRefusedAt 1 One (codes "io.weight") (codes "0\n")
-
-abbrev pub RepeatedLimit : Type 0
-RepeatedLimit = WriteRefusedAt 13 One (codes "io.max") (codes "8:16 rbps=1 rb\n")
-
-abbrev pub NoToggle : Type 0
-NoToggle = WriteRefusedAt 0 One (codes "cgroup.subtree_control") (codes "\n")
-
--- ---- What may follow
-
-abbrev pub AfterMax : Type 0
-AfterMax = WriteMayFollow One (codes "cpu.max") (codes "max") (codes " \n")
-
-abbrev pub AfterThousand : Type 0
-AfterThousand = WriteMayFollow One (codes "cpu.weight") (codes "1000") (codes "0\n")
-
-abbrev pub AfterStall : Type 0
-AfterStall = WriteMayFollow One (codes "cpu.pressure") (codes "some 9999999 ") (codes "19")

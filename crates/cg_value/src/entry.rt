@@ -15,8 +15,8 @@ use std::alloc::Global;
 use std::marker::Model;
 use thiserror::Error;
 
-/// A path, and what the file there holds: a value that fits the kind of the path's name in the profile with which it was
-/// made, and that has at least one line.
+/// A path, and what the file there holds: a value that fits the kind of the path's name in the profile with which it
+/// was made, and that has at least one line.
 #[derive(Debug, Drop)]
 pub struct Entry {
     path: Vec<u8>,
@@ -60,7 +60,8 @@ pub struct EntryRefused {
 
 /// Why the path and the value make no entry, if so.
 fn entry_fault(profile: Profile, path: &[u8], value: &Value) -> Option<EntryFault>
-    ensures { MatchOption result (IsEntry profile path.now value.now) (λ why. IsEntryFault profile path.now value.now why) }
+    ensures { MatchOption result (IsEntry profile path.now value.now)
+        (λ why. IsEntryFault profile path.now value.now why) }
 {
     if !is_path(path) {
         return Some(EntryFault::BadPath);
@@ -82,7 +83,8 @@ impl Entry {
     /// The entry of the path and the value. It takes no memory.
     pub fn new(profile: Profile, path: Vec<u8>, value: Value) -> Result<Entry, EntryRefused>
         ensures ok { IfOk result (λ e. (e.path ≡ path.items) × (e.value ≡ value) × IsEntry profile path.items value) }
-        ensures err { IfErr result (λ r. (r.path.items ≡ path.items) × (r.value ≡ value) × IsEntryFault profile path.items value r.why) }
+        ensures err { IfErr result (λ r. (r.path.items ≡ path.items) × (r.value ≡ value) ×
+            IsEntryFault profile path.items value r.why) }
     {
         match entry_fault(profile, path.as_slice(), &value) {
             Some(why) => Err(EntryRefused { why, path, value }),

@@ -69,7 +69,8 @@ fn are_pressure(some: &Option<Averages>, full: &Option<Averages>) -> bool
 }
 
 impl Value {
-    /// Whether a file of this kind can hold the value: it has the kind's variant, and some lines spell it. It takes no memory.
+    /// Whether a file of this kind can hold the value: it has the kind's variant, and some lines spell it. It takes no
+    /// memory.
     #[tactic(auto, using(crate::specs::FitsLaws::fits_laws))]
     pub fn fits(&self, kind: ReadKind) -> bool
         ensures { IsTrue result ↔ Fits kind self.now }

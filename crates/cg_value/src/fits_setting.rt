@@ -1,4 +1,5 @@
-//! Which kinds of files take a setting (cgroup-v2.rst, "Interface Files"; psi.rst, "Monitoring for pressure thresholds").
+//! Which kinds of files take a setting (cgroup-v2.rst, "Interface Files"; psi.rst, "Monitoring for pressure
+//! thresholds").
 ghost use Rattle.std.specs.Prelude.{◌≢◌, ◌≤ℤ◌, ◌↔◌, [], All, IsTrue};
 ghost use Rattle.cg_text.specs.Numbers.{IsSet};
 ghost use Rattle.cg_text.specs.Raw.{IsRawLine};

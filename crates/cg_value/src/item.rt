@@ -11,8 +11,8 @@ use crate::table::write_kind;
 use std::marker::Model;
 use thiserror::Error;
 
-/// A path, and what is to be written to the file there: a setting that fits the kind of the path's name in the profile with
-/// which it was made.
+/// A path, and what is to be written to the file there: a setting that fits the kind of the path's name in the profile
+/// with which it was made.
 #[derive(Debug, Drop)]
 pub struct PlanItem {
     path: Vec<u8>,
@@ -53,7 +53,8 @@ pub struct ItemRefused {
 
 /// Why the path and the setting make no item, if so.
 fn item_fault(profile: Profile, path: &[u8], setting: &Setting) -> Option<ItemFault>
-    ensures { MatchOption result (IsItem profile path.now setting.now) (λ why. IsItemFault profile path.now setting.now why) }
+    ensures { MatchOption result (IsItem profile path.now setting.now)
+        (λ why. IsItemFault profile path.now setting.now why) }
 {
     if !is_path(path) {
         return Some(ItemFault::BadPath);
@@ -71,8 +72,10 @@ fn item_fault(profile: Profile, path: &[u8], setting: &Setting) -> Option<ItemFa
 impl PlanItem {
     /// The item of the path and the setting. It takes no memory.
     pub fn new(profile: Profile, path: Vec<u8>, setting: Setting) -> Result<PlanItem, ItemRefused>
-        ensures ok { IfOk result (λ i. (i.path ≡ path.items) × (i.setting ≡ setting) × IsItem profile path.items setting) }
-        ensures err { IfErr result (λ r. (r.path.items ≡ path.items) × (r.setting ≡ setting) × IsItemFault profile path.items setting r.why) }
+        ensures ok { IfOk result (λ i. (i.path ≡ path.items) × (i.setting ≡ setting) ×
+            IsItem profile path.items setting) }
+        ensures err { IfErr result (λ r. (r.path.items ≡ path.items) × (r.setting ≡ setting) ×
+            IsItemFault profile path.items setting r.why) }
     {
         match item_fault(profile, path.as_slice(), &setting) {
             Some(why) => Err(ItemRefused { why, path, setting }),

@@ -17,16 +17,17 @@ pub fn print_in_grammar()
     ensures { PrintInGrammar }
 {}
 
-/// A file of a kind of the file table is the canonical text of the value that it has. So printing what was read gives the
-/// same text again, and a value has one text. Only no words have another text as well, that of no bytes.
+/// A file of a kind of the file table is the canonical text of the value that it has. So printing what was read gives
+/// the same text again, and a value has one text. Only no words have another text as well, that of no bytes.
 pub fn text_is_print()
     ensures printed { TextIsPrint }
     ensures one { OneReadText }
     ensures no_words { KindText WordsForm (Words []) [] }
 {}
 
-/// A file of any kind is whole lines, each of bytes with no NUL and a newline at its end. And it can end after each of its
-/// lines: where some file of a kind begins with bytes of which the last is a newline, these bytes are a file of the kind.
+/// A file of any kind is whole lines, each of bytes with no NUL and a newline at its end. And it can end after each of
+/// its lines: where some file of a kind begins with bytes of which the last is a newline, these bytes are a file of the
+/// kind.
 pub fn whole_lines()
     ensures lines { FileLines }
     ensures ends { WholeLines }

@@ -51,7 +51,8 @@ impl Value {
         }
     }
 
-    /// What the device did, from its first line that has the sub-key (cgroup-v2.rst, io.stat). A value of another kind has none. It takes no memory.
+    /// What the device did, from its first line that has the sub-key (cgroup-v2.rst, io.stat). A value of another kind
+    /// has none. It takes no memory.
     pub fn amount_of(&self, device: Device, key: &[u8]) -> Option<Amount>
         ensures { result ≡ amount_in self.now device key.now }
     {
@@ -61,7 +62,8 @@ impl Value {
         }
     }
 
-    /// The weight of the device: of its first line, else the default (cgroup-v2.rst, io.weight). A value of another kind has none. It takes no memory.
+    /// The weight of the device: of its first line, else the default (cgroup-v2.rst, io.weight). A value of another
+    /// kind has none. It takes no memory.
     pub fn weight_of(&self, device: Device) -> Option<u64>
         ensures { result ≡ weight_in self.now device }
     {

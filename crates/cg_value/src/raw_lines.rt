@@ -35,7 +35,8 @@ fn has_nul(text: &[u8]) -> bool
 
 /// What stands before the first newline of a text, and what stands behind it.
 fn first_line(text: &[u8]) -> Option<(&[u8], &[u8])>
-    ensures { MatchOption result (Lacks 10 text.now) (λ cut. (text.now ≡ cut.0.now ++ 10 ∷ cut.1.now) × Lacks 10 cut.0.now) }
+    ensures { MatchOption result (Lacks 10 text.now) (λ cut. (text.now ≡ cut.0.now ++ 10 ∷ cut.1.now) ×
+        Lacks 10 cut.0.now) }
 {
     match memchr(b'\n', text) {
         Some(place) => {
@@ -46,8 +47,8 @@ fn first_line(text: &[u8]) -> Option<(&[u8], &[u8])>
     }
 }
 
-/// Lines of bytes, in order. They lie in one text, each with its newline, so that many short lines take no more memory than
-/// their bytes. Contracts see the list of the lines.
+/// Lines of bytes, in order. They lie in one text, each with its newline, so that many short lines take no more memory
+/// than their bytes. Contracts see the list of the lines.
 #[derive(Debug, Drop)]
 pub struct RawLines {
     text: Vec<u8>,

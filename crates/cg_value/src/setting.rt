@@ -16,7 +16,8 @@ pub enum Setting {
     Clamp(Clamp),
     /// The group becomes threaded.
     Threaded,
-    /// Controllers that are enabled and disabled for the groups below, in order; the last toggle of a name is effective.
+    /// Controllers that are enabled and disabled for the groups below, in order; the last toggle of a name is
+    /// effective.
     Controllers(Items<Toggle>),
     /// How much processor time a group may use in each period, in microseconds. Without a period the present one stays.
     CpuMax {

@@ -432,8 +432,8 @@ fn guess(name: &[u8]) -> usize {
     PLACES[number % 256] as usize
 }
 
-/// What the only row of the name says, none where no row has it: that which stands at the place that is guessed, or else the
-/// one that is found by a search.
+/// What the only row of the name says, none where no row has it: that which stands at the place that is guessed, or
+/// else the one that is found by a search.
 #[inline(always)]
 fn find_row(rows: &[Row], name: &[u8]) -> Option<Forms>
     requires { stand_once rows.now ≡ true }
@@ -497,7 +497,8 @@ pub fn write_kind(profile: Profile, name: &[u8]) -> Result<WriteKind, NotWritabl
 
 /// The name of the row at this place, none where there is no row.
 fn name_at(rows: &[Row], place: usize) -> Option<&'static [u8]>
-    ensures { MatchOption result (length rows.now ≤ place) (λ name. (place < length rows.now) × (name.now ≡ slice_index_or (names_in rows.now) place [])) }
+    ensures { MatchOption result (length rows.now ≤ place) (λ name. (place < length rows.now) ×
+        (name.now ≡ slice_index_or (names_in rows.now) place [])) }
 {
     if place < rows.len() {
         Some(rows[place].name)
@@ -508,7 +509,8 @@ fn name_at(rows: &[Row], place: usize) -> Option<&'static [u8]>
 
 /// The name at this place of the file table, none after the last. It takes no memory.
 pub fn table_name(place: usize) -> Option<&'static [u8]>
-    ensures row { MatchOption result (length table_names ≤ place) (λ name. (place < length table_names) × (name.now ≡ table_name_at place)) }
+    ensures row { MatchOption result (length table_names ≤ place) (λ name. (place < length table_names) ×
+        (name.now ≡ table_name_at place)) }
     ensures short { IfSome result (λ name. length name.now ≤ longest table_names) }
 {
     name_at(&ROWS, place)
