@@ -5,7 +5,7 @@ use Rattle.cg_value.specs.Entry.{WritesAt}
 use Rattle.cg_value.specs.declared.profile.Profile.{Profile}
 use Rattle.cg_snap.specs.Plan.{Plan}
 use Rattle.cg_snap.specs.SnapStop.{IsNameless}
-use Rattle.cg_snap.specs.StreamStop.{IsLastWhy, IsStreamUnstopped, StreamStopOf}
+use Rattle.cg_snap.specs.StreamStop.{IsStreamUnstopped, StreamStopOf}
 use Rattle.cg_snap.specs.declared.limits.Limits.{Limits}
 use Rattle.cg_snap.specs.declared.stop.Stop.{Stop}
 use Rattle.cg_snap.specs.declared.stop.Why.{Why}
@@ -20,10 +20,6 @@ IsItemWhy profile begun byte NotReadable = ⊥
 IsItemWhy profile begun byte NotWritable = Lacks 0 begun × (byte ≡ 0) × (IsNameless begun → ⊥) × WritesAt profile begun None
 IsItemWhy profile begun byte NoMoreLines = ⊥
 IsItemWhy profile begun byte Line = (path : List ℕ) × (line : List ℕ) × (begun ≡ path ++ 0 ∷ line)
-
--- The rule that the last byte of the text breaks.
-abbrev pub IsPlanWhy : Profile → List ℕ → ℕ → Why → Type 0
-IsPlanWhy profile = IsLastWhy (IsItemWhy profile)
 
 -- No record of a plan is one too many.
 abbrev pub is_never_many : ℕ → List ℕ → ℕ → Type 0

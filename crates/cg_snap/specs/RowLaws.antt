@@ -1,9 +1,8 @@
 -- The examples of snapshots hold: each is spelled out in parts.
-use Rattle.std.proofs.Common.{◌≡◌, ◌≢◌, ℕ, ◌+◌, ◌≤◌, length, ap, ◌∙◌, inl, inr, Bool, true, false, not, nat_eq, nat_lt, nat_le, ◌&&◌, List, [], ◌∷◌, ◌++◌, Some, codes, refl, sym, append_assoc, arith, ltb-true, eq-eqb, All, zero, suc}
+use Rattle.std.proofs.Common.{◌≡◌, ◌≢◌, ℕ, ◌+◌, ◌≤◌, length, ap, ◌∙◌, inl, inr, Bool, true, false, not, nat_eq, nat_lt, nat_le, ◌&&◌, List, [], ◌∷◌, ◌++◌, Some, codes, refl, sym, arith, ltb-true, eq-eqb, All, zero, suc}
 use Rattle.std.proofs.lemmas.Bool.{and_parts}
 use Rattle.std.specs.List.{AllByRecursion}
 use Rattle.cg_text.specs.Decimal.{IsDecimal}
-use Rattle.cg_text.specs.ListFacts.{push_one}
 use Rattle.cg_text.specs.Texts.{Lacks}
 use Rattle.cg_text.specs.declared.values.Limit.TheVariants.{Max}
 use Rattle.cg_value.specs.Entry.{EntryData, IsEntry, IsItem, IsPath, IsPathByte, ItemData, ReadsAt, WritesAt}
@@ -28,17 +27,14 @@ use Rattle.cg_value.specs.declared.value.Role.TheVariants as role
 use Rattle.cg_value.specs.declared.value.Value.{Value}
 use Rattle.cg_value.specs.declared.value.Value.TheVariants as value
 use Rattle.cg_file.specs.OneValueLaws.{one_value}
-use Rattle.cg_file.specs.WeightFileLaws.{not_empty}
 use Rattle.cg_line.specs.MadeLaws.{one_form}
-use Rattle.cg_snap.specs.Begun.{EndsRecord, IsBegun}
+use Rattle.cg_snap.specs.Begun.{IsBegun}
 use Rattle.cg_snap.specs.Closed.{Closed, IsHeldFor}
 use Rattle.cg_snap.specs.ClosedLaws.{begun_once, one_closing}
 use Rattle.cg_snap.specs.Rows.{at, NoEntry, LongerPath, TwoRecords, EqualPathsApart, RawAndReason, OpenPath, OtherPath, OneKeyHeld}
-use Rattle.cg_snap.specs.Rows.{NewlineInPath, EmptyPath, SlashAtEnd, NoReadForm, LineAfterTheLast, DigitOverRange, RecordOf19, RecordOf1, SecondRecord, FirstRecord}
 use Rattle.cg_snap.specs.Plan.{IsItemLine}
-use Rattle.cg_snap.specs.Rows.{EqualPaths, NoWriteForm, WholeRecord}
+use Rattle.cg_snap.specs.Rows.{EqualPaths, WholeRecord}
 use Rattle.cg_snap.specs.Snap.{AreEntryLines}
-use Rattle.cg_snap.specs.SnapStop.{IsNameless}
 
 -- ---- Bytes of one given text
 
@@ -359,84 +355,6 @@ one_key_most n held =
 pub one_key_held : OneKeyHeld
 one_key_held = ((one_key, [], 18, one_key_begun, (form.Flat, value.Flat (one_pair ∷ []), stat_reads, stat_lines, refl), omega arith), one_key_most)
 
--- ---- Which rule a byte breaks
-
-first_record : (begun : List ℕ) → Lacks 10 begun → IsBegun begun begun
-first_record begun h = record { front = []; split = refl; ended = inl refl; plain = h }
-
-ends : (begun : List ℕ) (byte : ℕ) → Lacks 10 begun → EndsRecord (begun ++ byte ∷ []) begun byte
-ends begun byte h = record { front = begun; whole = refl; begins = first_record begun h }
-
-pub newline_in_path : NewlineInPath
-newline_in_path = (codes "a", 10, ends (codes "a") 10 (lacks_tested 10 (codes "a") refl), (lacks_tested 0 (codes "a") refl, refl))
-
-pub empty_path : EmptyPath
-empty_path = ([], 0, ends [] 0 tt, (tt, refl, inl refl))
-
-pub slash_at_end : SlashAtEnd
-slash_at_end = (codes "a/", 0, ends (codes "a/") 0 (lacks_tested 10 (codes "a/") refl), (lacks_tested 0 (codes "a/") refl, refl, inr (codes "a", refl)))
-
-named : (front : List ℕ) (last : ℕ) → is_other 47 last ≡ true → IsNameless (front ++ last ∷ []) → ⊥
-named front last e (inl h) = not_empty front [] last h
-named front last e (inr h) = differs 47 last e (push_one front h.0 last 47 h.1).1
-
-pub no_read_form : NoReadForm
-unfolding read_form_of
-no_read_form = (
-  codes "cgroup.kill",
-  0,
-  ends (codes "cgroup.kill") 0 (lacks_tested 10 (codes "cgroup.kill") refl),
-  (lacks_tested 0 (codes "cgroup.kill") refl, refl, named (codes "cgroup.kil") 108 refl, record { name = codes "cgroup.kill"; name_is = name_tested (codes "cgroup.kill") refl; form_is = refl }),
-)
-
-later : (front begun : List ℕ) (byte : ℕ) → Lacks 10 begun → EndsRecord ((front ++ 10 ∷ []) ++ (begun ++ byte ∷ [])) begun byte
-later front begun byte h = record {
-  front = (front ++ 10 ∷ []) ++ begun;
-  whole = sym (append_assoc (front ++ 10 ∷ []) begun (byte ∷ []));
-  begins = record { front = front ++ 10 ∷ []; split = refl; ended = inr (front, refl); plain = h };
-}
-
-pub line_after_the_last : LineAfterTheLast
-line_after_the_last = (
-  codes "cpu.max",
-  0,
-  later (at (codes "cpu.max") (codes "max 100000")) (codes "cpu.max") 0 (lacks_tested 10 (codes "cpu.max") refl),
-  (lacks_tested 0 (codes "cpu.max") refl, refl, named (codes "cpu.ma") 120 refl, (form.CpuMax, max_reads)),
-)
-
-pub digit_over_range : DigitOverRange
-digit_over_range = (
-  at (codes "a/cpu.weight") (codes "1000"),
-  49,
-  ends (at (codes "a/cpu.weight") (codes "1000")) 49 (lacks_tested 10 (at (codes "a/cpu.weight") (codes "1000")) refl),
-  (codes "a/cpu.weight", codes "1000", refl),
-)
-
--- ---- Limits
-
-pub record_of_19 : RecordOf19
-record_of_19 = (at (codes "a/cpu.weight") (codes "10000"), 10, ends (at (codes "a/cpu.weight") (codes "10000")) 10 (lacks_tested 10 (at (codes "a/cpu.weight") (codes "10000")) refl), omega arith)
-
-pub record_of_1 : RecordOf1
-record_of_1 = ([], 120, ends [] 120 tt, omega arith)
-
-pub second_record : SecondRecord
-second_record = record {
-  es = [];
-  given = [];
-  path = codes "p/cgroup.procs";
-  lines = codes "1" ∷ [];
-  whole = refl;
-  entries = refl;
-  good = below_path;
-  other = tt;
-  plain = one_lacks (codes "1") (lacks_tested 10 (codes "1") refl);
-  many = omega arith;
-}
-
-pub first_record_of_none : FirstRecord
-first_record_of_none = record { es = []; given = []; path = codes "x"; lines = []; whole = refl; entries = refl; good = path_tested [] 120 refl refl; other = tt; plain = tt; many = omega arith }
-
 -- ---- Plans
 
 idle_writes : WritesAt One (codes "cpu.idle") (Some (write.Number 0 1))
@@ -478,13 +396,4 @@ whole_record = (
     whole = (codes "0", [], idle_written 0 48 refl, refl, refl);
     plain = lacks_tested 10 (at (codes "cpu.idle") []) refl;
   },
-)
-
-pub no_write_form : NoWriteForm
-unfolding write_form_of
-no_write_form = (
-  codes "cpu.stat",
-  0,
-  ends (codes "cpu.stat") 0 (lacks_tested 10 (codes "cpu.stat") refl),
-  (lacks_tested 0 (codes "cpu.stat") refl, refl, named (codes "cpu.sta") 116 refl, record { name = codes "cpu.stat"; name_is = name_tested (codes "cpu.stat") refl; form_is = refl }),
 )

@@ -1,4 +1,4 @@
--- Snapshots and plans by example: texts with their entries or items, what some bytes close, which rule a byte breaks, and limits.
+-- Snapshots and plans by example: texts with their entries or items, and what some bytes close.
 use Rattle.std.specs.Prelude.{◌≡◌, ℕ, ◌≤◌, List, [], ◌∷◌, ◌++◌, false, Some, codes}
 use Rattle.std.specs.List.{AllZip}
 use Rattle.cg_text.specs.declared.values.Limit.TheVariants.{Max}
@@ -11,12 +11,7 @@ use Rattle.cg_value.specs.declared.value.Value.{Value}
 use Rattle.cg_value.specs.declared.value.Value.TheVariants as value
 use Rattle.cg_snap.specs.Closed.{Closed, IsHeldFor}
 use Rattle.cg_snap.specs.Plan.{ClosedPlan, PlanText}
-use Rattle.cg_snap.specs.PlanStop.{IsPlanWhy}
 use Rattle.cg_snap.specs.Snap.{SnapText}
-use Rattle.cg_snap.specs.SnapStop.{IsManyRecords, IsSnapWhy}
-use Rattle.cg_snap.specs.Begun.{IsLongRecord}
-use Rattle.cg_snap.specs.declared.stop.Why.{Why}
-use Rattle.cg_snap.specs.declared.stop.Why.TheVariants as why
 
 -- A path, a NUL and the text after it.
 abbrev pub at : List ℕ → List ℕ → List ℕ
@@ -33,10 +28,6 @@ Shows parts text = (es : List EntryData) × AllZip IsOf parts es × SnapText One
 -- The bytes close entries with these paths and values.
 abbrev pub Closes : List (List ℕ × Value) → List ℕ → Type 0
 Closes parts bytes = (es : List EntryData) × AllZip IsOf parts es × Closed One bytes es
-
--- The last byte of the text breaks this rule.
-abbrev pub Breaks : Why → List ℕ → Type 0
-Breaks rule text = IsSnapWhy One text 0 rule
 
 abbrev pub no_limit : List ℕ × Value
 no_limit = (codes "cpu.max", value.CpuMax Max 100000)
@@ -79,42 +70,6 @@ abbrev pub OneKeyHeld : Type 0
 OneKeyHeld = IsHeldFor One (at (codes "memory.stat") (codes "anon 1\n")) [] 18
     × ((n : ℕ) → IsHeldFor One (at (codes "memory.stat") (codes "anon 1\n")) [] n → n ≤ 18)
 
--- ---- Which rule a byte breaks
-
-abbrev pub NewlineInPath : Type 0
-NewlineInPath = Breaks why.PathByte (codes "a\n")
-
-abbrev pub EmptyPath : Type 0
-EmptyPath = Breaks why.NoName (at [] [])
-
-abbrev pub SlashAtEnd : Type 0
-SlashAtEnd = Breaks why.NoName (at (codes "a/") [])
-
-abbrev pub NoReadForm : Type 0
-NoReadForm = Breaks why.NotReadable (at (codes "cgroup.kill") [])
-
-abbrev pub LineAfterTheLast : Type 0
-LineAfterTheLast = Breaks why.NoMoreLines (at (codes "cpu.max") (codes "max 100000\n" ++ at (codes "cpu.max") []))
-
-abbrev pub DigitOverRange : Type 0
-DigitOverRange = Breaks why.Line (at (codes "a/cpu.weight") (codes "10001"))
-
--- ---- Limits
-
--- The 19th byte makes the record longer than 18 bytes, the first longer than none.
-abbrev pub RecordOf19 : Type 0
-RecordOf19 = IsLongRecord 18 (at (codes "a/cpu.weight") (codes "10000\n")) 18
-
-abbrev pub RecordOf1 : Type 0
-RecordOf1 = IsLongRecord 0 (codes "x") 0
-
--- The second record's NUL makes more records than 1, the first one's more than none.
-abbrev pub SecondRecord : Type 0
-SecondRecord = IsManyRecords One 1 (at (codes "p/cgroup.procs") (codes "1\n" ++ at (codes "p/cgroup.procs") [])) 31
-
-abbrev pub FirstRecord : Type 0
-FirstRecord = IsManyRecords One 0 (at (codes "x") []) 1
-
 -- ---- Plans
 
 -- The item has this path and this setting.
@@ -134,6 +89,3 @@ EqualPaths = Plans ((codes "cpu.idle", setting.Number 0) ∷ (codes "cpu.idle", 
 abbrev pub WholeRecord : Type 0
 WholeRecord = (items : List ItemData) × AllZip IsItemOf ((codes "cpu.idle", setting.Number 0) ∷ []) items
     × ClosedPlan One (at (codes "cpu.idle") (codes "0\ncpu.idle" ++ 0 ∷ [])) items
-
-abbrev pub NoWriteForm : Type 0
-NoWriteForm = IsPlanWhy One (at (codes "cpu.stat") []) 8 why.NotWritable

@@ -8,7 +8,7 @@ use Rattle.cg_value.specs.declared.kind.ReadForm.{ReadForm}
 use Rattle.cg_value.specs.declared.profile.Profile.{Profile}
 use Rattle.cg_snap.specs.Closed.{EndsOther}
 use Rattle.cg_snap.specs.Snap.{Snap, SnapText}
-use Rattle.cg_snap.specs.StreamStop.{IsLastWhy, IsStreamUnstopped, StreamStopOf}
+use Rattle.cg_snap.specs.StreamStop.{IsStreamUnstopped, StreamStopOf}
 use Rattle.cg_snap.specs.declared.limits.Limits.{Limits}
 use Rattle.cg_snap.specs.declared.stop.Stop.{Stop}
 use Rattle.cg_snap.specs.declared.stop.Why.{Why}
@@ -27,10 +27,6 @@ IsRecordWhy profile begun byte NotReadable = Lacks 0 begun × (byte ≡ 0) × (I
 IsRecordWhy profile begun byte NotWritable = ⊥
 IsRecordWhy profile begun byte NoMoreLines = Lacks 0 begun × (byte ≡ 0) × (IsNameless begun → ⊥) × ((kind : ReadForm) × ReadsAt profile begun (Some kind))
 IsRecordWhy profile begun byte Line = (path : List ℕ) × (line : List ℕ) × (begun ≡ path ++ 0 ∷ line)
-
--- The rule that the last byte of the text breaks.
-abbrev pub IsSnapWhy : Profile → List ℕ → ℕ → Why → Type 0
-IsSnapWhy profile = IsLastWhy (IsRecordWhy profile)
 
 -- The last byte is a NUL with which its entry has more records than the limit.
 pub record IsManyRecords (profile : Profile) (max : ℕ) (text : List ℕ) (place : ℕ) : Type 0 where
