@@ -65,4 +65,3 @@ partition_parts (Right v) = root_parts (root_role v.0) v.1
 
 abbrev pub partition_value : PartitionValue × Unit {0} → Value
 partition_value v = Partition ((partition_parts v.0).0) ((partition_parts v.0).1) ((partition_parts v.0).2)
-

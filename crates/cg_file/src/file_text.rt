@@ -54,6 +54,32 @@ pub enum FileText {
     Raw(RawFile),
 }
 
+/// The call with the token of the kind.
+macro_rules! with_text {
+    ($self:expr, $text:ident => $call:expr) => {
+        match $self {
+            FileText::Number($text) => $call,
+            FileText::Signed($text) => $call,
+            FileText::Limit($text) => $call,
+            FileText::Mode($text) => $call,
+            FileText::CpuMax($text) => $call,
+            FileText::Clamp($text) => $call,
+            FileText::Numbers($text) => $call,
+            FileText::Words($text) => $call,
+            FileText::Flat($text) => $call,
+            FileText::DeviceStats($text) => $call,
+            FileText::DeviceLimits($text) => $call,
+            FileText::DeviceWeights($text) => $call,
+            FileText::DeviceTargets($text) => $call,
+            FileText::Set($text) => $call,
+            FileText::Partition($text) => $call,
+            FileText::Pressure($text) => $call,
+            FileText::Nested($text) => $call,
+            FileText::Raw($text) => $call,
+        }
+    };
+}
+
 /// The text of a file of one of the kinds.
 fn text_of(alloc: Global, form: ReadForm) -> FileText
     requires { IsReadForm form }
@@ -102,26 +128,7 @@ impl FileText {
         ensures size { ⟦<FileText as Token>⟧.size self.new ≤ ⟦<FileText as Token>⟧.size self.old + result }
         ensures same_size { result ≡ 0 → ⟦<FileText as Token>⟧.size self.new ≡ ⟦<FileText as Token>⟧.size self.old }
     {
-        match self {
-            FileText::Number(text) => run_line(text, bytes),
-            FileText::Signed(text) => run_line(text, bytes),
-            FileText::Limit(text) => run_line(text, bytes),
-            FileText::Mode(text) => run_line(text, bytes),
-            FileText::CpuMax(text) => run_line(text, bytes),
-            FileText::Clamp(text) => run_line(text, bytes),
-            FileText::Numbers(text) => run_line(text, bytes),
-            FileText::Words(text) => run_line(text, bytes),
-            FileText::Flat(text) => run_line(text, bytes),
-            FileText::DeviceStats(text) => run_line(text, bytes),
-            FileText::DeviceLimits(text) => run_line(text, bytes),
-            FileText::DeviceWeights(text) => run_line(text, bytes),
-            FileText::DeviceTargets(text) => run_line(text, bytes),
-            FileText::Set(text) => run_line(text, bytes),
-            FileText::Partition(text) => run_line(text, bytes),
-            FileText::Pressure(text) => run_line(text, bytes),
-            FileText::Nested(text) => run_line(text, bytes),
-            FileText::Raw(text) => run_line(text, bytes),
-        }
+        with_text!(self, text => run_line(text, bytes))
     }
 }
 
@@ -212,118 +219,23 @@ impl Token for FileText {
     ghost holds_bytes = { file_holds_bytes };
 
     fn step(&mut self, byte: u8) -> Result<bool, OutOfMemory> {
-        match self {
-            FileText::Number(text) => text.step(byte),
-            FileText::Signed(text) => text.step(byte),
-            FileText::Limit(text) => text.step(byte),
-            FileText::Mode(text) => text.step(byte),
-            FileText::CpuMax(text) => text.step(byte),
-            FileText::Clamp(text) => text.step(byte),
-            FileText::Numbers(text) => text.step(byte),
-            FileText::Words(text) => text.step(byte),
-            FileText::Flat(text) => text.step(byte),
-            FileText::DeviceStats(text) => text.step(byte),
-            FileText::DeviceLimits(text) => text.step(byte),
-            FileText::DeviceWeights(text) => text.step(byte),
-            FileText::DeviceTargets(text) => text.step(byte),
-            FileText::Set(text) => text.step(byte),
-            FileText::Partition(text) => text.step(byte),
-            FileText::Pressure(text) => text.step(byte),
-            FileText::Nested(text) => text.step(byte),
-            FileText::Raw(text) => text.step(byte),
-        }
+        with_text!(self, text => text.step(byte))
     }
 
     fn allows(&self, byte: u8) -> bool {
-        match self {
-            FileText::Number(text) => text.allows(byte),
-            FileText::Signed(text) => text.allows(byte),
-            FileText::Limit(text) => text.allows(byte),
-            FileText::Mode(text) => text.allows(byte),
-            FileText::CpuMax(text) => text.allows(byte),
-            FileText::Clamp(text) => text.allows(byte),
-            FileText::Numbers(text) => text.allows(byte),
-            FileText::Words(text) => text.allows(byte),
-            FileText::Flat(text) => text.allows(byte),
-            FileText::DeviceStats(text) => text.allows(byte),
-            FileText::DeviceLimits(text) => text.allows(byte),
-            FileText::DeviceWeights(text) => text.allows(byte),
-            FileText::DeviceTargets(text) => text.allows(byte),
-            FileText::Set(text) => text.allows(byte),
-            FileText::Partition(text) => text.allows(byte),
-            FileText::Pressure(text) => text.allows(byte),
-            FileText::Nested(text) => text.allows(byte),
-            FileText::Raw(text) => text.allows(byte),
-        }
+        with_text!(self, text => text.allows(byte))
     }
 
     fn can_end(&self) -> bool {
-        match self {
-            FileText::Number(text) => text.can_end(),
-            FileText::Signed(text) => text.can_end(),
-            FileText::Limit(text) => text.can_end(),
-            FileText::Mode(text) => text.can_end(),
-            FileText::CpuMax(text) => text.can_end(),
-            FileText::Clamp(text) => text.can_end(),
-            FileText::Numbers(text) => text.can_end(),
-            FileText::Words(text) => text.can_end(),
-            FileText::Flat(text) => text.can_end(),
-            FileText::DeviceStats(text) => text.can_end(),
-            FileText::DeviceLimits(text) => text.can_end(),
-            FileText::DeviceWeights(text) => text.can_end(),
-            FileText::DeviceTargets(text) => text.can_end(),
-            FileText::Set(text) => text.can_end(),
-            FileText::Partition(text) => text.can_end(),
-            FileText::Pressure(text) => text.can_end(),
-            FileText::Nested(text) => text.can_end(),
-            FileText::Raw(text) => text.can_end(),
-        }
+        with_text!(self, text => text.can_end())
     }
 
     fn held(&self) -> u64 {
-        match self {
-            FileText::Number(text) => text.held(),
-            FileText::Signed(text) => text.held(),
-            FileText::Limit(text) => text.held(),
-            FileText::Mode(text) => text.held(),
-            FileText::CpuMax(text) => text.held(),
-            FileText::Clamp(text) => text.held(),
-            FileText::Numbers(text) => text.held(),
-            FileText::Words(text) => text.held(),
-            FileText::Flat(text) => text.held(),
-            FileText::DeviceStats(text) => text.held(),
-            FileText::DeviceLimits(text) => text.held(),
-            FileText::DeviceWeights(text) => text.held(),
-            FileText::DeviceTargets(text) => text.held(),
-            FileText::Set(text) => text.held(),
-            FileText::Partition(text) => text.held(),
-            FileText::Pressure(text) => text.held(),
-            FileText::Nested(text) => text.held(),
-            FileText::Raw(text) => text.held(),
-        }
+        with_text!(self, text => text.held())
     }
 
     fn take(self) -> Value {
-        match self {
-            FileText::Number(text) => text.take(),
-            FileText::Signed(text) => text.take(),
-            FileText::Limit(text) => text.take(),
-            FileText::Mode(text) => text.take(),
-            FileText::CpuMax(text) => text.take(),
-            FileText::Clamp(text) => text.take(),
-            FileText::Numbers(text) => text.take(),
-            FileText::Words(text) => text.take(),
-            FileText::Flat(text) => text.take(),
-            FileText::DeviceStats(text) => text.take(),
-            FileText::DeviceLimits(text) => text.take(),
-            FileText::DeviceWeights(text) => text.take(),
-            FileText::DeviceTargets(text) => text.take(),
-            FileText::Set(text) => text.take(),
-            FileText::Partition(text) => text.take(),
-            FileText::Pressure(text) => text.take(),
-            FileText::Nested(text) => text.take(),
-            FileText::Raw(text) => text.take(),
-        }
+        with_text!(self, text => text.take())
     }
 
     fn held_in(_value: &Value) -> u64 {

@@ -64,6 +64,30 @@ pub enum WriteText {
     Raw(RawWrite),
 }
 
+/// The call with the token of the kind.
+macro_rules! with_text {
+    ($self:expr, $text:ident => $call:expr) => {
+        match $self {
+            WriteText::Number($text) => $call,
+            WriteText::Signed($text) => $call,
+            WriteText::Limit($text) => $call,
+            WriteText::SizeLimit($text) => $call,
+            WriteText::Clamp($text) => $call,
+            WriteText::Mode($text) => $call,
+            WriteText::Controllers($text) => $call,
+            WriteText::CpuMax($text) => $call,
+            WriteText::Reclaim($text) => $call,
+            WriteText::DeviceLimits($text) => $call,
+            WriteText::DeviceWeight($text) => $call,
+            WriteText::DeviceTarget($text) => $call,
+            WriteText::Set($text) => $call,
+            WriteText::Role($text) => $call,
+            WriteText::Trigger($text) => $call,
+            WriteText::Raw($text) => $call,
+        }
+    };
+}
+
 /// The text of a write of one of the kinds.
 fn text_of(alloc: Global, form: WriteForm) -> WriteText
     requires { IsWriteForm form }
@@ -158,24 +182,7 @@ impl WriteText {
         ensures size { ⟦<WriteText as Token>⟧.size self.new ≤ ⟦<WriteText as Token>⟧.size self.old + result }
         ensures same_size { result ≡ 0 → ⟦<WriteText as Token>⟧.size self.new ≡ ⟦<WriteText as Token>⟧.size self.old }
     {
-        match self {
-            WriteText::Number(text) => run_line(text, bytes),
-            WriteText::Signed(text) => run_line(text, bytes),
-            WriteText::Limit(text) => run_line(text, bytes),
-            WriteText::SizeLimit(text) => run_line(text, bytes),
-            WriteText::Clamp(text) => run_line(text, bytes),
-            WriteText::Mode(text) => run_line(text, bytes),
-            WriteText::Controllers(text) => run_line(text, bytes),
-            WriteText::CpuMax(text) => run_line(text, bytes),
-            WriteText::Reclaim(text) => run_line(text, bytes),
-            WriteText::DeviceLimits(text) => run_line(text, bytes),
-            WriteText::DeviceWeight(text) => run_line(text, bytes),
-            WriteText::DeviceTarget(text) => run_line(text, bytes),
-            WriteText::Set(text) => run_line(text, bytes),
-            WriteText::Role(text) => run_line(text, bytes),
-            WriteText::Trigger(text) => run_line(text, bytes),
-            WriteText::Raw(text) => run_line(text, bytes),
-        }
+        with_text!(self, text => run_line(text, bytes))
     }
 }
 
@@ -207,108 +214,23 @@ impl Token for WriteText {
     ghost holds_bytes = { write_holds_bytes };
 
     fn step(&mut self, byte: u8) -> Result<bool, OutOfMemory> {
-        match self {
-            WriteText::Number(text) => text.step(byte),
-            WriteText::Signed(text) => text.step(byte),
-            WriteText::Limit(text) => text.step(byte),
-            WriteText::SizeLimit(text) => text.step(byte),
-            WriteText::Clamp(text) => text.step(byte),
-            WriteText::Mode(text) => text.step(byte),
-            WriteText::Controllers(text) => text.step(byte),
-            WriteText::CpuMax(text) => text.step(byte),
-            WriteText::Reclaim(text) => text.step(byte),
-            WriteText::DeviceLimits(text) => text.step(byte),
-            WriteText::DeviceWeight(text) => text.step(byte),
-            WriteText::DeviceTarget(text) => text.step(byte),
-            WriteText::Set(text) => text.step(byte),
-            WriteText::Role(text) => text.step(byte),
-            WriteText::Trigger(text) => text.step(byte),
-            WriteText::Raw(text) => text.step(byte),
-        }
+        with_text!(self, text => text.step(byte))
     }
 
     fn allows(&self, byte: u8) -> bool {
-        match self {
-            WriteText::Number(text) => text.allows(byte),
-            WriteText::Signed(text) => text.allows(byte),
-            WriteText::Limit(text) => text.allows(byte),
-            WriteText::SizeLimit(text) => text.allows(byte),
-            WriteText::Clamp(text) => text.allows(byte),
-            WriteText::Mode(text) => text.allows(byte),
-            WriteText::Controllers(text) => text.allows(byte),
-            WriteText::CpuMax(text) => text.allows(byte),
-            WriteText::Reclaim(text) => text.allows(byte),
-            WriteText::DeviceLimits(text) => text.allows(byte),
-            WriteText::DeviceWeight(text) => text.allows(byte),
-            WriteText::DeviceTarget(text) => text.allows(byte),
-            WriteText::Set(text) => text.allows(byte),
-            WriteText::Role(text) => text.allows(byte),
-            WriteText::Trigger(text) => text.allows(byte),
-            WriteText::Raw(text) => text.allows(byte),
-        }
+        with_text!(self, text => text.allows(byte))
     }
 
     fn can_end(&self) -> bool {
-        match self {
-            WriteText::Number(text) => text.can_end(),
-            WriteText::Signed(text) => text.can_end(),
-            WriteText::Limit(text) => text.can_end(),
-            WriteText::SizeLimit(text) => text.can_end(),
-            WriteText::Clamp(text) => text.can_end(),
-            WriteText::Mode(text) => text.can_end(),
-            WriteText::Controllers(text) => text.can_end(),
-            WriteText::CpuMax(text) => text.can_end(),
-            WriteText::Reclaim(text) => text.can_end(),
-            WriteText::DeviceLimits(text) => text.can_end(),
-            WriteText::DeviceWeight(text) => text.can_end(),
-            WriteText::DeviceTarget(text) => text.can_end(),
-            WriteText::Set(text) => text.can_end(),
-            WriteText::Role(text) => text.can_end(),
-            WriteText::Trigger(text) => text.can_end(),
-            WriteText::Raw(text) => text.can_end(),
-        }
+        with_text!(self, text => text.can_end())
     }
 
     fn held(&self) -> u64 {
-        match self {
-            WriteText::Number(text) => text.held(),
-            WriteText::Signed(text) => text.held(),
-            WriteText::Limit(text) => text.held(),
-            WriteText::SizeLimit(text) => text.held(),
-            WriteText::Clamp(text) => text.held(),
-            WriteText::Mode(text) => text.held(),
-            WriteText::Controllers(text) => text.held(),
-            WriteText::CpuMax(text) => text.held(),
-            WriteText::Reclaim(text) => text.held(),
-            WriteText::DeviceLimits(text) => text.held(),
-            WriteText::DeviceWeight(text) => text.held(),
-            WriteText::DeviceTarget(text) => text.held(),
-            WriteText::Set(text) => text.held(),
-            WriteText::Role(text) => text.held(),
-            WriteText::Trigger(text) => text.held(),
-            WriteText::Raw(text) => text.held(),
-        }
+        with_text!(self, text => text.held())
     }
 
     fn take(self) -> Setting {
-        match self {
-            WriteText::Number(text) => text.take(),
-            WriteText::Signed(text) => text.take(),
-            WriteText::Limit(text) => text.take(),
-            WriteText::SizeLimit(text) => text.take(),
-            WriteText::Clamp(text) => text.take(),
-            WriteText::Mode(text) => text.take(),
-            WriteText::Controllers(text) => text.take(),
-            WriteText::CpuMax(text) => text.take(),
-            WriteText::Reclaim(text) => text.take(),
-            WriteText::DeviceLimits(text) => text.take(),
-            WriteText::DeviceWeight(text) => text.take(),
-            WriteText::DeviceTarget(text) => text.take(),
-            WriteText::Set(text) => text.take(),
-            WriteText::Role(text) => text.take(),
-            WriteText::Trigger(text) => text.take(),
-            WriteText::Raw(text) => text.take(),
-        }
+        with_text!(self, text => text.take())
     }
 
     fn held_in(_value: &Setting) -> u64 {
