@@ -63,4 +63,3 @@ text_cases false bs = array_plain number_data (λ n. refl) bs
 
 pub text_plain : (bs : List ℕ) → IsPlain (text_data bs)
 text_plain bs = text_cases (is_utf8 bs) bs
-
