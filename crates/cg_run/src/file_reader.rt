@@ -1,9 +1,9 @@
 //! What reads one file, and keeps its text. A file is the canonical text of what it spells, so nothing is printed.
-ghost use Rattle.std.specs.Prelude.{◌≡◌, ◌<◌, ℕ, List, [], length, IfNone, IsTrue};
+ghost use Rattle.std.specs.Prelude.{◌≡◌, ◌↔◌, ◌<◌, ℕ, List, [], length, IfNone, IsTrue};
 ghost use Rattle.cg_value.specs.declared.kind.ReadForm.{ReadForm};
-ghost use Rattle.cg_line.specs.Reads.{Reads};
+ghost use Rattle.cg_line.specs.Reads.{Reads, held_by};
 ghost use Rattle.cg_line.specs.Runs.{RunStops};
-ghost use Rattle.cg_run.specs.FileReader.{HasLinesAlone};
+ghost use Rattle.cg_run.specs.FileReader.{lines_alone};
 
 use crate::text_reader::{TextReader, front_of};
 use cg_line::{PushFault, PushedRun, ValueReader};
@@ -29,7 +29,7 @@ pub(crate) struct FileReader {
 
 /// Whether the lines of the kind's files don't depend on one another.
 fn has_lines_alone(kind: ReadKind) -> bool
-    ensures { IsTrue result → HasLinesAlone kind }
+    ensures { result ≡ lines_alone kind }
 {
     match kind.form() {
         ReadForm::Numbers { lo: _, hi: _ } => true,
@@ -60,11 +60,11 @@ fn starved(reader: &ValueReader, bytes: &[u8]) -> PushedRun
 }
 
 impl FileReader {
-    ghost use Rattle.cg_run.specs.FileReader.{HasKept, IsLetGo};
+    ghost use Rattle.cg_run.specs.FileReader.{HasKept, IsDue, IsLetGo, IsSettled};
 
     /// A reader of a file of this kind, of which nothing was taken. It takes no memory.
     pub(crate) fn new(alloc: Global, kind: ReadKind) -> FileReader
-        ensures { HasKept result kind [] }
+        ensures { IsSettled result kind [] }
     {
         FileReader {
             alloc,
@@ -78,9 +78,10 @@ impl FileReader {
     /// Whether the reader is to be made anew: it took enough, and a line of a kind whose lines don't depend on one another has
     /// ended.
     fn is_due(&self) -> bool
-        ensures { IsTrue result → (kind : ReadForm) (taken : List ℕ) → HasKept self.now kind taken → IsLetGo kind taken }
+        ensures { (kind : ReadForm) (taken : List ℕ) → HasKept self.now kind taken → (IsTrue result ↔ IsDue self.now kind taken) }
     {
-        if self.text.len().saturating_sub(self.before) < ROOM {
+        let since = self.text.len().saturating_sub(self.before);
+        if since < ROOM {
             return false;
         }
         has_lines_alone(self.kind) && self.reader.can_finish()
@@ -90,7 +91,9 @@ impl FileReader {
     /// reader is cleared whenever a function that makes one is entered.
     #[inline(never)]
     fn renew(&mut self)
-        ensures { (kind : ReadForm) (taken : List ℕ) → HasKept self.old kind taken → IsLetGo kind taken → HasKept self.new kind taken }
+        ensures kept { (kind : ReadForm) (taken : List ℕ) → HasKept self.old kind taken → IsLetGo kind taken → HasKept self.new kind taken }
+        ensures all { (kind : ReadForm) (taken : List ℕ) → HasKept self.old kind taken → self.new.before ≡ length taken }
+        ensures none { held_by self.new.reader ≡ 0 }
     {
         self.before = self.text.len();
         self.reader = ValueReader::new(self.alloc, self.kind);
@@ -102,7 +105,7 @@ impl TextReader for FileReader {
 
     type Spelled = Value;
 
-    ghost use Rattle.cg_run.specs.FileReader.{HasKept, kept_viable};
+    ghost use Rattle.cg_run.specs.FileReader.{IsSettled, settled_viable};
     ghost use Rattle.cg_value.specs.Files.{KindText};
     ghost use Rattle.cg_value.specs.Print.{print_of};
 
@@ -110,9 +113,9 @@ impl TextReader for FileReader {
 
     ghost printed = { print_of };
 
-    ghost took = { HasKept };
+    ghost took = { IsSettled };
 
-    ghost viable = { kept_viable };
+    ghost viable = { settled_viable };
 
     fn take_run(&mut self, bytes: &[u8], room: u64) -> PushedRun {
         let front = front_of(bytes, room);
