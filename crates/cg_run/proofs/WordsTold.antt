@@ -1,7 +1,8 @@
 -- How faults are told.
-use Rattle.std.proofs.Common.{◌≡◌, ◌⊎◌, inl, inr, List, [], Option, Result, Ok, Err}
-use Rattle.std.specs.Prelude.{IfOk}
-use Rattle.clap.specs.Words.{Row, Text, Kinds as Errors, IsAmong}
+use Rattle.std.proofs.Common.{◌≡◌, ◌⊎◌, ◌<◌, inl, inr, List, [], length, Option, Result, Ok, Err, sym, subst, arith}
+use Rattle.std.specs.Prelude.{IfErr, IfOk}
+use Rattle.std.specs.declared.io.ErrorKind.{ErrorKind as IoKind}
+use Rattle.clap.specs.Words.{Row, Text, Kinds as Errors, IsAmong, fault_of, subcommand_of}
 use Rattle.clap.specs.declared.error.kind.ErrorKind.{ErrorKind}
 use Rattle.clap.specs.declared.error.kind.ErrorKind.TheVariants as errors
 use Rattle.cg_value.specs.declared.profile.Profile.{Profile}
@@ -9,7 +10,9 @@ use Rattle.cg_snap.specs.declared.limits.Limits.{Limits}
 use Rattle.cg_run.specs.declared.words.Command.{Command}
 use Rattle.cg_run.specs.declared.words.UsageFault.{UsageFault}
 use Rattle.cg_run.specs.declared.words.UsageFault.TheVariants.{Help, Bad, OutOfMemory}
-use Rattle.cg_run.specs.Words.{IsMade, IsRefusal, IsTold, IsToldOf}
+use Rattle.cg_run.specs.CommandLine.{cgfile_app}
+use Rattle.cg_run.specs.Program.{IsUnread, fault_text}
+use Rattle.cg_run.specs.Words.{Answers, IsMade, IsRefusal, IsTold, IsToldOf}
 
 pub ok_always : {X E : Type 0} (r : Result X E) (P : Type 0) → P → IfOk r (λ _. P)
 ok_always (Ok x) P p = p
@@ -32,3 +35,18 @@ error_told kind kinds sub (Help text) memory told (inr h) = (kind, h, told)
 error_told kind kinds sub Bad memory told (inl h) = let bad : Bad ≡ OutOfMemory = memory h in cc
 error_told kind kinds sub Bad memory told (inr h) = inl (kind, h, told)
 error_told kind kinds sub OutOfMemory memory told h = tt
+
+-- ---- A fault has a text
+
+told_says : (kinds : Errors) (sub : Option (Text × List Row)) (fault : UsageFault) → IsTold kinds sub fault → 0 < length (fault_text fault)
+told_says kinds sub (Help text) told = told.2.1
+told_says kinds sub Bad told = omega arith
+told_says kinds sub OutOfMemory told = omega arith
+
+pub answer_says : (words : List Text) (answer : Result (Profile × Command × Limits) UsageFault) → Answers words answer → IfErr answer (λ fault. 0 < length (fault_text fault))
+answer_says words (Ok asked_for) h = tt
+answer_says words (Err fault) h = told_says (fault_of (cgfile_app h.0) words) (subcommand_of (cgfile_app h.0) words) fault h.1.told
+
+pub unread_says : (kind : IoKind) (fault : UsageFault) → IsUnread kind fault → 0 < length (fault_text fault)
+unread_says kind fault (inl h) = subst (λ f. 0 < length (fault_text f)) (sym h.1) (omega arith)
+unread_says kind fault (inr h) = subst (λ f. 0 < length (fault_text f)) (sym h.1) (omega arith)

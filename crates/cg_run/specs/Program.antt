@@ -1,5 +1,5 @@
 -- What the program does with the words after its name: what it reads and writes, and its exit status.
-use Rattle.std.specs.Prelude.{◌≡◌, ◌≢◌, ◌⊎◌, ℕ, ◌+◌, ◌≤◌, Bool, true, List, length, take, map, codes, string_bytes, Option, Result, Ok, Err, String}
+use Rattle.std.specs.Prelude.{◌≡◌, ◌≢◌, ◌⊎◌, ℕ, ◌+◌, ◌≤◌, ◌<◌, Bool, true, List, length, take, map, codes, string_bytes, Option, Result, Ok, Err, String}
 use Rattle.std.specs.Borrow.{Bor}
 use Rattle.std.specs.Io.KnownBytes.{Appends, Keeps}
 use Rattle.std.specs.declared.alloc.Global.{Global}
@@ -50,9 +50,10 @@ module _ (coming left : Option (List ℕ)) (read_failed : Bool) (asked asks : �
     pub few_asks : asks ≤ asked + limits.max_stream + 2
     pub unasked : IsIdle profile command → asks ≡ asked
 
-  -- Nothing was run, and the text of the fault was written.
+  -- Nothing was run, and the text of the fault was written, which isn't empty.
   pub record DidTell (fault : UsageFault) (status : ℕ) : Type 0 where
     pub wrote : WroteText taken now write_failed (fault_text fault)
+    pub says : 0 < length (fault_text fault)
     pub status_is : status ≡ fault_status fault
     pub unread : Keeps coming left
     pub unasked : asks ≡ asked

@@ -1,5 +1,5 @@
 -- What the words of a command line ask for: what is made of `clap`'s own function of the words.
-use Rattle.std.specs.Prelude.{ℕ, ◌≡◌, ◌⊎◌, List, [], ◌∷◌, Option, Some, None, true, false, codes, unwrap_or, Bool, not, ◌||◌, ◌&&◌, nat_lt, length, if◌then◌else◌, ◌≢◌, IsSomeAnd, IfOk, IfErr, Result}
+use Rattle.std.specs.Prelude.{ℕ, ◌≡◌, ◌⊎◌, List, [], ◌∷◌, Option, Some, None, true, false, codes, unwrap_or, Bool, not, ◌||◌, ◌&&◌, nat_lt, length, string_bytes, if◌then◌else◌, ◌<◌, ◌≢◌, IsSomeAnd, IfOk, IfErr, Result}
 use Rattle.std.specs.Char.{digit_value}
 use Rattle.std.specs.List.{list_all}
 use Rattle.std.specs.Str.{bytes_eq}
@@ -111,9 +111,9 @@ IsRefusal sub fault = (fault ≡ OutOfMemory) ⊎ ((fault ≡ Bad) × IsUnwelcom
 
 -- ---- what the words ask for
 
--- how an error of `clap` is told
+-- how an error of `clap` is told: where help or the version is asked for, by a text that isn't empty
 abbrev pub IsToldOf : ErrorKind → UsageFault → Type 0
-IsToldOf kind (Help text) = (kind ≡ errors.DisplayHelp) ⊎ (kind ≡ errors.DisplayVersion)
+IsToldOf kind (Help text) = ((kind ≡ errors.DisplayHelp) ⊎ (kind ≡ errors.DisplayVersion)) × (0 < length (string_bytes text))
 IsToldOf kind Bad = (kind ≢ errors.DisplayHelp) × (kind ≢ errors.DisplayVersion) × (kind ≢ errors.OutOfMemory)
 IsToldOf kind OutOfMemory = Unit {0}
 

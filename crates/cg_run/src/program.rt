@@ -1,5 +1,5 @@
 //! The program: all that it does with the words after its name.
-ghost use Rattle.std.specs.Prelude.{◌≡◌, drop, false};
+ghost use Rattle.std.specs.Prelude.{◌≡◌, ◌<◌, drop, false, length, IfErr};
 ghost use Rattle.cg_run.specs.Program.{DidWords, IsAsked, IsUnread, WroteText, fault_status, fault_text};
 
 use crate::outcome::status;
@@ -38,7 +38,8 @@ fn asked(
     alloc: Global,
     words: Result<&[String], io::ErrorKind>,
 ) -> Result<(Profile, Command, Limits), UsageFault>
-    ensures { IsAsked words.entry result }
+    ensures asked { IsAsked words.entry result }
+    ensures says { IfErr result (λ fault. 0 < length (fault_text fault)) }
 {
     match words {
         Ok(words) => parse_words(alloc, words),

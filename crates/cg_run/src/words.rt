@@ -1,10 +1,11 @@
 //! What the words of a command line ask for.
-ghost use Rattle.std.specs.Prelude.{◌≡◌, ◌⊎◌, IfOk, IfErr, IfSome, Some, codes, false, is_some, string_bytes, true, map, []};
+ghost use Rattle.std.specs.Prelude.{◌≡◌, ◌<◌, ◌⊎◌, length, IfOk, IfErr, IfSome, Some, codes, false, is_some, string_bytes, true, map, []};
 ghost use Rattle.clap.specs.Words.{one_of, rows_of, found_of, first_of, takes, fault_of, kind_of, matches_of, subcommand_of, subcommand_rows_of};
 ghost use Rattle.cg_run.specs.CommandLine.{cgfile_app};
 ghost use Rattle.cg_run.specs.Words.{Answers, IsCommand, IsMade, IsRefusal, IsTold, IsToldOf, is_met, is_plain_word, is_welcome, is_word, limits_of, name_in, number_or, number_of, profile_named, wants_known};
 
 use crate::command_line::command_line;
+use crate::help;
 use crate::table_names::is_in_table;
 use cg_snap::Limits;
 use cg_value::Profile;
@@ -35,7 +36,7 @@ pub enum Command {
 /// Why the words of a command line give no command.
 #[derive(Debug, Drop, Error)]
 pub enum UsageFault {
-    /// They ask for help, or for the version: the text.
+    /// They ask for help, or for the version: the text, which isn't empty.
     #[error("{0}")]
     Help(String),
     /// They are no command line of this program.
@@ -175,6 +176,17 @@ fn profile_at(matches: &ArgMatches, given: Profile) -> Profile
     }
 }
 
+/// The text that `clap` has for the user. `clap` promises none, so where it is empty, what the program is stands for it.
+fn text_for_user(alloc: Global, error: &clap::Error) -> Result<String, AllocError>
+    ensures { IfOk result (λ text. 0 < length (string_bytes text)) }
+{
+    let text = error.to_string(alloc)?;
+    if text.is_empty() {
+        return String::from_str(alloc, help::ABOUT);
+    }
+    Ok(text)
+}
+
 /// What `clap` refused, as a fault of usage.
 fn refused(alloc: Global, error: clap::Error) -> UsageFault
     ensures memory { kind_of error ≡ ErrorKind.OutOfMemory → result ≡ UsageFault.OutOfMemory }
@@ -182,7 +194,7 @@ fn refused(alloc: Global, error: clap::Error) -> UsageFault
 {
     match error.kind() {
         ErrorKind::OutOfMemory => UsageFault::OutOfMemory,
-        ErrorKind::DisplayHelp | ErrorKind::DisplayVersion => match error.to_string(alloc) {
+        ErrorKind::DisplayHelp | ErrorKind::DisplayVersion => match text_for_user(alloc, &error) {
             Ok(text) => UsageFault::Help(text),
             Err(_) => UsageFault::OutOfMemory,
         },
