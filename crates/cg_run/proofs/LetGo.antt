@@ -249,9 +249,9 @@ run_settled old new kind taken bytes run step not_due h =
     let more = take run.used bytes in
     let after = run_kept old new kind taken bytes run step h.kept in
     let grown : since new (taken ++ more) ≡ since old taken ++ more =
-        ap (λ n. drop n (taken ++ more)) step.before ∙ drop-append-le old.before taken more (kept_before old kind taken h.kept) in
+    ap (λ n. drop n (taken ++ more)) step.before ∙ drop-append-le old.before taken more (kept_before old kind taken h.kept) in
     let fewer : lines_alone kind ≡ true → 16384 ≤ length (since old taken ++ more) → KindFile kind (since old taken ++ more) → ⊥ =
-        λ alone enough whole. not_due after.took (record { enough = subst (λ (t : List ℕ). 16384 ≤ length t) (sym grown) enough; alone = alone; whole = subst (KindFile kind) (sym grown) whole }) in
+    λ alone enough whole. not_due after.took (record { enough = subst (λ (t : List ℕ). 16384 ≤ length t) (sym grown) enough; alone = alone; whole = subst (KindFile kind) (sym grown) whole }) in
     record {
       took = record {
         kept = after.took;

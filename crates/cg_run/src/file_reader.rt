@@ -15,8 +15,9 @@ use std::alloc::Global;
 /// How many bytes at least are taken by one reader, before what they spell is let go of.
 const ROOM: usize = 16384;
 
-/// A reader of one file, and the bytes that it took. The value of the file is not wanted, so where lines don't depend on one
-/// another, the reader is made anew at the end of a line every now and then, and holds no more than the lines since then.
+/// A reader of one file, and the bytes that it took. The value of the file is not wanted, so where lines don't depend on
+/// one another, the reader is made anew at the end of a line every now and then, and holds no more than the lines since
+/// then.
 #[derive(Drop)]
 pub(crate) struct FileReader {
     alloc: Global,
@@ -44,7 +45,8 @@ fn has_lines_alone(kind: ReadKind) -> bool
 /// No byte is taken, since no memory is left to keep it; or since no file goes on with it, where that is so.
 fn starved(reader: &ValueReader, bytes: &[u8]) -> PushedRun
     requires { 0 < length bytes.now }
-    ensures stops { (kind : ReadForm) (taken : List ℕ) → Reads reader.now kind taken → RunStops kind taken bytes.now 0 result.fault }
+    ensures stops { (kind : ReadForm) (taken : List ℕ) → Reads reader.now kind taken →
+        RunStops kind taken bytes.now 0 result.fault }
     ensures none { result.used ≡ 0 }
     ensures goes_on { IfNone result.fault (0 < result.used) }
 {
@@ -75,10 +77,11 @@ impl FileReader {
         }
     }
 
-    /// Whether the reader is to be made anew: it took enough, and a line of a kind whose lines don't depend on one another has
-    /// ended.
+    /// Whether the reader is to be made anew: it took enough, and a line of a kind whose lines don't depend on one
+    /// another has ended.
     fn is_due(&self) -> bool
-        ensures { (kind : ReadForm) (taken : List ℕ) → HasKept self.now kind taken → (IsTrue result ↔ IsDue self.now kind taken) }
+        ensures { (kind : ReadForm) (taken : List ℕ) → HasKept self.now kind taken →
+            (IsTrue result ↔ IsDue self.now kind taken) }
     {
         let since = self.text.len().saturating_sub(self.before);
         if since < ROOM {
@@ -87,12 +90,14 @@ impl FileReader {
         has_lines_alone(self.kind) && self.reader.can_finish()
     }
 
-    /// Makes the reader anew, so that what the bytes spell is let go of. It is a function of its own, since the room for a new
-    /// reader is cleared whenever a function that makes one is entered.
+    /// Makes the reader anew, so that what the bytes spell is let go of. It is a function of its own, since the room for
+    /// a new reader is cleared whenever a function that makes one is entered.
     #[inline(never)]
     fn renew(&mut self)
-        ensures kept { (kind : ReadForm) (taken : List ℕ) → HasKept self.old kind taken → IsLetGo kind taken → HasKept self.new kind taken }
-        ensures all { (kind : ReadForm) (taken : List ℕ) → HasKept self.old kind taken → self.new.before ≡ length taken }
+        ensures kept { (kind : ReadForm) (taken : List ℕ) → HasKept self.old kind taken → IsLetGo kind taken →
+            HasKept self.new kind taken }
+        ensures all { (kind : ReadForm) (taken : List ℕ) → HasKept self.old kind taken →
+            self.new.before ≡ length taken }
         ensures none { held_by self.new.reader ≡ 0 }
     {
         self.before = self.text.len();

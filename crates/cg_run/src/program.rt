@@ -76,16 +76,18 @@ fn tell<W: Sink>(writer: &mut W, text: &[u8])
     let _ = write_text(writer, text);
 }
 
-/// Runs the program with the words after its name, or with why they can't be had. It reads from the source, writes to the
-/// sink, and answers the exit status.
+/// Runs the program with the words after its name, or with why they can't be had. It reads from the source, writes to
+/// the sink, and answers the exit status.
 pub fn run_words<R: Source, W: Sink>(
     alloc: Global,
     words: Result<&[String], io::ErrorKind>,
     reader: &mut R,
     writer: &mut W,
 ) -> u8
-    ensures { R.has_failed reader.old ≡ false → DidWords (R.coming reader.old) (R.coming reader.new) (R.has_failed reader.new)
-        (R.asks reader.old) (R.asks reader.new) (W.taken writer.old) (W.taken writer.new) (W.has_failed writer.new) words.entry result }
+    ensures { R.has_failed reader.old ≡ false →
+        DidWords (R.coming reader.old) (R.coming reader.new) (R.has_failed reader.new)
+        (R.asks reader.old) (R.asks reader.new)
+        (W.taken writer.old) (W.taken writer.new) (W.has_failed writer.new) words.entry result }
 {
     match asked(alloc, words) {
         Ok((profile, command, limits)) => {

@@ -176,7 +176,8 @@ fn profile_at(matches: &ArgMatches, given: Profile) -> Profile
     }
 }
 
-/// The text that `clap` has for the user. `clap` promises none, so where it is empty, what the program is stands for it.
+/// The text that `clap` has for the user. `clap` doesn't promise that it isn't empty: where it is, what the program is
+/// stands for it.
 fn text_for_user(alloc: Global, error: &clap::Error) -> Result<String, AllocError>
     ensures { IfOk result (λ text. 0 < length (string_bytes text)) }
 {

@@ -13,8 +13,7 @@ pub returns-then-has_lines_alone : goal.returns-then-has_lines_alone
 returns-then-has_lines_alone c kind taken h =
     let s = c.args.self.now in
     let same = kept_since s kind taken h in
-    let is = c.can_finish.ensures kind h.back h.reads in
-    (
+    let is = c.can_finish.ensures kind h.back h.reads in (
       λ holds. record {
         enough = omega (arith, length-drop s.before taken, ap length h.text, s.text.ok.0);
         alone = ap lines_alone (sym h.of_kind) ∙ sym c.has_lines_alone.ensures ∙ c.if-has_lines_alone.true;
@@ -24,11 +23,10 @@ returns-then-has_lines_alone c kind taken h =
     )
 
 pub returns-else-has_lines_alone : goal.returns-else-has_lines_alone
-returns-else-has_lines_alone c kind taken h =
-    (
-      λ holds. absurd (cc),
-      λ due.
-          let alone : c.has_lines_alone.result ≡ true = c.has_lines_alone.ensures ∙ ap lines_alone h.of_kind ∙ due.alone in
-          let lacks = c.if-has_lines_alone.false in
-          absurd (cc),
-    )
+returns-else-has_lines_alone c kind taken h = (
+  λ holds. absurd (cc),
+  λ due.
+      let alone : c.has_lines_alone.result ≡ true = c.has_lines_alone.ensures ∙ ap lines_alone h.of_kind ∙ due.alone in
+      let lacks = c.if-has_lines_alone.false in
+      absurd (cc),
+)

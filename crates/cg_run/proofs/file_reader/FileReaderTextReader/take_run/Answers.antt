@@ -30,8 +30,8 @@ returns-then-is_due-clause-taken c form taken h =
     subst (λ bytes. IsRunTaken (KindFile form) (IsSettled c.renew.new.self form) taken bytes c.push_run-run.result) c.front_of-front.ensures
     (run_renewed mid c.renew.new.self form taken front c.push_run-run.result
     (λ kept.
-        let go = due_let_go mid form _ kept ((c.is_due.ensures form _ kept).0 c.if-is_due.true) in
-        (c.renew.ensures.kept form _ kept go, c.renew.ensures.all form _ kept))
+    let go = due_let_go mid form _ kept ((c.is_due.ensures form _ kept).0 c.if-is_due.true) in
+    (c.renew.ensures.kept form _ kept go, c.renew.ensures.all form _ kept))
     (run_kept old mid form taken front c.push_run-run.result step h.kept))
 
 pub returns-else-is_due-clause-taken : goal.returns-else-is_due-clause-taken
@@ -50,7 +50,7 @@ returns-else-is_due-clause-taken c form taken h =
     subst (λ bytes. IsRunTaken (KindFile form) (IsSettled new form) taken bytes c.push_run-run.result) c.front_of-front.ensures
     (run_settled old new form taken front c.push_run-run.result step
     (λ kept due.
-        let is : c.is_due.result ≡ true = (c.is_due.ensures form _ kept).1 due in
-        let other = c.if-is_due.false in
-        cc)
+    let is : c.is_due.result ≡ true = (c.is_due.ensures form _ kept).1 due in
+    let other = c.if-is_due.false in
+    cc)
     h)
