@@ -24,34 +24,39 @@
 //! In a field `$` is a newline, `^` is NUL, and `\xNN` is the byte of two hexadecimal digits. A word without a byte is `""`.
 #![tactic(auto)]
 
+mod asked;
+mod call;
+mod closed;
 mod escape;
 mod given_back;
 mod row;
+mod script;
 mod shown;
+mod sweep;
+mod taker;
+mod token;
 mod trial;
+mod value;
+mod verdict;
 
 use given_back::{Tally, give_back};
-use row::row_of;
 use std::process::ExitCode;
 use std::{fs, io};
-use trial::{Verdict, verdict_of};
+use sweep::{Count, Counts};
+use verdict::verdict_of;
 
 /// Judges the row of a line. Prints a line where it doesn't agree.
-fn is_met(rt: &HostRuntime, table: &str, line: &str) -> io::Result<bool> {
-    let verdict = match row_of(rt.alloc(), line) {
-        Ok(row) => verdict_of(rt.alloc(), &row),
-        Err(fault) => Verdict::Unread(fault),
-    };
-    match verdict {
-        Verdict::Agrees => return Ok(true),
-        Verdict::Differs(difference) => println!(rt; "{table}: {line}: {difference}")?,
-        Verdict::Unread(fault) => println!(rt; "{table}: {line}: {fault}")?,
+fn is_met(rt: &HostRuntime, table: &str, line: &str, counts: &mut Counts) -> io::Result<bool> {
+    match verdict_of(rt.alloc(), line, counts) {
+        Ok(None) => return Ok(true),
+        Ok(Some(difference)) => println!(rt; "{table}: {line}: {difference}")?,
+        Err(fault) => println!(rt; "{table}: {line}: {fault}")?,
     }
     Ok(false)
 }
 
 /// Judges the rows of a table, and prints how many agree.
-fn judge(rt: &HostRuntime, table: &str, text: &str) -> io::Result<()> {
+fn judge(rt: &HostRuntime, table: &str, text: &str, counts: &mut Counts) -> io::Result<()> {
     let mut agreeing: u64 = 0;
     let mut all: u64 = 0;
     let mut row = String::new(rt.alloc());
@@ -64,7 +69,7 @@ fn judge(rt: &HostRuntime, table: &str, text: &str) -> io::Result<()> {
             None => {
                 row.push_str(line.trim_start())?;
                 all = all.saturating_add(1);
-                if is_met(rt, table, row.as_str())? {
+                if is_met(rt, table, row.as_str(), counts)? {
                     agreeing = agreeing.saturating_add(1);
                 }
                 row.clear();
@@ -74,21 +79,31 @@ fn judge(rt: &HostRuntime, table: &str, text: &str) -> io::Result<()> {
     println!(rt; "{table}: {agreeing} of {all} rows agree")
 }
 
+/// Prints how many runs a sweep made, and how many of them differ from what is wanted.
+fn tell(rt: &HostRuntime, sweep: &str, count: Count) -> io::Result<()> {
+    let Count { runs, differing } = count;
+    println!(rt; "{sweep}: {runs} runs, {differing} differ")
+}
+
 /// Where the files of real kernels lie.
 const REAL: &str = "real/";
 
 fn main(rt: HostRuntime) -> io::Result<ExitCode> {
     let mut tally = Tally { same: 0, all: 0 };
+    let mut counts = Counts::NONE;
     for line in rt.lines(rt.alloc()) {
         let path = line?;
         match path.as_str().strip_prefix(REAL) {
             Some(copy) => give_back(&rt, path.as_str(), copy, &mut tally)?,
             None => {
                 let text = fs::read_to_string(&rt, path.as_str())?;
-                judge(&rt, path.as_str(), text.as_str())?;
+                judge(&rt, path.as_str(), text.as_str(), &mut counts)?;
             }
         }
     }
+    tell(&rt, "texts ended at each byte", counts.cuts)?;
+    tell(&rt, "texts in pieces", counts.pieces)?;
+    tell(&rt, "each byte after each front", counts.bytes)?;
     let Tally { same, all } = tally;
     println!(rt; "{same} of {all} texts of real kernels are written back byte for byte")?;
     Ok(ExitCode::from(0))

@@ -1,30 +1,33 @@
 //! Rows, as a table spells them.
 use crate::escape::bytes_of;
-use cg_text::ByteSet;
+use cg_text::{ByteSet, OutOfMemory};
 use std::alloc::{AllocError, AllocFailed, Global};
 use std::fmt;
 
 /// Why a line is no row.
 #[derive(Clone, Copy, Debug, PartialEq, Eq)]
 pub(crate) enum RowFault {
-    /// It has not three or four fields.
+    /// It has other fields than its form.
     Fields,
     /// A byte isn't spelled by two hexadecimal digits.
     BadByte,
-    /// A word isn't text.
+    /// A word isn't text, or the words ask for no such run.
     BadWord,
     /// A status is no number.
     BadStatus,
+    /// A place is no number, or no byte stands there.
+    BadPlace,
     OutOfMemory,
 }
 
 impl fmt::Display for RowFault {
     fn fmt<W: fmt::Write>(&self, f: &mut fmt::Formatter<W>) -> fmt::Result {
         f.write_str(match self {
-            RowFault::Fields => "not three or four fields",
+            RowFault::Fields => "other fields than a row has",
             RowFault::BadByte => "a byte without two hexadecimal digits",
-            RowFault::BadWord => "a word that isn't text",
+            RowFault::BadWord => "words that ask for no such run",
             RowFault::BadStatus => "a status that is no number",
+            RowFault::BadPlace => "a place without a byte",
             RowFault::OutOfMemory => "out of memory",
         })
     }
@@ -32,6 +35,12 @@ impl fmt::Display for RowFault {
 
 impl From<AllocError> for RowFault {
     fn from(_e: AllocError) -> RowFault {
+        RowFault::OutOfMemory
+    }
+}
+
+impl From<OutOfMemory> for RowFault {
+    fn from(_e: OutOfMemory) -> RowFault {
         RowFault::OutOfMemory
     }
 }
@@ -63,11 +72,20 @@ pub(crate) struct Told {
     pub(crate) reach: Reach,
 }
 
+/// After how many bytes a read fails, and a write.
+#[derive(Clone, Copy)]
+pub(crate) struct Faults {
+    pub(crate) read: usize,
+    pub(crate) write: Option<usize>,
+}
+
 /// What a row says.
 #[derive(Drop)]
 pub(crate) enum Claim {
     /// The input is answered so.
     Ends(Told),
+    /// The input is answered so where these calls fail.
+    Fails(Told, Faults),
     /// These bytes may follow the input.
     GoesOn(ByteSet),
 }
@@ -93,7 +111,7 @@ fn word_of(alloc: Global, text: &str) -> Result<String, RowFault> {
 }
 
 /// The words of a command line.
-fn words_of(alloc: Global, field: &str) -> Result<Vec<String>, RowFault> {
+pub(crate) fn words_of(alloc: Global, field: &str) -> Result<Vec<String>, RowFault> {
     let mut words = Vec::new(alloc);
     for text in field.split_whitespace() {
         let word = word_of(alloc, text)?;
@@ -141,7 +159,7 @@ fn told_of(alloc: Global, words: &str, output: &str, status: &str) -> Result<Tol
 }
 
 /// The bytes of a field, or after `!` all others.
-fn set_of(alloc: Global, field: &str) -> Result<ByteSet, RowFault> {
+pub(crate) fn set_of(alloc: Global, field: &str) -> Result<ByteSet, RowFault> {
     let others = field.strip_prefix('!');
     let named = bytes_of(alloc, others.unwrap_or(field))?;
     let mut set = ByteSet::new();
@@ -153,20 +171,45 @@ fn set_of(alloc: Global, field: &str) -> Result<ByteSet, RowFault> {
     Ok(set)
 }
 
-/// The row of a line.
-pub(crate) fn row_of(alloc: Global, line: &str) -> Result<Row, RowFault> {
-    let mut fields = line.split('|').map(|field| field.trim());
-    let (Some(words), Some(input), Some(output)) = (fields.next(), fields.next(), fields.next())
-    else {
-        return Err(RowFault::Fields);
+/// What fails, by the fields of a row.
+fn faults_of(read: &str, write: &str) -> Result<Faults, RowFault> {
+    let Ok(read) = read.parse::<usize>() else {
+        return Err(RowFault::BadPlace);
     };
-    let claim = match fields.next() {
-        Some(status) => Claim::Ends(told_of(alloc, words, output, status)?),
-        None => Claim::GoesOn(set_of(alloc, output)?),
-    };
-    if fields.next().is_some() {
-        return Err(RowFault::Fields);
+    Ok(Faults {
+        read,
+        write: write.parse::<usize>().ok(),
+    })
+}
+
+/// What the fields behind the input say.
+fn claim_of(alloc: Global, words: &str, fields: &[&str]) -> Result<Claim, RowFault> {
+    match fields {
+        [bytes] => Ok(Claim::GoesOn(set_of(alloc, bytes)?)),
+        [output, status] => Ok(Claim::Ends(told_of(alloc, words, output, status)?)),
+        [output, status, read, write] => {
+            let told = told_of(alloc, words, output, status)?;
+            Ok(Claim::Fails(told, faults_of(read, write)?))
+        }
+        _ => Err(RowFault::Fields),
     }
+}
+
+/// The fields of a line.
+pub(crate) fn fields_of(alloc: Global, line: &str) -> Result<Vec<&str>, RowFault> {
+    let mut fields = Vec::new(alloc);
+    for field in line.split('|') {
+        fields.push(field.trim())?;
+    }
+    Ok(fields)
+}
+
+/// The row of these fields.
+pub(crate) fn row_of(alloc: Global, fields: &[&str]) -> Result<Row, RowFault> {
+    let [words, input, others @ ..] = fields else {
+        return Err(RowFault::Fields);
+    };
+    let claim = claim_of(alloc, words, others)?;
     let words = words_of(alloc, words)?;
     let input = bytes_of(alloc, input)?;
     Ok(Row {

@@ -1,60 +1,60 @@
 //! Runs of a row's command, and whether they do what the row says.
-use crate::row::{Claim, Reach, Row, RowFault, Told};
+use crate::asked::{Asked, asked_by};
+use crate::closed::first_parts;
+use crate::row::{Claim, Faults, Reach, Row, RowFault, Told};
 use cg_print::CutSink;
-use cg_run::{Command, CutSource, Outcome, UsageFault, parse_words, run, status};
+use cg_run::{CutSource, Outcome, run, run_words, status};
 use cg_snap::Limits;
 use cg_text::ByteSet;
-use cg_value::Profile;
 use std::alloc::{AllocError, Global};
 use std::fmt;
 
 /// How many bytes are read and written at once.
 const STEPS: [usize; 5] = [1, 2, 7, 4096, 65536];
 
-/// What the words of a row ask for.
-#[derive(Drop)]
-struct Asked {
-    profile: Profile,
-    command: Command,
-    limits: Limits,
-}
-
 /// How a run differs from what a row says.
 #[derive(Clone, Copy, Debug, PartialEq, Eq)]
 pub(crate) enum Way {
-    /// Only the words were read.
-    Words,
     /// Pieces of so many bytes were read and written.
     Pieces(usize),
     /// The source failed after so many bytes.
     Read(usize),
     /// The sink failed after so many bytes.
     Write(usize),
+    /// The source failed, and the sink if the row says so.
+    Faults,
     /// This byte followed the input.
     Next(u8),
     /// This byte followed the input, at the limit of the stream.
     Limited(u8),
+    /// The text ended after so many bytes.
+    Cut(usize),
+    /// The text came in two pieces, the first of so many bytes, or in pieces of one byte.
+    Split(usize),
+    /// It's told otherwise whether another line may begin.
+    Line,
+    /// A call is answered otherwise.
+    Answer,
+    /// There is none, and the row wants one.
+    Same,
 }
 
 impl fmt::Display for Way {
     fn fmt<W: fmt::Write>(&self, f: &mut fmt::Formatter<W>) -> fmt::Result {
         match self {
-            Way::Words => f.write_str("the words alone"),
             Way::Pieces(step) => write!(f, "in pieces of {step} bytes"),
             Way::Read(budget) => write!(f, "the read after {budget} bytes failing"),
             Way::Write(budget) => write!(f, "the write after {budget} bytes failing"),
+            Way::Faults => f.write_str("the calls of the row failing"),
             Way::Next(byte) => write!(f, "the byte {byte} behind it"),
             Way::Limited(byte) => write!(f, "the byte {byte} at the limit"),
+            Way::Cut(len) => write!(f, "ended after {len} bytes"),
+            Way::Split(len) => write!(f, "in pieces, the first of {len} bytes, or all of one"),
+            Way::Line => f.write_str("whether a line may begin"),
+            Way::Answer => f.write_str("another answer"),
+            Way::Same => f.write_str("no difference"),
         }
     }
-}
-
-/// What became of a row.
-#[derive(Drop)]
-pub(crate) enum Verdict {
-    Agrees,
-    Differs(Way),
-    Unread(RowFault),
 }
 
 /// A run of what a row asks for. It promises nothing, so that what calls it is quick to check.
@@ -84,35 +84,29 @@ fn is_told(told: &Told, text: &[u8], status: u8) -> bool {
     is_text && status == told.status
 }
 
-/// Whether the row is met with pieces of this length. Nothing is asked of the source where nothing is to be read, and it
-/// is asked at most twice more than there may be bytes.
-fn is_met_in_pieces(alloc: Global, asked: &Asked, input: &[u8], told: &Told, step: usize) -> bool {
-    let mut source = CutSource::new(input, usize::MAX, step);
+/// The whole program with a row's words, which promises nothing either.
+fn ran_by_words(
+    alloc: Global,
+    words: &[String],
+    source: &mut CutSource<'_>,
+    sink: &mut CutSink,
+) -> u8 {
+    run_words(alloc, Ok(words), source, sink)
+}
+
+/// Whether the row is met with pieces of this length, and the source is asked at most so often.
+fn is_met_in_pieces(alloc: Global, row: &Row, told: &Told, most: u64, step: usize) -> bool {
+    let mut source = CutSource::new(row.input.as_slice(), usize::MAX, step);
     let mut sink = CutSink::new(usize::MAX, step);
-    let outcome = ran(alloc, asked, asked.limits, &mut source, &mut sink);
-    let most = match told.reach {
-        Reach::Nothing => 0,
-        _ => asked.limits.max_stream.saturating_add(2),
-    };
-    source.asks() <= most && is_told(told, sink.bytes(), status(&outcome))
+    let status = ran_by_words(alloc, row.words.as_slice(), &mut source, &mut sink);
+    source.asks() <= most && is_told(told, sink.bytes(), status)
 }
 
 /// What is written last where a read failed.
 const READ_FAULT: &[u8] = b"cgfile: read fault\n";
 
-/// Whether a run that a failed read ended wrote first bytes of the text, none where it writes all at the end, and then its
-/// last line.
-fn is_read_fault(command: &Command, text: &[u8], written: &[u8]) -> bool {
-    let at = written.len().saturating_sub(READ_FAULT.len());
-    let (front, line) = written.split_at(at);
-    let is_begun = match command {
-        Command::Show | Command::Json | Command::Plan => text.starts_with(front),
-        _ => front.is_empty(),
-    };
-    is_begun && line == READ_FAULT
-}
-
-/// Whether reading fails where the row isn't settled before the source fails, and where it is, the row is met.
+/// Whether reading fails where the row isn't settled before the source fails, after the parts of the text that the bytes
+/// before settle; and where it is, the row is met.
 fn is_met_reading(
     alloc: Global,
     asked: &Asked,
@@ -130,12 +124,13 @@ fn is_met_reading(
         Reach::End => false,
     };
     if is_settled {
-        is_told(told, sink.bytes(), status(&outcome))
-    } else {
-        outcome == Outcome::ReadFault
-            && status(&outcome) == 3
-            && is_read_fault(&asked.command, told.text.as_slice(), sink.bytes())
+        return is_told(told, sink.bytes(), status(&outcome));
     }
+    let (read, _) = input.split_at_checked(budget).unwrap_or((input, b""));
+    let parts = first_parts(&asked.command, read, told.text.as_slice());
+    outcome == Outcome::ReadFault
+        && status(&outcome) == 3
+        && sink.bytes().strip_suffix(READ_FAULT) == Some(parts)
 }
 
 /// Whether the sink has the first bytes of the text when it fails, and the run says how many.
@@ -150,19 +145,51 @@ fn is_met_writing(alloc: Global, asked: &Asked, input: &[u8], text: &[u8], budge
         && text.starts_with(sink.bytes())
 }
 
-/// The first way in which a row isn't met, whose input is answered so.
-fn difference_of_answer(alloc: Global, asked: &Asked, input: &[u8], told: &Told) -> Option<Way> {
+/// Whether a run with these failing calls is answered so.
+fn is_met_failing(alloc: Global, asked: &Asked, input: &[u8], told: &Told, faults: Faults) -> bool {
+    let mut source = CutSource::new(input, faults.read, 4096);
+    let mut sink = CutSink::new(faults.write.unwrap_or(usize::MAX), 4096);
+    let outcome = ran(alloc, asked, asked.limits, &mut source, &mut sink);
+    let wanted = match faults.write {
+        Some(budget) => Outcome::WriteFault {
+            written: budget as u64,
+        },
+        None => Outcome::ReadFault,
+    };
+    outcome == wanted && is_told(told, sink.bytes(), status(&outcome))
+}
+
+/// How often the source may be asked: not at all where nothing is to be read, else twice more than there may be bytes.
+fn most_asks(asked: &Asked, told: &Told) -> u64 {
+    match told.reach {
+        Reach::Nothing => 0,
+        _ => asked.limits.max_stream.saturating_add(2),
+    }
+}
+
+/// The first way in which the program, called with a row's words, doesn't do what the row says.
+fn difference_of_pieces(alloc: Global, row: &Row, told: &Told, most: u64) -> Option<Way> {
     for step in STEPS {
-        if !is_met_in_pieces(alloc, asked, input, told, step) {
+        if !is_met_in_pieces(alloc, row, told, most, step) {
             return Some(Way::Pieces(step));
         }
     }
+    None
+}
+
+/// The first failing read with which a row isn't met.
+fn difference_of_reads(alloc: Global, asked: &Asked, input: &[u8], told: &Told) -> Option<Way> {
     for budget in 0..=input.len() {
         let by_bytes = is_met_reading(alloc, asked, input, told, budget, 1);
         if !by_bytes || !is_met_reading(alloc, asked, input, told, budget, 4096) {
             return Some(Way::Read(budget));
         }
     }
+    None
+}
+
+/// The first failing write with which a row isn't met.
+fn difference_of_writes(alloc: Global, asked: &Asked, input: &[u8], told: &Told) -> Option<Way> {
     let text = told.text.as_slice();
     for budget in 0..text.len() {
         if told.is_whole && !is_met_writing(alloc, asked, input, text, budget) {
@@ -244,46 +271,48 @@ fn difference_of_next(
     Ok(None)
 }
 
+/// Whether the status is the same and the sink has the first bytes where it fails, and no run was asked for.
+fn is_met_telling(alloc: Global, row: &Row, told: &Told, budget: usize) -> bool {
+    let mut source = CutSource::new(row.input.as_slice(), usize::MAX, 4096);
+    let mut sink = CutSink::new(budget, 4096);
+    let status = ran_by_words(alloc, row.words.as_slice(), &mut source, &mut sink);
+    let told_front = told.text.as_slice().get(..budget);
+    source.asks() == 0 && status == told.status && told_front == Some(sink.bytes())
+}
+
+/// The first way in which a row isn't met whose words ask for no run: nothing is read.
+fn difference_of_words(alloc: Global, row: &Row) -> Option<Way> {
+    let Claim::Ends(told) = &row.claim else {
+        return Some(Way::Answer);
+    };
+    for budget in 0..told.text.len() {
+        if told.is_whole && !is_met_telling(alloc, row, told, budget) {
+            return Some(Way::Write(budget));
+        }
+    }
+    difference_of_pieces(alloc, row, told, 0)
+}
+
+/// The first way in which a row isn't met whose input is answered so.
+fn difference_of_answer(alloc: Global, asked: &Asked, row: &Row, told: &Told) -> Option<Way> {
+    let input = row.input.as_slice();
+    difference_of_pieces(alloc, row, told, most_asks(asked, told))
+        .or(difference_of_reads(alloc, asked, input, told))
+        .or(difference_of_writes(alloc, asked, input, told))
+}
+
 /// The first way in which a row isn't met.
-fn difference_of(alloc: Global, asked: &Asked, row: &Row) -> Result<Option<Way>, AllocError> {
+pub(crate) fn difference_of(alloc: Global, row: &Row) -> Result<Option<Way>, RowFault> {
+    let Ok(asked) = asked_by(alloc, row.words.as_slice()) else {
+        return Ok(difference_of_words(alloc, row));
+    };
     let input = row.input.as_slice();
     match &row.claim {
-        Claim::Ends(told) => Ok(difference_of_answer(alloc, asked, input, told)),
-        Claim::GoesOn(set) => difference_of_next(alloc, asked, input, set),
-    }
-}
-
-/// Whether words that ask for no run are answered as the row says.
-fn is_met_by_words(row: &Row, fault: &UsageFault) -> bool {
-    let Claim::Ends(told) = &row.claim else {
-        return false;
-    };
-    match fault {
-        UsageFault::Help(text) => is_told(told, text.as_bytes(), 0),
-        UsageFault::Bad => is_told(told, b"cgfile: bad command line\n", 2),
-        UsageFault::OutOfMemory => is_told(told, b"cgfile: out of memory\n", 4),
-    }
-}
-
-/// Runs a row's command, as the program does with these words, and compares.
-pub(crate) fn verdict_of(alloc: Global, row: &Row) -> Verdict {
-    let asked = match parse_words(alloc, row.words.as_slice()) {
-        Ok((profile, command, limits)) => Asked {
-            profile,
-            command,
-            limits,
-        },
-        Err(fault) => {
-            return if is_met_by_words(row, &fault) {
-                Verdict::Agrees
-            } else {
-                Verdict::Differs(Way::Words)
-            };
+        Claim::Ends(told) => Ok(difference_of_answer(alloc, &asked, row, told)),
+        Claim::Fails(told, faults) => {
+            let is_met = is_met_failing(alloc, &asked, input, told, *faults);
+            Ok((!is_met).then_some(Way::Faults))
         }
-    };
-    match difference_of(alloc, &asked, row) {
-        Ok(None) => Verdict::Agrees,
-        Ok(Some(way)) => Verdict::Differs(way),
-        Err(_) => Verdict::Unread(RowFault::OutOfMemory),
+        Claim::GoesOn(set) => Ok(difference_of_next(alloc, &asked, input, set)?),
     }
 }

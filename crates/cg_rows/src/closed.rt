@@ -1,0 +1,54 @@
+//! How much of the output the bytes that were read settle.
+use cg_run::Command;
+
+/// The records and the entries of a snapshot that are closed.
+#[derive(Clone, Copy)]
+struct Closed {
+    records: usize,
+    entries: usize,
+}
+
+/// The path of a record of which the NUL came.
+fn path_in(record: &[u8]) -> Option<&[u8]> {
+    let nul = record.iter().position(|byte| *byte == 0)?;
+    record.get(..nul)
+}
+
+/// What is closed: the records before those of the last path whose NUL came, and their entries.
+fn closed_in(read: &[u8]) -> Closed {
+    let mut closed = Closed {
+        records: 0,
+        entries: 0,
+    };
+    let mut present: Option<&[u8]> = None;
+    let mut entries: usize = 0;
+    for (records, record) in read.split(|byte| *byte == b'\n').enumerate() {
+        let path = path_in(record);
+        if path.is_some() && path != present {
+            closed = Closed { records, entries };
+            entries = entries.saturating_add(1);
+            present = path;
+        }
+    }
+    closed
+}
+
+/// How many lines of the output the bytes settle.
+fn settled_lines(command: &Command, read: &[u8]) -> usize {
+    match command {
+        Command::Show => closed_in(read).records,
+        Command::Json => closed_in(read).entries,
+        Command::Plan => read.iter().filter(|byte| **byte == b'\n').count(),
+        _ => 0,
+    }
+}
+
+/// The first parts of the output, which these bytes settle whatever follows them.
+pub(crate) fn first_parts<'a>(command: &Command, read: &[u8], text: &'a [u8]) -> &'a [u8] {
+    let lines = settled_lines(command, read);
+    let mut len: usize = 0;
+    for line in text.split_inclusive(|byte| *byte == b'\n').take(lines) {
+        len = len.saturating_add(line.len());
+    }
+    text.get(..len).unwrap_or(text)
+}

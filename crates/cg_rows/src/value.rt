@@ -1,0 +1,96 @@
+//! Calls on values, made from texts.
+use crate::escape::bytes_of;
+use crate::row::RowFault;
+use crate::token::spelled;
+use cg_join::DeviceText;
+use cg_line::{UpgradeFault, decode_file, upgrade};
+use cg_print::append_entry;
+use cg_snap::{EncodeFault, Limits, decode_snapshot, encode_snapshot};
+use cg_value::{Entry, Profile};
+use std::alloc::{AllocError, Global};
+use std::fmt::Display;
+
+/// Adds the entries of a snapshot of the first profile.
+fn add_entries(alloc: Global, entries: &mut Vec<Entry>, field: &str) -> Result<(), RowFault> {
+    let text = bytes_of(alloc, field)?;
+    let Ok(more) = decode_snapshot(alloc, Profile::One, Limits::DEFAULT, text.as_slice()) else {
+        return Err(RowFault::BadPlace);
+    };
+    for entry in more {
+        entries.push(entry)?;
+    }
+    Ok(())
+}
+
+/// The text of a fault.
+fn text_of<F: Display + Drop>(alloc: Global, fault: F) -> Result<Vec<u8>, AllocError> {
+    Ok(format!(in alloc; "{fault}")?.into_bytes())
+}
+
+/// The records of the entries as the second profile reads them, or why one of them has no such form.
+fn upgraded(alloc: Global, entries: &[Entry]) -> Result<Vec<u8>, RowFault> {
+    let mut records = Vec::new(alloc);
+    for entry in entries {
+        match upgrade(alloc, entry) {
+            Ok(other) => append_entry(&mut records, &other)?,
+            Err(fault) => return Ok(text_of(alloc, fault)?),
+        }
+    }
+    Ok(records)
+}
+
+/// The snapshot of the entries, or why there is none.
+fn encoded(alloc: Global, entries: &[Entry]) -> Result<Vec<u8>, RowFault> {
+    match encode_snapshot(alloc, entries) {
+        Ok(text) => Ok(text),
+        Err(fault) => Ok(text_of(alloc, fault)?),
+    }
+}
+
+/// Whether the entries of the snapshots are upgraded, or encoded, as the last field says.
+pub(crate) fn agrees(alloc: Global, fields: &[&str], upgrades: bool) -> Result<bool, RowFault> {
+    let [snapshots @ .., answer] = fields else {
+        return Err(RowFault::Fields);
+    };
+    let mut entries = Vec::new(alloc);
+    for field in snapshots {
+        add_entries(alloc, &mut entries, field)?;
+    }
+    let text = if upgrades {
+        upgraded(alloc, entries.as_slice())?
+    } else {
+        encoded(alloc, entries.as_slice())?
+    };
+    let wanted = bytes_of(alloc, answer)?;
+    Ok(text.as_slice() == wanted.as_slice())
+}
+
+/// Whether a fault of this name is told so.
+pub(crate) fn is_told(alloc: Global, fields: &[&str]) -> Result<bool, RowFault> {
+    let [name, wanted] = fields else {
+        return Err(RowFault::Fields);
+    };
+    let text = match *name {
+        "upgrade_line" => text_of(alloc, UpgradeFault::Line { line: 3, at: 14 })?,
+        "upgrade_memory" => text_of(alloc, UpgradeFault::OutOfMemory)?,
+        "encode_path" => text_of(alloc, EncodeFault::SamePath { at: 2 })?,
+        "encode_memory" => text_of(alloc, EncodeFault::OutOfMemory)?,
+        _ => return Err(RowFault::BadWord),
+    };
+    Ok(text.as_slice() == wanted.as_bytes())
+}
+
+/// Whether the text of `io.stat` has this amount of a device and a key.
+pub(crate) fn has_amount(alloc: Global, fields: &[&str]) -> Result<bool, RowFault> {
+    let [text, device, key, wanted] = fields else {
+        return Err(RowFault::Fields);
+    };
+    let text = bytes_of(alloc, text)?;
+    let device = spelled(DeviceText::new(), device.as_bytes())?.ok_or(RowFault::BadWord)?;
+    let Ok(value) = decode_file(alloc, Profile::One, b"io.stat", text.as_slice()) else {
+        return Err(RowFault::BadPlace);
+    };
+    let amount = value.amount_of(device, key.as_bytes());
+    let said = format!(in alloc; "{amount:?}")?;
+    Ok(said.as_str() == *wanted)
+}
