@@ -1,96 +1,109 @@
-//! Calls one after another, as a row spells them.
-use crate::asked::Asked;
+//! Calls on values, made from texts.
 use crate::escape::bytes_of;
-use crate::row::{RowFault, set_of};
-use crate::script::{Sign, add_mark, asked_of, mark_of, told};
-use crate::taker::{FileTaker, Found, Step, Taker, WriteTaker};
-use cg_run::Command;
-use cg_snap::{PlanDecoder, SnapshotDecoder, Stop};
-use cg_text::ByteSet;
+use crate::row::RowFault;
+use crate::token::spelled;
+use cg_join::DeviceText;
+use cg_line::{UpgradeFault, decode_file, upgrade};
+use cg_print::append_entry;
+use cg_snap::{EncodeFault, Limits, decode_snapshot, encode_snapshot};
+use cg_value::{Entry, Profile};
 use std::alloc::{AllocError, Global};
+use std::fmt::Display;
 
-/// Adds a stop, at its place.
-fn add_stop(log: &mut Vec<u8>, used: u64, stop: Stop) -> Result<(), AllocError> {
-    let (at, words) = told(stop);
-    add_mark(log, Sign::Stops, used, words)?;
-    let place = format!(in *log.allocator(); " at {at}")?;
-    log.extend_from_slice(place.as_bytes())
-}
-
-/// Adds what a call answers, with the number of bytes that it took.
-fn add_step(log: &mut Vec<u8>, step: Step) -> Result<(), AllocError> {
-    let used = step.used as u64;
-    match step.found {
-        Found::More => add_mark(log, Sign::More, used, b""),
-        Found::Text(text) => add_mark(log, Sign::Given, used, text.as_slice()),
-        Found::Stopped(stop) => add_stop(log, used, stop),
-        Found::Wrong => add_mark(log, Sign::Wrong, used, b""),
+/// Adds the entries of a snapshot of the first profile.
+fn add_entries(alloc: Global, entries: &mut Vec<Entry>, field: &str) -> Result<(), RowFault> {
+    let text = bytes_of(alloc, field)?;
+    let Ok(more) = decode_snapshot(alloc, Profile::One, Limits::DEFAULT, text.as_slice()) else {
+        return Err(RowFault::BadPlace);
+    };
+    for entry in more {
+        entries.push(entry)?;
     }
+    Ok(())
 }
 
-/// Whether two sets have the same bytes.
-fn are_same(set: &ByteSet, other: &ByteSet) -> bool {
-    for byte in 0..=u8::MAX {
-        if set.contains(byte) != other.contains(byte) {
-            return false;
+/// The entries of the snapshots of all fields.
+fn entries_of(alloc: Global, fields: &[&str]) -> Result<Vec<Entry>, RowFault> {
+    let mut entries = Vec::new(alloc);
+    for field in fields {
+        add_entries(alloc, &mut entries, field)?;
+    }
+    Ok(entries)
+}
+
+/// The text of a fault.
+fn text_of<F: Display + Drop>(alloc: Global, fault: F) -> Result<Vec<u8>, AllocError> {
+    Ok(format!(in alloc; "{fault}")?.into_bytes())
+}
+
+/// The records of the entries as the second profile reads them, or why one of them has no such form.
+fn upgraded(alloc: Global, entries: &[Entry]) -> Result<Vec<u8>, RowFault> {
+    let mut records = Vec::new(alloc);
+    for entry in entries {
+        match upgrade(alloc, entry) {
+            Ok(other) => append_entry(&mut records, &other)?,
+            Err(fault) => return Ok(text_of(alloc, fault)?),
         }
     }
-    true
+    Ok(records)
 }
 
-/// Whether a piece is answered so.
-fn takes<T: Taker>(
-    alloc: Global,
-    taker: &mut T,
-    piece: &str,
-    answer: &str,
-) -> Result<bool, RowFault> {
-    let piece = bytes_of(alloc, piece)?;
-    let mut log = Vec::new(alloc);
-    add_step(&mut log, taker.next(alloc, piece.as_slice()))?;
-    let mark = mark_of(alloc, answer)?;
-    let mut wanted = Vec::new(alloc);
-    add_mark(&mut wanted, mark.sign, mark.place, mark.text.as_slice())?;
-    Ok(log.as_slice() == wanted.as_slice())
-}
-
-/// Whether a call is answered so.
-fn is_answered<T: Taker>(
-    alloc: Global,
-    taker: &mut T,
-    call: &str,
-    answer: &str,
-) -> Result<bool, RowFault> {
-    match call.strip_prefix("next") {
-        Some(piece) => takes(alloc, taker, piece.trim_start(), answer),
-        None => Ok(are_same(&taker.allowed(), &set_of(alloc, answer)?)),
+/// The snapshot of the entries, or why there is none.
+fn encoded(alloc: Global, entries: &[Entry]) -> Result<Vec<u8>, RowFault> {
+    match encode_snapshot(alloc, entries) {
+        Ok(text) => Ok(text),
+        Err(fault) => Ok(text_of(alloc, fault)?),
     }
 }
 
-/// Whether each call is answered as the field behind it says.
-fn are_answered<T: Taker>(alloc: Global, asked: &Asked, calls: &[&str]) -> Result<bool, RowFault> {
-    let mut taker = T::fresh(alloc, asked).ok_or(RowFault::BadWord)?;
-    let mut agrees = true;
-    for pair in calls.chunks(2) {
-        let [call, answer] = pair else {
-            return Err(RowFault::Fields);
-        };
-        agrees = agrees && is_answered(alloc, &mut taker, call, answer)?;
-    }
-    Ok(agrees)
-}
-
-/// Whether the calls of a row are answered so, by what its command takes a text with.
-pub(crate) fn agrees(alloc: Global, fields: &[&str]) -> Result<bool, RowFault> {
-    let [words, calls @ ..] = fields else {
+/// Whether the entries of the snapshots are upgraded as the last field says.
+pub(crate) fn upgrades(alloc: Global, fields: &[&str]) -> Result<bool, RowFault> {
+    let [snapshots @ .., answer] = fields else {
         return Err(RowFault::Fields);
     };
-    let asked = asked_of(alloc, words)?;
-    match &asked.command {
-        Command::Show => are_answered::<SnapshotDecoder>(alloc, &asked, calls),
-        Command::Plan => are_answered::<PlanDecoder>(alloc, &asked, calls),
-        Command::File { .. } => are_answered::<FileTaker>(alloc, &asked, calls),
-        Command::Setting { .. } => are_answered::<WriteTaker>(alloc, &asked, calls),
-        _ => Err(RowFault::BadWord),
-    }
+    let entries = entries_of(alloc, snapshots)?;
+    let text = upgraded(alloc, entries.as_slice())?;
+    let wanted = bytes_of(alloc, answer)?;
+    Ok(text.as_slice() == wanted.as_slice())
+}
+
+/// Whether the entries of the snapshots are encoded as the last field says.
+pub(crate) fn encodes(alloc: Global, fields: &[&str]) -> Result<bool, RowFault> {
+    let [snapshots @ .., answer] = fields else {
+        return Err(RowFault::Fields);
+    };
+    let entries = entries_of(alloc, snapshots)?;
+    let text = encoded(alloc, entries.as_slice())?;
+    let wanted = bytes_of(alloc, answer)?;
+    Ok(text.as_slice() == wanted.as_slice())
+}
+
+/// Whether a fault of this name is told so.
+pub(crate) fn is_told(alloc: Global, fields: &[&str]) -> Result<bool, RowFault> {
+    let [name, wanted] = fields else {
+        return Err(RowFault::Fields);
+    };
+    let text = match *name {
+        "upgrade_line" => text_of(alloc, UpgradeFault::Line { line: 3, at: 14 })?,
+        "upgrade_memory" => text_of(alloc, UpgradeFault::OutOfMemory)?,
+        "encode_path" => text_of(alloc, EncodeFault::SamePath { at: 2 })?,
+        "encode_memory" => text_of(alloc, EncodeFault::OutOfMemory)?,
+        _ => return Err(RowFault::BadWord),
+    };
+    Ok(text.as_slice() == wanted.as_bytes())
+}
+
+/// Whether the text of `io.stat` has this amount of a device and a key.
+pub(crate) fn has_amount(alloc: Global, fields: &[&str]) -> Result<bool, RowFault> {
+    let [text, device, key, wanted] = fields else {
+        return Err(RowFault::Fields);
+    };
+    let text = bytes_of(alloc, text)?;
+    let device = spelled(DeviceText::new(), device.as_bytes())?.ok_or(RowFault::BadWord)?;
+    let Ok(value) = decode_file(alloc, Profile::One, b"io.stat", text.as_slice()) else {
+        return Err(RowFault::BadPlace);
+    };
+    let amount = value.amount_of(device, key.as_bytes());
+    let said = format!(in alloc; "{amount:?}")?;
+    Ok(said.as_str() == *wanted)
 }

@@ -16,19 +16,20 @@ fn path_in(record: &[u8]) -> Option<&[u8]> {
 
 /// What is closed: the records before those of the last path whose NUL came, and their entries.
 fn closed_in(read: &[u8]) -> Closed {
-    let mut closed = Closed {
+    let mut begun = Closed {
         records: 0,
         entries: 0,
     };
+    let mut closed = begun;
     let mut present: Option<&[u8]> = None;
-    let mut entries: usize = 0;
-    for (records, record) in read.split(|byte| *byte == b'\n').enumerate() {
+    for record in read.split(|byte| *byte == b'\n') {
         let path = path_in(record);
         if path.is_some() && path != present {
-            closed = Closed { records, entries };
-            entries = entries.saturating_add(1);
+            closed = begun;
+            begun.entries = begun.entries.saturating_add(1);
             present = path;
         }
+        begun.records = begun.records.saturating_add(1);
     }
     closed
 }

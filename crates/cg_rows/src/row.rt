@@ -188,8 +188,8 @@ fn claim_of(alloc: Global, words: &str, fields: &[&str]) -> Result<Claim, RowFau
         [bytes] => Ok(Claim::GoesOn(set_of(alloc, bytes)?)),
         [output, status] => Ok(Claim::Ends(told_of(alloc, words, output, status)?)),
         [output, status, read, write] => {
-            let told = told_of(alloc, words, output, status)?;
-            Ok(Claim::Fails(told, faults_of(read, write)?))
+            let faults = faults_of(read, write)?;
+            Ok(Claim::Fails(told_of(alloc, words, output, status)?, faults))
         }
         _ => Err(RowFault::Fields),
     }

@@ -40,7 +40,8 @@ pub(crate) fn add_mark(
     place: u64,
     text: &[u8],
 ) -> Result<(), AllocError> {
-    let front = format!(in *log.allocator(); "|{sign} {place} ")?;
+    let alloc = *log.allocator();
+    let front = format!(in alloc; "|{sign} {place} ")?;
     log.extend_from_slice(front.as_bytes())?;
     log.extend_from_slice(text)?;
     Ok(())
@@ -112,6 +113,16 @@ pub(crate) fn asked_of(alloc: Global, field: &str) -> Result<Asked, RowFault> {
     }
 }
 
+/// The marks that fields spell.
+fn marks_of(alloc: Global, fields: &[&str]) -> Result<Vec<Mark>, RowFault> {
+    let mut marks = Vec::new(alloc);
+    for field in fields {
+        let mark = mark_of(alloc, field)?;
+        marks.push(mark)?;
+    }
+    Ok(marks)
+}
+
 /// The script of the fields of a row.
 pub(crate) fn script_of(alloc: Global, fields: &[&str]) -> Result<Script, RowFault> {
     let [words, text, others @ ..] = fields else {
@@ -119,11 +130,7 @@ pub(crate) fn script_of(alloc: Global, fields: &[&str]) -> Result<Script, RowFau
     };
     let asked = asked_of(alloc, words)?;
     let text = bytes_of(alloc, text)?;
-    let mut marks = Vec::new(alloc);
-    for field in others {
-        let mark = mark_of(alloc, field)?;
-        marks.push(mark)?;
-    }
+    let marks = marks_of(alloc, others)?;
     Ok(Script { asked, text, marks })
 }
 
@@ -159,9 +166,8 @@ impl Script {
     pub(crate) fn viable_len(&self) -> usize {
         for mark in self.marks.iter() {
             if mark.sign == Sign::Stops {
-                return usize::try_from(mark.place)
-                    .unwrap_or(usize::MAX)
-                    .min(self.text.len());
+                let place = usize::try_from(mark.place).unwrap_or(usize::MAX);
+                return place.min(self.text.len());
             }
         }
         self.text.len()

@@ -2,7 +2,7 @@
 use crate::asked::Asked;
 use crate::row::RowFault;
 use crate::script::{Script, Sign, add_mark, told};
-use crate::taker::{FileTaker, Found, Taker, WriteTaker};
+use crate::taker::{FileTaker, Found, Step, Taker, WriteTaker};
 use crate::trial::Way;
 use cg_run::Command;
 use cg_snap::{Limits, PlanDecoder, SnapshotDecoder, Stop};
@@ -21,6 +21,14 @@ impl Count {
         runs: 0,
         differing: 0,
     };
+
+    /// Counts a run.
+    fn add(&mut self, is_same: bool) {
+        self.merge(Count {
+            runs: 1,
+            differing: u64::from(!is_same),
+        });
+    }
 
     /// Counts the runs of another count too.
     fn merge(&mut self, other: Count) {
@@ -55,57 +63,89 @@ impl Counts {
 
     /// Counts a run.
     fn add(&mut self, way: Way, is_same: bool) {
-        let count = match way {
-            Way::Cut(_) => &mut self.cuts,
-            Way::Split(_) => &mut self.pieces,
-            _ => &mut self.bytes,
-        };
-        count.merge(Count {
-            runs: 1,
-            differing: u64::from(!is_same),
-        });
+        match way {
+            Way::Cut(_) => self.cuts.add(is_same),
+            Way::Split(_) => self.pieces.add(is_same),
+            _ => self.bytes.add(is_same),
+        }
         if !is_same && self.first.is_none() {
             self.first = Some(way);
         }
     }
 }
 
-/// Whether what stopped answers the same stop again, and takes nothing; and the stop is of the next byte.
+/// What became of the front of a piece.
+enum Taking {
+    /// So many bytes of it were taken.
+    Taken(usize),
+    /// A byte behind it stops the text.
+    Stopped,
+    /// What no row wants.
+    Wrong,
+}
+
+/// Whether the next byte of the rest is the one at fault, and nothing is taken where the rest is handed over again, and
+/// the same answered.
 fn stays<T: Taker>(alloc: Global, taker: &mut T, rest: &[u8], stop: Stop) -> bool {
-    let again = taker.next(alloc, rest);
-    let is_same = match again.found {
+    let (at, _) = told(stop);
+    let Step { used, found } = taker.next(alloc, rest);
+    let is_same = match found {
         Found::Stopped(other) => other == stop,
         _ => false,
     };
-    let (at, _) = told(stop);
-    is_same && again.used == 0 && at == taker.offset()
+    is_same && used == 0 && at == taker.offset()
 }
 
-/// Hands over a piece. The answer is whether all of it was taken.
-pub(crate) fn take_piece<T: Taker>(
+/// Hands over a piece, of which bytes are taken until one event, and adds the mark of what is given.
+fn take_front<T: Taker>(
+    alloc: Global,
+    taker: &mut T,
+    piece: &[u8],
+    log: &mut Vec<u8>,
+) -> Result<Taking, AllocError> {
+    let before = taker.offset();
+    let Step { used, found } = taker.next(alloc, piece);
+    let offset = taker.offset();
+    if offset != before.saturating_add(used as u64) {
+        return Ok(Taking::Wrong);
+    }
+    match found {
+        Found::More => Ok(Taking::Taken(used)),
+        Found::Text(text) => {
+            add_mark(log, Sign::Given, offset, text.as_slice())?;
+            Ok(Taking::Taken(used))
+        }
+        Found::Stopped(stop) => {
+            let (_, rest) = piece.split_at_checked(used).unwrap_or((piece, b""));
+            let stays = stays(alloc, taker, rest, stop);
+            Ok(if stays {
+                Taking::Stopped
+            } else {
+                Taking::Wrong
+            })
+        }
+        Found::Wrong => Ok(Taking::Wrong),
+    }
+}
+
+/// Hands over a piece. The answer is whether all of it was taken. An event may come with its last byte, so that none is
+/// left for the next call.
+fn take_piece<T: Taker>(
     alloc: Global,
     taker: &mut T,
     piece: &[u8],
     log: &mut Vec<u8>,
 ) -> Result<bool, AllocError> {
-    let mut rest = piece;
+    let mut at: usize = 0;
     for _ in 0..=piece.len() {
-        let before = taker.offset();
-        let step = taker.next(alloc, rest);
-        let offset = taker.offset();
-        if offset != before.saturating_add(step.used as u64) {
-            break;
+        let (_, rest) = piece.split_at_checked(at).unwrap_or((piece, b""));
+        match take_front(alloc, taker, rest, log)? {
+            Taking::Taken(used) => at = at.saturating_add(used),
+            Taking::Stopped => return Ok(false),
+            Taking::Wrong => break,
         }
-        let Some((_, behind)) = rest.split_at_checked(step.used) else {
-            break;
-        };
-        rest = behind;
-        match step.found {
-            Found::More if rest.is_empty() => return Ok(true),
-            Found::More => {}
-            Found::Text(text) => add_mark(log, Sign::Given, offset, text.as_slice())?,
-            Found::Stopped(stop) if stays(alloc, taker, rest, stop) => return Ok(false),
-            _ => break,
+        if at == piece.len() {
+            return Ok(true);
         }
     }
     add_mark(log, Sign::Wrong, taker.offset(), b"")?;

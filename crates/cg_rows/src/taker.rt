@@ -55,6 +55,11 @@ fn text(printed: Result<Vec<u8>, OutOfMemory>) -> Found {
     }
 }
 
+/// What was found, if another answer doesn't contradict it.
+fn found_if(agrees: bool, found: Found) -> Found {
+    if agrees { found } else { Found::Wrong }
+}
+
 impl Taker for SnapshotDecoder {
     fn fresh(alloc: Global, asked: &Asked) -> Option<SnapshotDecoder> {
         Some(SnapshotDecoder::new(alloc, asked.profile, asked.limits))
@@ -64,8 +69,8 @@ impl Taker for SnapshotDecoder {
         let pulled = SnapshotDecoder::next(self, piece);
         let used = pulled.used;
         let found = match pulled.what {
-            What::NeedMore if used == piece.len() => Found::More,
-            What::NeedMore | What::OutOfMemory => Found::Wrong,
+            What::NeedMore => found_if(used == piece.len(), Found::More),
+            What::OutOfMemory => Found::Wrong,
             What::Entry(entry) => text(print_entry(alloc, &entry)),
             What::Stopped(stop) => Found::Stopped(stop),
         };
@@ -102,8 +107,8 @@ impl Taker for PlanDecoder {
         let pulled = PlanDecoder::next(self, piece);
         let used = pulled.used;
         let found = match pulled.what {
-            PlanWhat::NeedMore if used == piece.len() => Found::More,
-            PlanWhat::NeedMore | PlanWhat::OutOfMemory => Found::Wrong,
+            PlanWhat::NeedMore => found_if(used == piece.len(), Found::More),
+            PlanWhat::OutOfMemory => Found::Wrong,
             PlanWhat::Item(item) => text(print_item(alloc, &item)),
             PlanWhat::Stopped(stop) => Found::Stopped(stop),
         };
@@ -165,11 +170,8 @@ impl Course {
         }
     }
 
-    /// What the end is where the reader gives nothing, which it told or didn't.
-    fn cut(&self, can_finish: bool) -> Found {
-        if can_finish {
-            return Found::Wrong;
-        }
+    /// What the end is where the reader gives nothing.
+    fn cut(&self) -> Found {
         Found::Stopped(Stop::Cut { at: self.offset })
     }
 }
@@ -217,9 +219,8 @@ impl Taker for FileTaker {
         }
         let can_finish = reader.can_finish();
         match reader.finish() {
-            Ok(value) if can_finish => text(print_file(alloc, &value)),
-            Ok(_) => Found::Wrong,
-            Err(_) => course.cut(can_finish),
+            Ok(value) => found_if(can_finish, text(print_file(alloc, &value))),
+            Err(_) => found_if(!can_finish, course.cut()),
         }
     }
 }
@@ -267,9 +268,8 @@ impl Taker for WriteTaker {
         }
         let can_finish = reader.can_finish();
         match reader.finish() {
-            Ok(setting) if can_finish => text(print_setting(alloc, &setting)),
-            Ok(_) => Found::Wrong,
-            Err(_) => course.cut(can_finish),
+            Ok(setting) => found_if(can_finish, text(print_setting(alloc, &setting))),
+            Err(_) => found_if(!can_finish, course.cut()),
         }
     }
 }

@@ -105,8 +105,8 @@ fn is_met_in_pieces(alloc: Global, row: &Row, told: &Told, most: u64, step: usiz
 /// What is written last where a read failed.
 const READ_FAULT: &[u8] = b"cgfile: read fault\n";
 
-/// Whether reading fails where the row isn't settled before the source fails, after the parts of the text that the bytes
-/// before settle; and where it is, the row is met.
+/// Whether reading fails where the row isn't settled before the source fails, after the parts of the text that the
+/// bytes before settle; and where it is, the row is met.
 fn is_met_reading(
     alloc: Global,
     asked: &Asked,

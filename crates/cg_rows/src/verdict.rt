@@ -3,7 +3,7 @@ use crate::row::{RowFault, fields_of, row_of};
 use crate::script::script_of;
 use crate::sweep::{Counts, sweep};
 use crate::trial::{Way, difference_of};
-use crate::{call, token, value};
+use crate::{call, pull, token};
 use std::alloc::Global;
 
 /// The first run of a row's sweeps that differs.
@@ -22,12 +22,12 @@ fn difference_of_sweep(
 /// Whether a row of calls, of a token or of values agrees, none of another row.
 fn agrees(alloc: Global, form: &str, fields: &[&str]) -> Result<Option<bool>, RowFault> {
     Ok(Some(match form {
-        "call" => call::agrees(alloc, fields)?,
+        "pull" => pull::agrees(alloc, fields)?,
         "token" => token::agrees(alloc, fields)?,
-        "upgrade" => value::agrees(alloc, fields, true)?,
-        "encode" => value::agrees(alloc, fields, false)?,
-        "amount" => value::has_amount(alloc, fields)?,
-        "fault" => value::is_told(alloc, fields)?,
+        "upgrade" => call::upgrades(alloc, fields)?,
+        "encode" => call::encodes(alloc, fields)?,
+        "amount" => call::has_amount(alloc, fields)?,
+        "fault" => call::is_told(alloc, fields)?,
         _ => return Ok(None),
     }))
 }
