@@ -71,14 +71,15 @@ fn is_answered<T: Taker>(
 /// Whether each call is answered as the field behind it says.
 fn are_answered<T: Taker>(alloc: Global, asked: &Asked, calls: &[&str]) -> Result<bool, RowFault> {
     let mut taker = T::fresh(alloc, asked).ok_or(RowFault::BadWord)?;
-    let mut agrees = true;
     for pair in calls.chunks(2) {
         let [call, answer] = pair else {
             return Err(RowFault::Fields);
         };
-        agrees = agrees && is_answered(alloc, &mut taker, call, answer)?;
+        if !is_answered(alloc, &mut taker, call, answer)? {
+            return Ok(false);
+        }
     }
-    Ok(agrees)
+    Ok(true)
 }
 
 /// Whether the calls of a row are answered so, by what its command takes a text with.

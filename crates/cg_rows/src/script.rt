@@ -134,24 +134,26 @@ pub(crate) fn script_of(alloc: Global, fields: &[&str]) -> Result<Script, RowFau
     Ok(Script { asked, text, marks })
 }
 
-impl Script {
-    /// Whether a run over the first `len` bytes has the mark.
-    fn has(mark: &Mark, len: u64) -> bool {
-        match mark.sign {
-            Sign::Given => mark.place <= len,
-            Sign::Ends => mark.place == len,
-            Sign::Stops => mark.place < len,
+impl Mark {
+    /// Whether a run over the first `len` bytes has it.
+    fn stands(&self, len: u64) -> bool {
+        match self.sign {
+            Sign::Given => self.place <= len,
+            Sign::Ends => self.place == len,
+            Sign::Stops => self.place < len,
             Sign::More | Sign::Wrong => true,
         }
     }
+}
 
+impl Script {
     /// The marks of a run over the first `len` bytes. The text is cut where no mark tells another end.
     pub(crate) fn wanted(&self, alloc: Global, len: usize) -> Result<Vec<u8>, AllocError> {
         let len = len as u64;
         let mut log = Vec::new(alloc);
         let mut is_ended = false;
         for mark in self.marks.iter() {
-            if Script::has(mark, len) {
+            if mark.stands(len) {
                 add_mark(&mut log, mark.sign, mark.place, mark.text.as_slice())?;
                 is_ended = mark.sign != Sign::Given;
             }

@@ -177,7 +177,9 @@ fn marks_of<T: Taker>(
     let mut log = Vec::new(alloc);
     let mut is_taken = take_piece(alloc, &mut taker, piece, &mut log)?;
     for piece in others.chunks(step.max(1)) {
-        is_taken = is_taken && take_piece(alloc, &mut taker, piece, &mut log)?;
+        if is_taken {
+            is_taken = take_piece(alloc, &mut taker, piece, &mut log)?;
+        }
     }
     add_end(alloc, taker, &mut log)?;
     Ok(log)
