@@ -2,7 +2,7 @@
 use Rattle.std.proofs.Common.{◌≡◌, ℕ, ◌+◌, ◌<◌, ◌≤◌, ◌-◌, List, [], ◌∷◌, ◌++◌, length, take, drop, get_or, sym, ap, subst, ◌∙◌, append_assoc, arith, Bool, true, false, Some, None}
 use Rattle.std.proofs.lemmas.List.{append-nil, drop-take, length-append, length-take, take_more, take-take, take-append-drop}
 use Rattle.cg_text.specs.Texts.{Lacks, Next, Viable}
-use Rattle.cg_snap.specs.Course.{AreFew, FullIs, IsAlong, RefusedBy}
+use Rattle.cg_snap.specs.Course.{AreFew, FullIs, IsAlong, RefusedBy, Stream}
 use Rattle.cg_snap.specs.Meter.{IsCounted, LimitIs}
 use Rattle.cg_snap.specs.Stop.{place_of}
 use Rattle.cg_snap.specs.StreamStop.{IsFree, IsStreamUnstopped, StreamStopOf}
@@ -91,55 +91,55 @@ module _ (L : List ℕ → Type 0) (Breaks : List ℕ → ℕ → Why → Type 0
       let at : place_of stop ≡ length (p ++ take used piece) = stop_place L Breaks Many limits (p ++ take used piece) (get_or piece used 0) stop u s in
       omega (arith, at, lt, length-append p (take used piece), length-take used piece)
 
-  -- ---- What stands after bytes
+-- ---- What stands after bytes
 
-  module _ {S Part : Type 0} (Closes : List ℕ → List Part → Type 0) (At : S → List ℕ → List Part → Type 0)
-      (closed : (s : S) (p : List ℕ) (es : List Part) → At s p es → Closes p es) (goes_on : (s : S) (p : List ℕ) (es : List Part) → At s p es → Viable L p) where
-    abbrev Along : S → Meter → List ℕ → List Part → Type 0
-    Along = IsAlong L Breaks Many Closes At
+module _ {S Part : Type 0} (stream : Stream S Part) (closed : (s : S) (p : List ℕ) (es : List Part) → stream.at s p es → stream.closes p es)
+    (goes_on : (s : S) (p : List ℕ) (es : List Part) → stream.at s p es → Viable stream.language p) where
+  abbrev Along : S → Meter → List ℕ → List Part → Type 0
+  Along = IsAlong stream
 
-    -- Before any byte.
-    pub fresh : (s : S) (m : Meter) → At s [] [] → IsCounted m [] → Along s m [] []
-    fresh s m a n = record { state = a; counted = n; unstopped = λ k within. absurd (omega (arith, within)); closed = closed s [] [] a }
+  -- Before any byte.
+  pub fresh : (s : S) (m : Meter) → stream.at s [] [] → IsCounted m [] → Along s m [] []
+  fresh s m a n = record { state = a; counted = n; unstopped = λ k within. absurd (omega (arith, within)); closed = closed s [] [] a }
 
-    -- After a byte that was taken, whether it gave a part or not.
-    pub moved : (s : S) (old new : Meter) (p : List ℕ) (es : List Part) (b : ℕ) (full : Bool) → At s (p ++ b ∷ []) es → IsCounted old p → IsCounted new (p ++ b ∷ []) → new.limits ≡ old.limits → IsStreamUnstopped L Breaks Many old.limits p →
-        LimitIs old full None → FullIs L Many old.limits.max_lines p b full → Along s new (p ++ b ∷ []) es
-    moved s old new p es b full a h n li u l f = record {
-      state = a;
-      counted = n;
-      unstopped = rw li (unstopped_push L Breaks Many old.limits p b u (goes_on s (p ++ b ∷ []) es a) (free_of old p b full h l f));
-      closed = closed s (p ++ b ∷ []) es a;
-    }
+  -- After a byte that was taken, whether it gave a part or not.
+  pub moved : (s : S) (old new : Meter) (p : List ℕ) (es : List Part) (b : ℕ) (full : Bool) → stream.at s (p ++ b ∷ []) es → IsCounted old p → IsCounted new (p ++ b ∷ []) → new.limits ≡ old.limits → IsStreamUnstopped stream.language stream.breaks stream.many old.limits p →
+      LimitIs old full None → FullIs stream.language stream.many old.limits.max_lines p b full → Along s new (p ++ b ∷ []) es
+  moved s old new p es b full a h n li u l f = record {
+    state = a;
+    counted = n;
+    unstopped = rw li (unstopped_push stream.language stream.breaks stream.many old.limits p b u (goes_on s (p ++ b ∷ []) es a) (free_of stream.language stream.breaks stream.many old p b full h l f));
+    closed = closed s (p ++ b ∷ []) es a;
+  }
 
-    -- After a byte that wasn't.
-    pub stayed : (s : S) (old new : Meter) (p : List ℕ) (es : List Part) → At s p es → IsCounted old p → IsStreamUnstopped L Breaks Many old.limits p → new ≡ old → Along s new p es
-    stayed s old new p es a h u e = rw e (record { state = a; counted = h; unstopped = u; closed = closed s p es a })
+  -- After a byte that wasn't.
+  pub stayed : (s : S) (old new : Meter) (p : List ℕ) (es : List Part) → stream.at s p es → IsCounted old p → IsStreamUnstopped stream.language stream.breaks stream.many old.limits p → new ≡ old → Along s new p es
+  stayed s old new p es a h u e = rw e (record { state = a; counted = h; unstopped = u; closed = closed s p es a })
 
-    -- After a run.
-    pub ran : (s : S) (old new : Meter) (p q : List ℕ) (es : List Part) → At s (p ++ q) es → IsCounted old p → IsCounted new (p ++ q) → new.limits ≡ old.limits → IsStreamUnstopped L Breaks Many old.limits p → Lacks 10 q → AreFew (Many old.limits.max_lines) p q →
-        length q ≤ old.limits.max_record - old.record_len → length q ≤ old.limits.max_stream - old.offset → Along s new (p ++ q) es
-    ran s old new p [] es a h n li u plain few long far = record { state = a; counted = n; unstopped = rw (li, append-nil p) u; closed = closed s (p ++ []) es a }
-    ran s old new p (b ∷ q) es a h n li u plain few long far = record {
-      state = a;
-      counted = n;
-      unstopped = rw li (unstopped_run L Breaks Many old.limits p h.begun (b ∷ q) u (goes_on s (p ++ b ∷ q) es a) h.begins plain few (omega (arith, long, h.length_is)) (omega (arith, far, h.offset)));
-      closed = closed s (p ++ b ∷ q) es a;
-    }
+  -- After a run.
+  pub ran : (s : S) (old new : Meter) (p q : List ℕ) (es : List Part) → stream.at s (p ++ q) es → IsCounted old p → IsCounted new (p ++ q) → new.limits ≡ old.limits → IsStreamUnstopped stream.language stream.breaks stream.many old.limits p → Lacks 10 q → AreFew (stream.many old.limits.max_lines) p q →
+      length q ≤ old.limits.max_record - old.record_len → length q ≤ old.limits.max_stream - old.offset → Along s new (p ++ q) es
+  ran s old new p [] es a h n li u plain few long far = record { state = a; counted = n; unstopped = rw (li, append-nil p) u; closed = closed s (p ++ []) es a }
+  ran s old new p (b ∷ q) es a h n li u plain few long far = record {
+    state = a;
+    counted = n;
+    unstopped = rw li (unstopped_run stream.language stream.breaks stream.many old.limits p h.begun (b ∷ q) u (goes_on s (p ++ b ∷ q) es a) h.begins plain few (omega (arith, long, h.length_is)) (omega (arith, far, h.offset)));
+    closed = closed s (p ++ b ∷ q) es a;
+  }
 
-    -- After what comes of a line, with its newline.
-    pub ran_line : (s : S) (old new : Meter) (p q line : List ℕ) (es : List Part) → q ≡ line ++ 10 ∷ [] → At s (p ++ q) es → IsCounted old p → IsCounted new (p ++ q) → new.limits ≡ old.limits → IsStreamUnstopped L Breaks Many old.limits p →
-        Lacks 10 line → AreFew (Many old.limits.max_lines) p q → length q ≤ old.limits.max_record - old.record_len → length q ≤ old.limits.max_stream - old.offset → Along s new (p ++ q) es
-    ran_line s old new p q line es e a h n li u plain few long far =
-        let size : length q ≡ length line + 1 = ap length e ∙ length-append line (10 ∷ []) in
-        record {
-          state = a;
-          counted = n;
-          unstopped = rw (li, e) (unstopped_line L Breaks Many old.limits p h.begun line u (rw e at (goes_on s (p ++ q) es a)) h.begins plain (rw e at few) (omega (arith, long, size, h.length_is)) (omega (arith, far, size, h.offset)));
-          closed = closed s (p ++ q) es a;
-        }
+  -- After what comes of a line, with its newline.
+  pub ran_line : (s : S) (old new : Meter) (p q line : List ℕ) (es : List Part) → q ≡ line ++ 10 ∷ [] → stream.at s (p ++ q) es → IsCounted old p → IsCounted new (p ++ q) → new.limits ≡ old.limits → IsStreamUnstopped stream.language stream.breaks stream.many old.limits p →
+      Lacks 10 line → AreFew (stream.many old.limits.max_lines) p q → length q ≤ old.limits.max_record - old.record_len → length q ≤ old.limits.max_stream - old.offset → Along s new (p ++ q) es
+  ran_line s old new p q line es e a h n li u plain few long far =
+      let size : length q ≡ length line + 1 = ap length e ∙ length-append line (10 ∷ []) in
+      record {
+        state = a;
+        counted = n;
+        unstopped = rw (li, e) (unstopped_line stream.language stream.breaks stream.many old.limits p h.begun line u (rw e at (goes_on s (p ++ q) es a)) h.begins plain (rw e at few) (omega (arith, long, size, h.length_is)) (omega (arith, far, size, h.offset)));
+        closed = closed s (p ++ q) es a;
+      }
 
-  module _ {S Part : Type 0} (Closes : List ℕ → List Part → Type 0) (At : S → List ℕ → List Part → Type 0) where
-    -- What stands after a text stands after it in other words.
-    pub along_of : (s : S) (m : Meter) (t u : List ℕ) (es : List Part) → t ≡ u → IsAlong L Breaks Many Closes At s m t es → IsAlong L Breaks Many Closes At s m u es
-    along_of s m t u es e h = subst (λ (w : List ℕ). IsAlong L Breaks Many Closes At s m w es) e h
+module _ {S Part : Type 0} (stream : Stream S Part) where
+  -- What stands after a text stands after it in other words.
+  pub along_of : (s : S) (m : Meter) (t u : List ℕ) (es : List Part) → t ≡ u → IsAlong stream s m t es → IsAlong stream s m u es
+  along_of s m t u es e h = subst (λ (w : List ℕ). IsAlong stream s m w es) e h

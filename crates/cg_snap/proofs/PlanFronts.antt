@@ -8,13 +8,13 @@ use Rattle.cg_value.specs.Entry.{ItemData}
 use Rattle.cg_value.specs.EntryLaws.{item_path}
 use Rattle.cg_value.specs.PathLaws.{path_lacks_newline}
 use Rattle.cg_value.specs.declared.profile.Profile.{Profile}
+use Rattle.cg_snap.specs.Streams.{plan_stream}
 use Rattle.cg_snap.specs.Meter.{IsCounted}
-use Rattle.cg_snap.specs.Plan.{ClosedPlan, Plan}
+use Rattle.cg_snap.specs.Plan.{ClosedPlan}
 use Rattle.cg_snap.specs.PlanDecoder.{ItemsAreAlong}
 use Rattle.cg_snap.specs.PlanFront.{IsAtRecord, IsItemFront}
 use Rattle.cg_snap.specs.PlanLaws.{item_line_plain}
 use Rattle.cg_snap.specs.PlanState.{AtItemPath, HasTakenItems, items_closed, items_go_on}
-use Rattle.cg_snap.specs.PlanStop.{IsItemWhy, is_never_many}
 use Rattle.cg_snap.specs.declared.meter.Meter.{Meter}
 use Rattle.cg_snap.specs.declared.plan_records.PlanRecords.{PlanRecords}
 use Rattle.cg_snap.proofs.Courses.{ran_line}
@@ -80,6 +80,6 @@ item_along profile s old new p piece items item used b f counts limits long far 
     let size = front_line piece line used f.0 e in
     let same : length (take used piece) ≡ used = length-take-le used piece f.0 in
     let counted : IsCounted new (p ++ take used piece) = subst (λ (t : List ℕ). IsCounted new (p ++ t)) (sym e) (counts p line h.counted size.0) in
-    ran_line (Plan profile) (IsItemWhy profile) is_never_many (λ q es. ClosedPlan profile q es) (λ t. HasTakenItems t profile) (λ t. items_closed t profile) (λ t. items_go_on t profile)
+    ran_line (plan_stream profile) (λ t. items_closed t profile) (λ t. items_go_on t profile)
     s old new p (take used piece) line (items ++ item ∷ []) e (item_came profile s p piece items item used b f h.state) h.counted counted limits h.unstopped
     (record_plain profile s p piece items item used b f h.state) (never_few old.limits.max_lines p (take used piece)) (omega (arith, same, long)) (omega (arith, same, far))

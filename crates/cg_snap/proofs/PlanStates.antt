@@ -20,6 +20,7 @@ use Rattle.cg_value.specs.declared.profile.Profile.TheVariants.{One, Two}
 use Rattle.cg_value.specs.declared.setting.Setting.{Setting}
 use Rattle.cg_file.specs.WeightFileLaws.{not_empty}
 use Rattle.cg_line.specs.Takes.{Takes, takes_viable}
+use Rattle.cg_snap.specs.Streams.{plan_stream}
 use Rattle.cg_snap.specs.Begun.{IsBegun}
 use Rattle.cg_snap.specs.Course.{AreFew, DidStep, RefusedBy}
 use Rattle.cg_snap.specs.PathBytes.{ArePathBytes}
@@ -400,7 +401,7 @@ pub taken_items : (s : PlanRecords) (profile : Profile) (p : List ℕ) (items : 
 taken_items s profile p items e h = record { profile_is = e; at = h; closed = items_closed_by profile s.begun.items s.present p items h; goes_on = items_viable profile s.begun.items s.present p items h }
 
 did_same : (s : PlanRecords) (profile : Profile) (p : List ℕ) (items : List ItemData) (byte : ℕ) (d : Stepped ItemData) → s.profile ≡ profile → DidItem profile s.begun.items s.present p items byte d →
-    DidStep (Plan profile) (IsItemWhy profile) is_never_many (λ q fs. ClosedPlan profile q fs) (λ t. HasTakenItems t profile) s p items byte d
+    DidStep (plan_stream profile) s p items byte d
 did_same s profile p items byte steps.Taken e h = taken_items s profile (p ++ byte ∷ []) items e h
 did_same s profile p items byte (steps.Given item) e h = taken_items s profile (p ++ byte ∷ []) (items ++ item ∷ []) e h
 did_same s profile p items byte (steps.Refused why) e h = (taken_items s profile p items e h.0, h.1)
@@ -408,6 +409,6 @@ did_same s profile p items byte steps.OutOfMemory e h = (taken_items s profile p
 
 -- What a step of records of that profile leaves.
 pub did_items : (s : PlanRecords) (old profile : Profile) (p : List ℕ) (items : List ItemData) (byte : ℕ) (d : Stepped ItemData) → s.profile ≡ old → old ≡ profile → DidItem old s.begun.items s.present p items byte d →
-    DidStep (Plan profile) (IsItemWhy profile) is_never_many (λ q fs. ClosedPlan profile q fs) (λ t. HasTakenItems t profile) s p items byte d
+    DidStep (plan_stream profile) s p items byte d
 did_items s old profile p items byte d e f h =
-    subst (λ (form : Profile). DidStep (Plan form) (IsItemWhy form) is_never_many (λ q fs. ClosedPlan form q fs) (λ t. HasTakenItems t form) s p items byte d) f (did_same s old p items byte d e h)
+    subst (λ (form : Profile). DidStep (plan_stream form) s p items byte d) f (did_same s old p items byte d e h)

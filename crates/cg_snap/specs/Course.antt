@@ -37,39 +37,49 @@ abbrev pub OffersAre : (List ℕ → Type 0) → List ℕ → Option (List Bool)
 OffersAre L p None = (byte : ℕ) → Next L p byte → byte < 256
 OffersAre L p (Some set) = (byte : ℕ) → HasByte set byte ↔ Next L p byte
 
--- L, Breaks and Many are those of the stop of a stream; Closes says which parts some bytes close; and At that the state consumed
--- some bytes and gave some parts.
-module _ {S Part : Type 0} (L : List ℕ → Type 0) (Breaks : List ℕ → ℕ → Why → Type 0) (Many : ℕ → List ℕ → ℕ → Type 0)
-    (Closes : List ℕ → List Part → Type 0) (At : S → List ℕ → List Part → Type 0) where
+-- What makes a stream of records, and what the state S of its decoder says, whose parts are of the type Part.
+pub record Stream (S Part : Type 0) : Type 1 where
+  -- The texts of whole streams.
+  pub language : List ℕ → Type 0
+  -- Which rule a byte breaks after what is begun of its record.
+  pub breaks : List ℕ → ℕ → Why → Type 0
+  -- With the last byte of a text there are more records of one path than a limit.
+  pub many : ℕ → List ℕ → ℕ → Type 0
+  -- The parts that some bytes close.
+  pub closes : List ℕ → List Part → Type 0
+  -- The state took these bytes and gave these parts.
+  pub at : S → List ℕ → List Part → Type 0
+
+module _ {S Part : Type 0} (stream : Stream S Part) where
   -- What a step by the byte leaves.
   abbrev pub DidStep : S → List ℕ → List Part → ℕ → Stepped Part → Type 0
-  DidStep s p es byte steps.Taken = At s (p ++ byte ∷ []) es
-  DidStep s p es byte (steps.Given e) = At s (p ++ byte ∷ []) (es ++ e ∷ [])
-  DidStep s p es byte (steps.Refused why) = At s p es × RefusedBy L Breaks p byte (Some why)
-  DidStep s p es byte steps.OutOfMemory = At s p es × Next L p byte
+  DidStep s p es byte steps.Taken = stream.at s (p ++ byte ∷ []) es
+  DidStep s p es byte (steps.Given e) = stream.at s (p ++ byte ∷ []) (es ++ e ∷ [])
+  DidStep s p es byte (steps.Refused why) = stream.at s p es × RefusedBy stream.language stream.breaks p byte (Some why)
+  DidStep s p es byte steps.OutOfMemory = stream.at s p es × Next stream.language p byte
 
   -- The bytes p were consumed, of which none stops a stream, and the parts es given, which they close.
   pub record IsAlong (s : S) (m : Meter) (p : List ℕ) (es : List Part) : Type 0 where
-    pub state : At s p es
+    pub state : stream.at s p es
     pub counted : IsCounted m p
-    pub unstopped : IsStreamUnstopped L Breaks Many m.limits p
-    pub closed : Closes p es
+    pub unstopped : IsStreamUnstopped stream.language stream.breaks stream.many m.limits p
+    pub closed : stream.closes p es
 
   -- What one byte did.
   abbrev pub ByteDid : S → Meter → List ℕ → List Part → ℕ → Moved Part → Type 0
   ByteDid s m p es byte moves.Taken = IsAlong s m (p ++ byte ∷ []) es
-  ByteDid s m p es byte (moves.Given e) = Closes p es × IsAlong s m (p ++ byte ∷ []) (es ++ e ∷ [])
-  ByteDid s m p es byte (moves.Stopped stop) = StreamStopOf L Breaks Many m.limits (p ++ byte ∷ []) stop × IsAlong s m p es
-  ByteDid s m p es byte moves.OutOfMemory = IsStreamUnstopped L Breaks Many m.limits (p ++ byte ∷ []) × IsAlong s m p es
+  ByteDid s m p es byte (moves.Given e) = stream.closes p es × IsAlong s m (p ++ byte ∷ []) (es ++ e ∷ [])
+  ByteDid s m p es byte (moves.Stopped stop) = StreamStopOf stream.language stream.breaks stream.many m.limits (p ++ byte ∷ []) stop × IsAlong s m p es
+  ByteDid s m p es byte moves.OutOfMemory = IsStreamUnstopped stream.language stream.breaks stream.many m.limits (p ++ byte ∷ []) × IsAlong s m p es
 
   -- What the first bytes of a piece did, so many of them being consumed.
   abbrev pub PieceDid : S → Meter → List ℕ → List Part → List ℕ → ℕ → Moved Part → Type 0
   PieceDid s m p es piece used moves.Taken = (used ≡ length piece) × IsAlong s m (p ++ take used piece) es
-  PieceDid s m p es piece used (moves.Given e) = (0 < used) × Closes (p ++ take (used - 1) piece) es × IsAlong s m (p ++ take used piece) (es ++ e ∷ [])
+  PieceDid s m p es piece used (moves.Given e) = (0 < used) × stream.closes (p ++ take (used - 1) piece) es × IsAlong s m (p ++ take used piece) (es ++ e ∷ [])
   PieceDid s m p es piece used (moves.Stopped stop) =
-      (used < length piece) × StreamStopOf L Breaks Many m.limits (p ++ piece) stop × IsAlong s m (p ++ take used piece) es × (place_of stop ≡ length p + used)
+      (used < length piece) × StreamStopOf stream.language stream.breaks stream.many m.limits (p ++ piece) stop × IsAlong s m (p ++ take used piece) es × (place_of stop ≡ length p + used)
   PieceDid s m p es piece used moves.OutOfMemory =
-      (used < length piece) × IsStreamUnstopped L Breaks Many m.limits (p ++ take (used + 1) piece) × IsAlong s m (p ++ take used piece) es
+      (used < length piece) × IsStreamUnstopped stream.language stream.breaks stream.many m.limits (p ++ take (used + 1) piece) × IsAlong s m (p ++ take used piece) es
 
 -- Where nothing was found the whole piece, which is so long, was consumed; and a part comes with a byte.
 abbrev pub IsMovedBy : {Part : Type 0} → ℕ → ℕ → Moved Part → Type 0

@@ -4,11 +4,11 @@ use Rattle.cg_text.specs.Texts.{Viable}
 use Rattle.cg_value.specs.Entry.{EntryData}
 use Rattle.cg_value.specs.declared.profile.Profile.{Profile}
 use Rattle.cg_line.specs.Reads as reader
+use Rattle.cg_snap.specs.Streams.{snap_stream}
 use Rattle.cg_snap.specs.Closed.{Closed}
 use Rattle.cg_snap.specs.Course.{IsAlong}
-use Rattle.cg_snap.specs.DecoderState.{HasTakenRecords}
 use Rattle.cg_snap.specs.Snap.{Snap, SnapText}
-use Rattle.cg_snap.specs.SnapStop.{IsManyRecords, IsRecordWhy, IsSnapUnstopped, SnapStopOf}
+use Rattle.cg_snap.specs.SnapStop.{IsSnapUnstopped, SnapStopOf}
 use Rattle.cg_snap.specs.Stop.{place_of}
 use Rattle.cg_snap.specs.declared.decoder.Pulled.{Pulled}
 use Rattle.cg_snap.specs.declared.decoder.SnapshotDecoder.{SnapshotDecoder}
@@ -45,7 +45,7 @@ held_by d = length d.records.begun.items + held_in d.records.present
 
 -- Records of a snapshot and their meter, which consumed the bytes p, of which none stops a stream, and gave the entries es.
 abbrev pub AreAlong : Profile → SnapshotRecords → Meter → List ℕ → List EntryData → Type 0
-AreAlong profile = IsAlong (Snap profile) (IsRecordWhy profile) (IsManyRecords profile) (λ p es. Closed profile p es) (λ s. HasTakenRecords s profile)
+AreAlong profile = IsAlong (snap_stream profile)
 
 -- The decoder consumed the bytes p, of which none stops a stream, and gave the entries es.
 abbrev pub Stands : SnapshotDecoder → List ℕ → List EntryData → Type 0

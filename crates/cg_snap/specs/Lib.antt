@@ -29,3 +29,4 @@ pub mod SnapStop
 pub mod Sound
 pub mod Stop
 pub mod StreamStop
+pub mod Streams

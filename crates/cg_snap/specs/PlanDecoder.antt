@@ -4,10 +4,10 @@ use Rattle.cg_text.specs.Texts.{Viable}
 use Rattle.cg_value.specs.Entry.{ItemData}
 use Rattle.cg_value.specs.declared.profile.Profile.{Profile}
 use Rattle.cg_line.specs.Takes.{held_of}
+use Rattle.cg_snap.specs.Streams.{plan_stream}
 use Rattle.cg_snap.specs.Course.{IsAlong}
 use Rattle.cg_snap.specs.Plan.{ClosedPlan, Plan, PlanText}
-use Rattle.cg_snap.specs.PlanState.{HasTakenItems}
-use Rattle.cg_snap.specs.PlanStop.{IsItemWhy, IsPlanUnstopped, PlanStopOf, is_never_many}
+use Rattle.cg_snap.specs.PlanStop.{IsPlanUnstopped, PlanStopOf}
 use Rattle.cg_snap.specs.Stop.{place_of}
 use Rattle.cg_snap.specs.declared.limits.Limits.{Limits}
 use Rattle.cg_snap.specs.declared.meter.Meter.{Meter}
@@ -44,7 +44,7 @@ plan_held_by d = length d.records.begun.items + held_in_line d.records.present
 
 -- Records of a plan and their meter, which consumed the bytes p, of which none stops a stream, and gave the items.
 abbrev pub ItemsAreAlong : Profile → PlanRecords → Meter → List ℕ → List ItemData → Type 0
-ItemsAreAlong profile = IsAlong (Plan profile) (IsItemWhy profile) is_never_many (λ p items. ClosedPlan profile p items) (λ s. HasTakenItems s profile)
+ItemsAreAlong profile = IsAlong (plan_stream profile)
 
 -- The decoder consumed the bytes p, of which none stops a stream, and gave the items.
 abbrev pub StandsForPlan : PlanDecoder → List ℕ → List ItemData → Type 0

@@ -31,10 +31,8 @@ pub(crate) struct Progress<Part> {
 /// Takes one byte.
 fn advance<R: Records>(records: &mut R, meter: &mut Meter, byte: u8) -> Moved<R::Part>
     ensures moved { (form : Profile) (p : List ℕ) (es : List R.Part) →
-        IsAlong (R.language form) (R.breaks form) (R.many form) (R.closes form) (λ s. R.at s form) records.old meter.old
-        p es →
-        ByteDid (R.language form) (R.breaks form) (R.many form) (R.closes form) (λ s. R.at s form) records.new meter.new
-        p es byte result }
+        IsAlong (R.stream form) records.old meter.old p es →
+        ByteDid (R.stream form) records.new meter.new p es byte result }
     ensures profile { R.profile records.new ≡ R.profile records.old }
     ensures limits { meter.new.limits ≡ meter.old.limits }
 {
@@ -62,10 +60,8 @@ fn advance<R: Records>(records: &mut R, meter: &mut Meter, byte: u8) -> Moved<R:
 /// Takes at once the path of one more record with its NUL, and answers how many bytes.
 fn skip_head<R: Records>(records: &mut R, meter: &mut Meter, piece: &[u8]) -> usize
     ensures skipped { (form : Profile) (p : List ℕ) (es : List R.Part) →
-        IsAlong (R.language form) (R.breaks form) (R.many form) (R.closes form) (λ s. R.at s form) records.old meter.old
-        p es →
-        IsAlong (R.language form) (R.breaks form) (R.many form) (R.closes form) (λ s. R.at s form) records.new meter.new
-        (p ++ take result piece.now) es }
+        IsAlong (R.stream form) records.old meter.old p es →
+        IsAlong (R.stream form) records.new meter.new (p ++ take result piece.now) es }
     ensures within { result ≤ length piece.now }
     ensures profile { R.profile records.new ≡ R.profile records.old }
     ensures limits { meter.new.limits ≡ meter.old.limits }
@@ -78,10 +74,8 @@ fn skip_head<R: Records>(records: &mut R, meter: &mut Meter, piece: &[u8]) -> us
 /// Takes at once what comes of a line, with its newline where it gets that far.
 fn skip_line<R: Records>(records: &mut R, meter: &mut Meter, piece: &[u8]) -> LineTaken
     ensures skipped { (form : Profile) (p : List ℕ) (es : List R.Part) →
-        IsAlong (R.language form) (R.breaks form) (R.many form) (R.closes form) (λ s. R.at s form) records.old meter.old
-        p es →
-        IsAlong (R.language form) (R.breaks form) (R.many form) (R.closes form) (λ s. R.at s form) records.new meter.new
-        (p ++ take result.used piece.now) es }
+        IsAlong (R.stream form) records.old meter.old p es →
+        IsAlong (R.stream form) records.new meter.new (p ++ take result.used piece.now) es }
     ensures within { result.used ≤ length piece.now }
     ensures some { IsTrue result.ended → 0 < result.used }
     ensures profile { R.profile records.new ≡ R.profile records.old }
@@ -99,10 +93,8 @@ fn skip_line<R: Records>(records: &mut R, meter: &mut Meter, piece: &[u8]) -> Li
 /// Takes at once one more record whole, and answers how many bytes.
 fn skip_whole<R: Records>(records: &mut R, meter: &mut Meter, piece: &[u8]) -> usize
     ensures skipped { (form : Profile) (p : List ℕ) (es : List R.Part) →
-        IsAlong (R.language form) (R.breaks form) (R.many form) (R.closes form) (λ s. R.at s form) records.old meter.old
-        p es →
-        IsAlong (R.language form) (R.breaks form) (R.many form) (R.closes form) (λ s. R.at s form) records.new meter.new
-        (p ++ take result piece.now) es }
+        IsAlong (R.stream form) records.old meter.old p es →
+        IsAlong (R.stream form) records.new meter.new (p ++ take result piece.now) es }
     ensures within { result ≤ length piece.now }
     ensures profile { R.profile records.new ≡ R.profile records.old }
     ensures limits { meter.new.limits ≡ meter.old.limits }
@@ -118,10 +110,8 @@ fn skip_whole<R: Records>(records: &mut R, meter: &mut Meter, piece: &[u8]) -> u
 /// as it can. Answers how many bytes, and whether a line was ended.
 fn skip_record<R: Records>(records: &mut R, meter: &mut Meter, piece: &[u8]) -> (usize, bool)
     ensures skipped { (form : Profile) (p : List ℕ) (es : List R.Part) →
-        IsAlong (R.language form) (R.breaks form) (R.many form) (R.closes form) (λ s. R.at s form) records.old meter.old
-        p es →
-        IsAlong (R.language form) (R.breaks form) (R.many form) (R.closes form) (λ s. R.at s form) records.new meter.new
-        (p ++ take result.0 piece.now) es }
+        IsAlong (R.stream form) records.old meter.old p es →
+        IsAlong (R.stream form) records.new meter.new (p ++ take result.0 piece.now) es }
     ensures within { result.0 ≤ length piece.now }
     ensures some { IsTrue result.1 → 0 < result.0 }
     ensures profile { R.profile records.new ≡ R.profile records.old }
@@ -141,10 +131,8 @@ fn skip_record<R: Records>(records: &mut R, meter: &mut Meter, piece: &[u8]) -> 
 /// bytes.
 fn skip_records<R: Records>(records: &mut R, meter: &mut Meter, piece: &[u8]) -> usize
     ensures skipped { (form : Profile) (p : List ℕ) (es : List R.Part) →
-        IsAlong (R.language form) (R.breaks form) (R.many form) (R.closes form) (λ s. R.at s form) records.old meter.old
-        p es →
-        IsAlong (R.language form) (R.breaks form) (R.many form) (R.closes form) (λ s. R.at s form) records.new meter.new
-        (p ++ take result piece.now) es }
+        IsAlong (R.stream form) records.old meter.old p es →
+        IsAlong (R.stream form) records.new meter.new (p ++ take result piece.now) es }
     ensures within { result ≤ length piece.now }
     ensures profile { R.profile records.new ≡ R.profile records.old }
     ensures limits { meter.new.limits ≡ meter.old.limits }
@@ -163,10 +151,8 @@ fn skip_records<R: Records>(records: &mut R, meter: &mut Meter, piece: &[u8]) ->
 /// Takes at once what comes of a path or of a line, and answers how many bytes.
 fn skip_run<R: Records>(records: &mut R, meter: &mut Meter, piece: &[u8]) -> usize
     ensures skipped { (form : Profile) (p : List ℕ) (es : List R.Part) →
-        IsAlong (R.language form) (R.breaks form) (R.many form) (R.closes form) (λ s. R.at s form) records.old meter.old
-        p es →
-        IsAlong (R.language form) (R.breaks form) (R.many form) (R.closes form) (λ s. R.at s form) records.new meter.new
-        (p ++ take result piece.now) es }
+        IsAlong (R.stream form) records.old meter.old p es →
+        IsAlong (R.stream form) records.new meter.new (p ++ take result piece.now) es }
     ensures within { result ≤ length piece.now }
     ensures profile { R.profile records.new ≡ R.profile records.old }
     ensures limits { meter.new.limits ≡ meter.old.limits }
@@ -179,10 +165,8 @@ fn skip_run<R: Records>(records: &mut R, meter: &mut Meter, piece: &[u8]) -> usi
 /// Takes at once records of the entry at hand, and what then comes of a path or of a line, and answers how many bytes.
 fn skip<R: Records>(records: &mut R, meter: &mut Meter, piece: &[u8]) -> usize
     ensures skipped { (form : Profile) (p : List ℕ) (es : List R.Part) →
-        IsAlong (R.language form) (R.breaks form) (R.many form) (R.closes form) (λ s. R.at s form) records.old meter.old
-        p es →
-        IsAlong (R.language form) (R.breaks form) (R.many form) (R.closes form) (λ s. R.at s form) records.new meter.new
-        (p ++ take result piece.now) es }
+        IsAlong (R.stream form) records.old meter.old p es →
+        IsAlong (R.stream form) records.new meter.new (p ++ take result piece.now) es }
     ensures within { result ≤ length piece.now }
     ensures profile { R.profile records.new ≡ R.profile records.old }
     ensures limits { meter.new.limits ≡ meter.old.limits }
@@ -200,10 +184,8 @@ pub(crate) fn pull<R: Records>(
     piece: &[u8],
 ) -> Progress<R::Part>
     ensures pulled { (form : Profile) (p : List ℕ) (es : List R.Part) →
-        IsAlong (R.language form) (R.breaks form) (R.many form) (R.closes form) (λ s. R.at s form) records.old meter.old
-        p es →
-        PieceDid (R.language form) (R.breaks form) (R.many form) (R.closes form) (λ s. R.at s form) records.new
-        meter.new p es piece.now result.used result.moved }
+        IsAlong (R.stream form) records.old meter.old p es →
+        PieceDid (R.stream form) records.new meter.new p es piece.now result.used result.moved }
     ensures used { result.used ≤ length piece.now }
     ensures progress { IsMovedBy (length piece.now) result.used result.moved }
     ensures profile { R.profile records.new ≡ R.profile records.old }
@@ -245,8 +227,8 @@ pub(crate) fn pull<R: Records>(
 
 /// The bytes with which some text goes on.
 pub(crate) fn allowed<R: Records>(records: &R) -> ByteSet
-    ensures { (form : Profile) (p : List ℕ) (es : List R.Part) → R.at records.now form p es → (byte : ℕ) →
-        HasByte result byte ↔ Next (R.language form) p byte }
+    ensures { (form : Profile) (p : List ℕ) (es : List R.Part) → (R.stream form).at records.now p es → (byte : ℕ) →
+        HasByte result byte ↔ Next (R.stream form).language p byte }
 {
     if let Some(set) = records.line_allowed() {
         return set;

@@ -34,11 +34,9 @@ fn take_all<R: Records>(
     parts: &mut Vec<R::Part>,
     bytes: &[u8],
 ) -> Option<StreamFault>
-    ensures taken { (form : Profile) → IsAlong (R.language form) (R.breaks form) (R.many form) (R.closes form)
-        (λ s. R.at s form) records.old meter.old [] parts.old.items →
-        MatchOption result (IsAlong (R.language form) (R.breaks form) (R.many form) (R.closes form) (λ s. R.at s form)
-        records.new meter.new bytes.now parts.new.items)
-        (λ fault. IsStreamFault (R.language form) (R.breaks form) (R.many form) meter.old.limits bytes.now fault) }
+    ensures taken { (form : Profile) → IsAlong (R.stream form) records.old meter.old [] parts.old.items →
+        MatchOption result (IsAlong (R.stream form) records.new meter.new bytes.now parts.new.items)
+        (λ fault. IsStreamFault (R.stream form).language (R.stream form).breaks (R.stream form).many meter.old.limits bytes.now fault) }
     ensures limits { meter.new.limits ≡ meter.old.limits }
 {
     let mut used = 0;

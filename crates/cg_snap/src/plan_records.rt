@@ -183,21 +183,12 @@ fn take_line(begun: &Vec<u8>, writing: &mut Writing, piece: &[u8], room: u64) ->
 impl Records for PlanRecords {
     type Part = PlanItem;
 
-    ghost use Rattle.cg_snap.specs.Plan.{ClosedPlan, Plan};
-    ghost use Rattle.cg_snap.specs.PlanState.{HasTakenItems, items_closed, items_go_on};
-    ghost use Rattle.cg_snap.specs.PlanStop.{IsItemWhy, is_never_many};
+    ghost use Rattle.cg_snap.specs.PlanState.{items_closed, items_go_on};
+    ghost use Rattle.cg_snap.specs.Streams.{plan_stream};
 
     ghost profile = { λ s. s.profile };
 
-    ghost language = { Plan };
-
-    ghost breaks = { IsItemWhy };
-
-    ghost many = { λ form. is_never_many };
-
-    ghost closes = { λ form p items. ClosedPlan form p items };
-
-    ghost at = { HasTakenItems };
+    ghost stream = { plan_stream };
 
     ghost closed = { items_closed };
 

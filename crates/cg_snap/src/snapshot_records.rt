@@ -44,22 +44,12 @@ impl SnapshotRecords {
 impl Records for SnapshotRecords {
     type Part = Entry;
 
-    ghost use Rattle.cg_snap.specs.Closed.{Closed};
-    ghost use Rattle.cg_snap.specs.DecoderState.{HasTakenRecords, records_closed, records_go_on};
-    ghost use Rattle.cg_snap.specs.Snap.{Snap};
-    ghost use Rattle.cg_snap.specs.SnapStop.{IsManyRecords, IsRecordWhy};
+    ghost use Rattle.cg_snap.specs.DecoderState.{records_closed, records_go_on};
+    ghost use Rattle.cg_snap.specs.Streams.{snap_stream};
 
     ghost profile = { λ s. s.profile };
 
-    ghost language = { Snap };
-
-    ghost breaks = { IsRecordWhy };
-
-    ghost many = { IsManyRecords };
-
-    ghost closes = { λ form p es. Closed form p es };
-
-    ghost at = { HasTakenRecords };
+    ghost stream = { snap_stream };
 
     ghost closed = { records_closed };
 

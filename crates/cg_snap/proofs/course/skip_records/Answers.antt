@@ -8,7 +8,7 @@ loop-used-preserved g c = record {
   along = λ form p es h.
       let piece = c.args.piece.now in
       let at = c.loop-used.used + c.skip_record-count.result.0 in
-      along_of (g.R.Records.language form) (g.R.Records.breaks form) (g.R.Records.many form) (g.R.Records.closes form) (λ s. g.R.Records.at s form)
+      along_of (g.R.Records.stream form)
       c.skip_record-count.new.records c.skip_record-count.new.meter ((p ++ take c.loop-used.used piece) ++ take c.skip_record-count.result.0 c.split_at.result.1.now) (p ++ take at piece) es
       (text_on p piece c.split_at.result.1.now c.loop-used.used c.skip_record-count.result.0 c.split_at.ensures.back) (c.skip_record-count.ensures.skipped form (p ++ take c.loop-used.used piece) es (c.loop-used.invariant.along form p es h));
   within = omega (arith, c.skip_record-count.ensures.within, c.loop-used.invariant.within, ap length c.split_at.ensures.back, length-drop c.loop-used.used c.args.piece.now);
@@ -20,6 +20,6 @@ pub returns-then-not-goes_on-clause-skipped : goal.returns-then-not-goes_on-clau
 returns-then-not-goes_on-clause-skipped g c form p es h =
     let piece = c.args.piece.now in
     let at = c.loop-used.used + c.skip_record-count.result.0 in
-    along_of (g.R.Records.language form) (g.R.Records.breaks form) (g.R.Records.many form) (g.R.Records.closes form) (λ s. g.R.Records.at s form)
+    along_of (g.R.Records.stream form)
     c.skip_record-count.new.records c.skip_record-count.new.meter ((p ++ take c.loop-used.used piece) ++ take c.skip_record-count.result.0 c.split_at.result.1.now) (p ++ take at piece) es
     (text_on p piece c.split_at.result.1.now c.loop-used.used c.skip_record-count.result.0 c.split_at.ensures.back) (c.skip_record-count.ensures.skipped form (p ++ take c.loop-used.used piece) es (c.loop-used.invariant.along form p es h))

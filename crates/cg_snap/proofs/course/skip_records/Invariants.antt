@@ -6,8 +6,8 @@ use Rattle.cg_snap.proofs.course.skip_records.Given as goal
 abbrev pub invariant-loop-used : goal.invariant-loop-used
 invariant-loop-used g l = record {
   along : (form : Profile) (p : List ℕ) (es : List g.row.R-Part.Denot) →
-      IsAlong (g.R.Records.language form) (g.R.Records.breaks form) (g.R.Records.many form) (g.R.Records.closes form) (λ s. g.R.Records.at s form) l.fn.records l.fn.meter p es →
-      IsAlong (g.R.Records.language form) (g.R.Records.breaks form) (g.R.Records.many form) (g.R.Records.closes form) (λ s. g.R.Records.at s form) l.records l.meter (p ++ take l.used l.piece) es;
+      IsAlong (g.R.Records.stream form) l.fn.records l.fn.meter p es →
+      IsAlong (g.R.Records.stream form) l.records l.meter (p ++ take l.used l.piece) es;
   within : l.used ≤ length l.piece;
   profile : g.R.Records.profile l.records ≡ g.R.Records.profile l.fn.records;
   limits : l.meter.limits ≡ l.fn.meter.limits;

@@ -8,7 +8,7 @@ returns-clause-skipped g c form p es h =
     let n = c.take_run-used.result in
     let q = take n c.args.piece.now in
     let same : length q ≡ n = length-take-le n c.args.piece.now c.take_run-used.ensures.within in
-    ran (g.R.Records.language form) (g.R.Records.breaks form) (g.R.Records.many form) (g.R.Records.closes form) (λ s. g.R.Records.at s form) (λ s. g.R.Records.closed s form) (λ s. g.R.Records.goes_on s form)
+    ran (g.R.Records.stream form) (λ s. g.R.Records.closed s form) (λ s. g.R.Records.goes_on s form)
     c.take_run-used.new.self c.args.meter.now c.count_run.new.self p q es (c.take_run-used.ensures.taken form p es h.state) h.counted (c.count_run.ensures.counted p q h.counted c.take_run-used.ensures.plain (sym same))
     c.count_run.ensures.limits h.unstopped c.take_run-used.ensures.plain (c.take_run-used.ensures.few form p es c.args.meter.now.limits.max_lines h.state)
     (omega (arith, same, c.take_run-used.ensures.room, c.room.ensures.record)) (omega (arith, same, c.take_run-used.ensures.room, c.room.ensures.stream))

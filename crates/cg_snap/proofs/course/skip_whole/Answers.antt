@@ -13,7 +13,7 @@ returns-then-whole-gt0-clause-skipped g c form p es h =
     let same : length q ≡ n = length-take-le n c.args.piece.now took.ensures.within in
     let size : n ≡ length l.0 + 1 = omega (arith, same, ap length l.1, length-append l.0 (10 ∷ [])) in
     let counted : IsCounted c.count_line.new.self (p ++ q) = subst (λ (t : List ℕ). IsCounted c.count_line.new.self (p ++ t)) (sym l.1) (c.count_line.ensures.counted p l.0 h.counted size) in
-    ran_line (g.R.Records.language form) (g.R.Records.breaks form) (g.R.Records.many form) (g.R.Records.closes form) (λ s. g.R.Records.at s form) (λ s. g.R.Records.closed s form) (λ s. g.R.Records.goes_on s form)
+    ran_line (g.R.Records.stream form) (λ s. g.R.Records.closed s form) (λ s. g.R.Records.goes_on s form)
     took.new.self c.args.meter.now c.count_line.new.self p q l.0 es l.1 (took.ensures.taken form p es h.state) h.counted counted
     c.count_line.ensures.limits h.unstopped l.2 (took.ensures.few form p es h.state)
     (omega (arith, same, took.ensures.room, c.room.ensures.record)) (omega (arith, same, took.ensures.room, c.room.ensures.stream))

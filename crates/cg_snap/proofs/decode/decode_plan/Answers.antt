@@ -1,8 +1,8 @@
 use Rattle.std.proofs.Common.{[], ◌∙◌, sym, subst}
-use Rattle.cg_snap.specs.Plan.{ClosedPlan, Plan}
+use Rattle.cg_snap.specs.Streams.{plan_stream}
 use Rattle.cg_snap.specs.PlanDecoder.{ItemsAreAlong}
-use Rattle.cg_snap.specs.PlanState.{HasTakenItems, items_closed, items_go_on}
-use Rattle.cg_snap.specs.PlanStop.{IsItemWhy, IsPlanUnstopped, is_never_many}
+use Rattle.cg_snap.specs.PlanState.{items_closed, items_go_on}
+use Rattle.cg_snap.specs.PlanStop.{IsPlanUnstopped}
 use Rattle.cg_snap.specs.declared.limits.Limits.{Limits}
 use Rattle.cg_snap.proofs.Courses.{fresh}
 use Rattle.cg_snap.proofs.Wholes.{plan_ended_err, planned}
@@ -12,7 +12,7 @@ pub returns-in-Ok : goal.returns-in-Ok
 returns-in-Ok c =
     let profile = c.args.profile in
     let bytes = c.args.bytes.now in
-    let first = fresh (Plan profile) (IsItemWhy profile) is_never_many (λ p items. ClosedPlan profile p items) (λ s. HasTakenItems s profile) (λ s. items_closed s profile) (λ s. items_go_on s profile)
+    let first = fresh (plan_stream profile) (λ s. items_closed s profile) (λ s. items_go_on s profile)
     c.new-records.result c.new-meter.result c.new-records.ensures.taken c.new-meter.ensures.counted in
     let a = c.in_default.ensures.taken profile (subst (ItemsAreAlong profile c.new-records.result c.new-meter.result []) (sym c.new-items.ensures.items) first) in
     planned profile c.take_all.new.meter.limits c.args.limits bytes c.take_all.new.parts.items
@@ -23,7 +23,7 @@ pub returns : goal.returns
 returns c =
     let profile = c.args.profile in
     let bytes = c.args.bytes.now in
-    let first = fresh (Plan profile) (IsItemWhy profile) is_never_many (λ p items. ClosedPlan profile p items) (λ s. HasTakenItems s profile) (λ s. items_closed s profile) (λ s. items_go_on s profile)
+    let first = fresh (plan_stream profile) (λ s. items_closed s profile) (λ s. items_go_on s profile)
     c.new-records.result c.new-meter.result c.new-records.ensures.taken c.new-meter.ensures.counted in
     let a = c.in_default.ensures.taken profile (subst (ItemsAreAlong profile c.new-records.result c.new-meter.result []) (sym c.new-items.ensures.items) first) in
     let limits = c.in_default.ensures.limits ∙ c.new-meter.ensures.limits in

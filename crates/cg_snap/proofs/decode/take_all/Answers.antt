@@ -19,7 +19,7 @@ loop-used-preserved-in-Taken g c = record {
       let rest = c.split_at.result.1.now in
       let back = c.split_at.ensures.back in
       let w = rw c.in-Taken.is at (c.pull-progress.ensures.pulled form (take at bytes) c.loop-used.parts.items (c.loop-used.invariant.along form h)) in
-      along_of (g.R.Records.language form) (g.R.Records.breaks form) (g.R.Records.many form) (g.R.Records.closes form) (λ s. g.R.Records.at s form)
+      along_of (g.R.Records.stream form)
       c.pull-progress.new.records c.pull-progress.new.meter (take at bytes ++ take n rest) (take (at + n) bytes) c.loop-used.parts.items (text_on [] bytes rest at n back) w.1;
   within = omega (arith, c.pull-progress.ensures.used, c.loop-used-test.true, left c.args.bytes.now c.split_at.result.1.now c.loop-used.used c.split_at.ensures.back);
   limits = c.pull-progress.ensures.limits ∙ c.loop-used.invariant.limits;
@@ -34,11 +34,9 @@ loop-used-preserved g c = record {
       let rest = c.split_at.result.1.now in
       let back = c.split_at.ensures.back in
       let w = rw c.in-Given.is at (c.pull-progress.ensures.pulled form (take at bytes) c.loop-used.parts.items (c.loop-used.invariant.along form h)) in
-      let s = along_of (g.R.Records.language form) (g.R.Records.breaks form) (g.R.Records.many form) (g.R.Records.closes form) (λ s. g.R.Records.at s form)
+      let s = along_of (g.R.Records.stream form)
       c.pull-progress.new.records c.pull-progress.new.meter (take at bytes ++ take n rest) (take (at + n) bytes) _ (text_on [] bytes rest at n back) w.2 in
-      let Gave = λ (parts : List g.row.R-Part.Denot). IsAlong (g.R.Records.language form) (g.R.Records.breaks form)
-      (g.R.Records.many form) (g.R.Records.closes form)
-      (λ s. g.R.Records.at s form) c.pull-progress.new.records c.pull-progress.new.meter
+      let Gave = λ (parts : List g.row.R-Part.Denot). IsAlong (g.R.Records.stream form) c.pull-progress.new.records c.pull-progress.new.meter
       (take (at + n) bytes) parts in
       subst Gave (sym c.in-Ok.ensures.items) (subst (λ (part : g.row.R-Part.Denot). Gave (c.loop-used.parts.items ++ part ∷ [])) (sym c.in-Given.part-is) s);
   within = omega (arith, c.pull-progress.ensures.used, c.loop-used-test.true, left c.args.bytes.now c.split_at.result.1.now c.loop-used.used c.split_at.ensures.back);
@@ -53,9 +51,9 @@ returns-in-Err-clause-taken g c form h =
     let rest = c.split_at.result.1.now in
     let back = c.split_at.ensures.back in
     let w = rw c.in-Given.is at (c.pull-progress.ensures.pulled form (take at bytes) c.loop-used.parts.items (c.loop-used.invariant.along form h)) in
-    let s = along_of (g.R.Records.language form) (g.R.Records.breaks form) (g.R.Records.many form) (g.R.Records.closes form) (λ s. g.R.Records.at s form)
+    let s = along_of (g.R.Records.stream form)
     c.pull-progress.new.records c.pull-progress.new.meter (take at bytes ++ take n rest) (take (at + n) bytes) _ (text_on [] bytes rest at n back) w.2 in
-    starved_before (g.R.Records.language form) (g.R.Records.breaks form) (g.R.Records.many form) c.pull-progress.new.meter.limits c.args.meter.now.limits bytes (at + n) (c.pull-progress.ensures.limits ∙ c.loop-used.invariant.limits)
+    starved_before ((g.R.Records.stream form).language) ((g.R.Records.stream form).breaks) ((g.R.Records.stream form).many) c.pull-progress.new.meter.limits c.args.meter.now.limits bytes (at + n) (c.pull-progress.ensures.limits ∙ c.loop-used.invariant.limits)
     (omega (arith, w.0)) (omega (arith, c.pull-progress.ensures.used, c.loop-used-test.true, left bytes rest at back)) s.unstopped
 
 pub returns-in-Stopped-clause-taken : goal.returns-in-Stopped-clause-taken
@@ -66,8 +64,8 @@ returns-in-Stopped-clause-taken g c form h =
     let rest = c.split_at.result.1.now in
     let back = c.split_at.ensures.back in
     let w = rw c.in-Stopped.is at (c.pull-progress.ensures.pulled form (take at bytes) c.loop-used.parts.items (c.loop-used.invariant.along form h)) in
-    stopped_at (g.R.Records.language form) (g.R.Records.breaks form)
-    (g.R.Records.many form) c.pull-progress.new.meter.limits c.args.meter.now.limits bytes rest at
+    stopped_at ((g.R.Records.stream form).language) ((g.R.Records.stream form).breaks)
+    ((g.R.Records.stream form).many) c.pull-progress.new.meter.limits c.args.meter.now.limits bytes rest at
     c.in-Stopped.stop (c.pull-progress.ensures.limits ∙ c.loop-used.invariant.limits) back w.1
 
 pub returns-in-OutOfMemory-clause-taken : goal.returns-in-OutOfMemory-clause-taken
@@ -78,13 +76,13 @@ returns-in-OutOfMemory-clause-taken g c form h =
     let rest = c.split_at.result.1.now in
     let back = c.split_at.ensures.back in
     let w = rw c.in-OutOfMemory.is at (c.pull-progress.ensures.pulled form (take at bytes) c.loop-used.parts.items (c.loop-used.invariant.along form h)) in
-    starved_at (g.R.Records.language form) (g.R.Records.breaks form)
-    (g.R.Records.many form) c.pull-progress.new.meter.limits c.args.meter.now.limits bytes rest at n
+    starved_at ((g.R.Records.stream form).language) ((g.R.Records.stream form).breaks)
+    ((g.R.Records.stream form).many) c.pull-progress.new.meter.limits c.args.meter.now.limits bytes rest at n
     (c.pull-progress.ensures.limits ∙ c.loop-used.invariant.limits) back w.0 w.1
 
 pub returns-clause-taken : goal.returns-clause-taken
 returns-clause-taken g c form h =
     let bytes = c.args.bytes.now in
     let all : take c.loop-used.used bytes ≡ bytes = take_all c.loop-used.used bytes (omega (arith, c.loop-used-test.false)) in
-    along_of (g.R.Records.language form) (g.R.Records.breaks form) (g.R.Records.many form) (g.R.Records.closes form) (λ s. g.R.Records.at s form)
+    along_of (g.R.Records.stream form)
     c.loop-used.records c.loop-used.meter (take c.loop-used.used bytes) bytes c.loop-used.parts.items all (c.loop-used.invariant.along form h)

@@ -5,8 +5,8 @@ use Rattle.cg_snap.proofs.decode.take_all.Given as goal
 
 abbrev pub invariant-loop-used : goal.invariant-loop-used
 invariant-loop-used g l = record {
-  along : (form : Profile) → IsAlong (g.R.Records.language form) (g.R.Records.breaks form) (g.R.Records.many form) (g.R.Records.closes form) (λ s. g.R.Records.at s form) l.fn.records l.fn.meter [] l.fn.parts.items →
-      IsAlong (g.R.Records.language form) (g.R.Records.breaks form) (g.R.Records.many form) (g.R.Records.closes form) (λ s. g.R.Records.at s form) l.records l.meter (take l.used l.bytes) l.parts.items;
+  along : (form : Profile) → IsAlong (g.R.Records.stream form) l.fn.records l.fn.meter [] l.fn.parts.items →
+      IsAlong (g.R.Records.stream form) l.records l.meter (take l.used l.bytes) l.parts.items;
   within : l.used ≤ length l.bytes;
   limits : l.meter.limits ≡ l.fn.meter.limits;
 }
