@@ -34,7 +34,8 @@ fn word_of(entry: &Entry, place: usize) -> &[u8]
 
 /// Adds the path of a `cgroup.subtree_control`, a space and its word at this place.
 fn add_control(line: &mut Vec<u8>, control: &Entry, place: usize) -> Result<(), OutOfMemory>
-    ensures { OnOk result (line.new.items ≡ line.old.items ++ (control.now.path ++ 32 ∷ word_at control.now.value place)) }
+    ensures { OnOk result (line.new.items ≡ line.old.items ++
+        (control.now.path ++ 32 ∷ word_at control.now.value place)) }
 {
     line.extend_from_slice(control.path())?;
     line.push(b' ')?;
@@ -73,7 +74,8 @@ fn told_lines<W: Sink>(
     writer: &mut W,
 ) -> Outcome
     ensures told { (first : Option (List ℕ)) → HasWritten first (W.taken writer.old) [] 0 →
-        HasWrittenLines (map (finding_line entries.now) found.now) first (W.taken writer.new) (W.has_failed writer.new) result }
+        HasWrittenLines (map (finding_line entries.now) found.now) first (W.taken writer.new) (W.has_failed writer.new)
+        result }
     ensures real { IsRealFault result (W.has_failed writer.new) }
 {
     let mut written = 0;
@@ -95,9 +97,11 @@ fn told_lines<W: Sink>(
 
 /// Writes what the entries of the snapshot break, once its input has ended.
 fn told_findings<W: Sink>(alloc: Global, kept: KeptReader, writer: &mut W) -> Outcome
-    ensures ended { (form : Profile × Limits) (first : Option (List ℕ)) (read : List ℕ) (written : ℕ) → Before (HasKept kept form) first (W.taken writer.old) written read →
+    ensures ended { (form : Profile × Limits) (first : Option (List ℕ)) (read : List ℕ) (written : ℕ) →
+        Before (HasKept kept form) first (W.taken writer.old) written read →
         (left : Option (List ℕ)) (failed : Bool) → IsAtEnd left → failed ≡ false →
-        EndsSo (IsCheckedRight (form.0) (form.1)) read left failed first (W.taken writer.new) (W.has_failed writer.new) result }
+        EndsSo (IsCheckedRight (form.0) (form.1)) read left failed first (W.taken writer.new) (W.has_failed writer.new)
+        result }
     ensures real { IsRealFault result (W.has_failed writer.new) }
 {
     let entries = match kept.finish() {

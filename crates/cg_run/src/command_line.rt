@@ -107,8 +107,8 @@ fn subcommand<'a>(
     optioned(alloc, profiles, named(alloc, row.takes_name, command)?)
 }
 
-/// The names of the profiles, which `clap` holds by reference: a struct, so that the invariant of a loop can speak of where
-/// they lie.
+/// The names of the profiles, which `clap` holds by reference: a struct, so that the invariant of a loop can speak of
+/// where they lie.
 #[derive(Clone, Copy)]
 struct ProfileNames<'a> {
     names: &'a [&'a str],

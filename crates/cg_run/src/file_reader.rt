@@ -15,9 +15,9 @@ use std::alloc::Global;
 /// How many bytes at least are taken by one reader, before what they spell is let go of.
 const ROOM: usize = 16384;
 
-/// A reader of one file, and the bytes that it took. The value of the file is not wanted, so where lines don't depend on
-/// one another, the reader is made anew at the end of a line every now and then, and holds no more than the lines since
-/// then.
+/// A reader of one file, and the bytes that it took. The value of the file is not wanted, so where lines don't depend
+/// on one another, the reader is made anew at the end of a line every now and then, and holds no more than the lines
+/// since then.
 #[derive(Drop)]
 pub(crate) struct FileReader {
     alloc: Global,
@@ -90,8 +90,8 @@ impl FileReader {
         has_lines_alone(self.kind) && self.reader.can_finish()
     }
 
-    /// Makes the reader anew, so that what the bytes spell is let go of. It is a function of its own, since the room for
-    /// a new reader is cleared whenever a function that makes one is entered.
+    /// Makes the reader anew, so that what the bytes spell is let go of. It is a function of its own, since the room
+    /// for a new reader is cleared whenever a function that makes one is entered.
     #[inline(never)]
     fn renew(&mut self)
         ensures kept { (kind : ReadForm) (taken : List ℕ) → HasKept self.old kind taken → IsLetGo kind taken →

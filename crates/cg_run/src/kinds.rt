@@ -51,7 +51,8 @@ fn line_of(profile: Profile, name: &[u8]) -> Line
 
 /// Writes the list, by lines. It takes no memory.
 pub(crate) fn told_kinds<W: Sink>(profile: Profile, writer: &mut W) -> Outcome
-    ensures { Wrote (W.taken writer.old) (W.taken writer.new) (W.has_failed writer.new) (joined (kinds_lines profile)) Outcome.Done result }
+    ensures { Wrote (W.taken writer.old) (W.taken writer.new) (W.has_failed writer.new) (joined (kinds_lines profile))
+        Outcome.Done result }
 {
     let mut written = 0;
     let mut place = 0;

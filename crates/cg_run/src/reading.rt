@@ -24,7 +24,8 @@ pub(crate) enum Ending {
 
 /// How the byte whose place is the limit of the stream stops it: by the grammar first.
 fn stop_at_limit<T: TextReader>(reader: &T, byte: u8, at: u64) -> Stop
-    ensures { (form : T.Form) (taken : List ℕ) → T.took reader.now form taken → at ≡ length taken → TextStopOf (TextOf (T.text form)) at (taken ++ byte ∷ []) result }
+    ensures { (form : T.Form) (taken : List ℕ) → T.took reader.now form taken → at ≡ length taken →
+        TextStopOf (TextOf (T.text form)) at (taken ++ byte ∷ []) result }
 {
     if reader.allowed().contains(byte) {
         Stop::TooMuch { at }
@@ -76,7 +77,8 @@ pub(crate) fn read_all<T: TextReader, R: Source>(
 ) -> Ending
     requires { 0 < length buffer.old }
     ensures read { (form : T.Form) → T.took reader.old form [] → R.has_failed source.old ≡ false →
-        HasRead (TextOf (T.text form)) (T.took reader.new form) max (R.coming source.old) (R.coming source.new) (R.has_failed source.new) result }
+        HasRead (TextOf (T.text form)) (T.took reader.new form) max (R.coming source.old) (R.coming source.new)
+        (R.has_failed source.new) result }
     ensures asks { R.asks source.new ≤ R.asks source.old + max + 1 }
 {
     let mut at = 0;

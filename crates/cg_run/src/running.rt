@@ -32,7 +32,8 @@ pub(crate) const PIECE: usize = 32768;
 #[tactic(auto, using(crate::proofs::RunLemmas::wrote_real))]
 fn told_end<T: TextReader, W: Sink>(alloc: Global, text: T, at: u64, writer: &mut W) -> Outcome
     ensures ended { (form : T.Form) (bytes : List ℕ) → T.took text form bytes → at ≡ length bytes →
-        HasEnded (T.text form) T.printed bytes (W.taken writer.old) (W.taken writer.new) (W.has_failed writer.new) result }
+        HasEnded (T.text form) T.printed bytes (W.taken writer.old) (W.taken writer.new) (W.has_failed writer.new)
+        result }
     ensures real { IsRealFault result (W.has_failed writer.new) }
 {
     match text.finish(alloc) {
@@ -51,7 +52,8 @@ fn run_text<T: TextReader, R: Source, W: Sink>(
     writer: &mut W,
     max: u64,
 ) -> Outcome
-    ensures ran { (form : T.Form) → T.took text form [] → R.has_failed reader.old ≡ false → DidRun (IsTextRight (T.text form) T.printed max)
+    ensures ran { (form : T.Form) → T.took text form [] → R.has_failed reader.old ≡ false →
+        DidRun (IsTextRight (T.text form) T.printed max)
         (R.coming reader.old) (R.coming reader.new) (R.has_failed reader.new)
         (W.taken writer.old) (W.taken writer.new) (W.has_failed writer.new) result }
     ensures real { IsRealFault result (W.has_failed writer.new) }

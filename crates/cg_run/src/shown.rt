@@ -12,8 +12,8 @@ use cg_snap::{Limits, SnapshotDecoder, Stop, What};
 use cg_value::Profile;
 use std::alloc::Global;
 
-/// A reader of a snapshot, of which each entry is shown. The lines of a snapshot are canonical, so an entry's text is made of
-/// its bytes, and not of its value.
+/// A reader of a snapshot, of which each entry is shown. The lines of a snapshot are canonical, so an entry's text is
+/// made of its bytes, and not of its value.
 #[derive(Drop)]
 pub(crate) struct ShownReader {
     alloc: Global,
@@ -54,7 +54,8 @@ pub(crate) struct Decoded {
 
 /// Decodes a piece as far as it goes, and lets go of the entries.
 fn decode(decoder: &mut SnapshotDecoder, piece: &[u8]) -> Decoded
-    ensures decoded { (profile : Profile) (limits : Limits) (p : List ℕ) (es : List EntryData) → HasTaken decoder.old profile limits p es →
+    ensures decoded { (profile : Profile) (limits : Limits) (p : List ℕ) (es : List EntryData) →
+        HasTaken decoder.old profile limits p es →
         DecodedIs decoder.new profile limits p es piece.now result.used result.closed result.found }
     ensures closed { result.closed ≤ result.used }
     ensures used { result.used ≤ length piece.now }

@@ -13,8 +13,8 @@ const RECORD: usize = 8;
 /// For how many bytes a text has room before more of them come.
 const ROOM: usize = 1024;
 
-/// What came of a snapshot since its last whole entry, as it is shown: each NUL as a colon and a space, and the other bytes as
-/// they are. No line of a snapshot has a NUL, so each ends a path.
+/// What came of a snapshot since its last whole entry, as it is shown: each NUL as a colon and a space, and the other
+/// bytes as they are. No line of a snapshot has a NUL, so each ends a path.
 #[derive(Drop)]
 pub(crate) struct ShownText {
     pub(crate) text: Vec<u8>,
@@ -35,7 +35,8 @@ impl ShownText {
     /// Takes what the bytes begin with up to their first NUL, or all where there is none. Answers how many it took.
     fn take_some(&mut self, bytes: &[u8]) -> Result<usize, OutOfMemory>
         requires { 0 < length bytes.now }
-        ensures { IfOk result (λ used. (0 < used) × (used ≤ length bytes.now) × Shows self.old self.new (take used bytes.now)) }
+        ensures { IfOk result (λ used. (0 < used) × (used ≤ length bytes.now) ×
+            Shows self.old self.new (take used bytes.now)) }
     {
         match memchr(0, bytes) {
             Some(place) => {
@@ -83,7 +84,8 @@ impl ShownText {
     /// Takes the bytes up to this place, and gives the text so far. What comes of the other bytes is kept.
     fn take_both(&mut self, bytes: &[u8], end: usize) -> Result<Vec<u8>, OutOfMemory>
         requires { end ≤ length bytes.now }
-        ensures { IfOk result (λ front. (front.items ≡ self.old.text.items ++ shown_bytes (take end bytes.now)) × (self.new.text.items ≡ shown_bytes (drop end bytes.now))) }
+        ensures { IfOk result (λ front. (front.items ≡ self.old.text.items ++ shown_bytes (take end bytes.now)) ×
+            (self.new.text.items ≡ shown_bytes (drop end bytes.now))) }
     {
         let (front, rest) = bytes.split_at(end);
         self.take(front)?;
@@ -96,7 +98,8 @@ impl ShownText {
 
     /// Takes the last bytes of entries, and behind them those of the next record, and gives the entries' lines.
     fn take_last(&mut self, bytes: &[u8]) -> Result<Vec<u8>, OutOfMemory>
-        ensures { IfOk result (λ lines. IsCut (self.old.text.items ++ shown_bytes bytes.now) lines.items self.new.text.items) }
+        ensures { IfOk result (λ lines. IsCut (self.old.text.items ++ shown_bytes bytes.now) lines.items
+            self.new.text.items) }
     {
         match memrchr(b'\n', bytes) {
             Some(place) => self.take_both(bytes, place + 1),
@@ -107,10 +110,11 @@ impl ShownText {
         }
     }
 
-    /// Takes the last bytes of entries, and behind them those of the next record, and gives the entries' lines; no lines where
-    /// there are no bytes. Memory may be wanted only where there is a byte.
+    /// Takes the last bytes of entries, and behind them those of the next record, and gives the entries' lines; no
+    /// lines where there are no bytes. Memory may be wanted only where there is a byte.
     pub(crate) fn take_closed(&mut self, bytes: &[u8]) -> Result<Vec<u8>, OutOfMemory>
-        ensures { MatchResult result (λ lines. CutsOff self.old self.new bytes.now lines.items) (λ _. 0 < length bytes.now) }
+        ensures { MatchResult result (λ lines. CutsOff self.old self.new bytes.now lines.items)
+            (λ _. 0 < length bytes.now) }
     {
         if bytes.is_empty() {
             return Ok(Vec::new(*self.text.allocator()));

@@ -64,27 +64,32 @@ pub(crate) trait StreamReader: Drop {
     // The reader is of this form, consumed these bytes and gave these parts.
     ghost took: { Self → Self.Form → List ℕ → List (List ℕ) → Type 0 };
 
-    /// Consumes bytes of the piece, and gives the texts of parts that they close: as far as it likes, but at least a byte where
-    /// there is one, or until a byte stops the stream or no memory is left.
+    /// Consumes bytes of the piece, and gives the texts of parts that they close: as far as it likes, but at least a
+    /// byte where there is one, or until a byte stops the stream or no memory is left.
     fn next(&mut self, piece: &[u8]) -> Next
         ensures found { (form : Self.Form) (p : List ℕ) (parts : List (List ℕ)) → took self.old form p parts →
-            FoundIs (closes form) (unstopped form) (took self.new form) (stops form) p parts piece.now result.used result.text.items result.found }
+            FoundIs (closes form) (unstopped form) (took self.new form) (stops form) p parts piece.now result.used
+            result.text.items result.found }
         ensures used { result.used ≤ length piece.now }
         ensures progress { IsFoundBy (length piece.now) result.used result.found };
 
     /// What was consumed closes what was given.
-    ghost closed: { (s : Self) (form : Self.Form) (p : List ℕ) (parts : List (List ℕ)) → took s form p parts → closes form p parts };
+    ghost closed: { (s : Self) (form : Self.Form) (p : List ℕ) (parts : List (List ℕ)) → took s form p parts →
+        closes form p parts };
 
     /// No byte that was consumed stops the stream.
-    ghost passed: { (s : Self) (form : Self.Form) (p : List ℕ) (parts : List (List ℕ)) → took s form p parts → unstopped form p };
+    ghost passed: { (s : Self) (form : Self.Form) (p : List ℕ) (parts : List (List ℕ)) → took s form p parts →
+        unstopped form p };
 
     /// The bytes that were consumed are counted, and no more than the stream may have.
-    ghost counted: { (s : Self) (form : Self.Form) (p : List ℕ) (parts : List (List ℕ)) → took s form p parts → (offset s ≡ length p) × (length p ≤ limit form) };
+    ghost counted: { (s : Self) (form : Self.Form) (p : List ℕ) (parts : List (List ℕ)) → took s form p parts →
+        (offset s ≡ length p) × (length p ≤ limit form) };
 }
 
 /// A reader of a stream whose end leaves at most one part.
 pub(crate) trait LastPart: StreamReader {
     /// What the end of the stream leaves.
     fn finish(self) -> StreamEnd
-        ensures { (form : Self.Form) (p : List ℕ) (parts : List (List ℕ)) → Self.took self form p parts → EndIs (Self.whole form) p parts result };
+        ensures { (form : Self.Form) (p : List ℕ) (parts : List (List ℕ)) → Self.took self form p parts →
+            EndIs (Self.whole form) p parts result };
 }

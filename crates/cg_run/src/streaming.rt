@@ -1,5 +1,5 @@
-//! A run over a stream: the parts that a piece of the input gives are written before the next piece is asked for, and nothing
-//! is held but these and the present part.
+//! A run over a stream: the parts that a piece of the input gives are written before the next piece is asked for, and
+//! nothing is held but these and the present part.
 ghost use Rattle.std.specs.Prelude.{◌≡◌, ◌≤◌, ◌+◌, ℕ, Bool, false, List, [], ◌++◌, Option, MatchOption, IfSome};
 ghost use Rattle.std.specs.Io.KnownBytes.{IsAtEnd};
 ghost use Rattle.cg_run.specs.Run.{DidRun, IsRealFault};
@@ -22,9 +22,12 @@ fn gather_parts<S: StreamReader, W: Sink>(
     writer: &mut W,
     written: &mut u64,
 ) -> Option<Outcome>
-    ensures took { (form : S.Form) (first : Option (List ℕ)) (read : List ℕ) → BeforeGathered (S.took stream.old form) first (W.taken writer.old) written.old read gathered.old.items →
-        MatchOption result (BeforeGathered (S.took stream.new form) first (W.taken writer.new) written.new (read ++ piece.now) gathered.new.items)
-        (λ o. (left : Option (List ℕ)) (failed : Bool) → EndsSo (IsEarlyRight (S.whole form) (S.closes form) (S.unstopped form) (S.stops form))
+    ensures took { (form : S.Form) (first : Option (List ℕ)) (read : List ℕ) →
+        BeforeGathered (S.took stream.old form) first (W.taken writer.old) written.old read gathered.old.items →
+        MatchOption result (BeforeGathered (S.took stream.new form) first (W.taken writer.new) written.new
+        (read ++ piece.now) gathered.new.items)
+        (λ o. (left : Option (List ℕ)) (failed : Bool) →
+        EndsSo (IsEarlyRight (S.whole form) (S.closes form) (S.unstopped form) (S.stops form))
         (read ++ piece.now) left failed first (W.taken writer.new) (W.has_failed writer.new) o) }
     ensures real { IfSome result (λ o. IsRealFault o (W.has_failed writer.new)) }
 {
@@ -56,7 +59,8 @@ fn gather_parts<S: StreamReader, W: Sink>(
     None
 }
 
-/// Hands a piece to the reader, and writes the parts that it gives, many at once. The answer is how the run ended, if it did.
+/// Hands a piece to the reader, and writes the parts that it gives, many at once. The answer is how the run ended, if
+/// it did.
 fn take_parts<S: StreamReader, W: Sink>(
     alloc: Global,
     stream: &mut S,
@@ -64,9 +68,11 @@ fn take_parts<S: StreamReader, W: Sink>(
     writer: &mut W,
     written: &mut u64,
 ) -> Option<Outcome>
-    ensures took { (form : S.Form) (first : Option (List ℕ)) (read : List ℕ) → Before (S.took stream.old form) first (W.taken writer.old) written.old read →
+    ensures took { (form : S.Form) (first : Option (List ℕ)) (read : List ℕ) →
+        Before (S.took stream.old form) first (W.taken writer.old) written.old read →
         MatchOption result (Before (S.took stream.new form) first (W.taken writer.new) written.new (read ++ piece.now))
-        (λ o. (left : Option (List ℕ)) (failed : Bool) → EndsSo (IsEarlyRight (S.whole form) (S.closes form) (S.unstopped form) (S.stops form))
+        (λ o. (left : Option (List ℕ)) (failed : Bool) →
+        EndsSo (IsEarlyRight (S.whole form) (S.closes form) (S.unstopped form) (S.stops form))
         (read ++ piece.now) left failed first (W.taken writer.new) (W.has_failed writer.new) o) }
     ensures real { IfSome result (λ o. IsRealFault o (W.has_failed writer.new)) }
 {
@@ -86,7 +92,8 @@ fn take_parts<S: StreamReader, W: Sink>(
 
 /// Writes what the end of the input leaves.
 fn told_stream_end<S: LastPart, W: Sink>(stream: S, writer: &mut W, written: u64) -> Outcome
-    ensures ended { (form : S.Form) (first : Option (List ℕ)) (read : List ℕ) → Before (S.took stream form) first (W.taken writer.old) written read →
+    ensures ended { (form : S.Form) (first : Option (List ℕ)) (read : List ℕ) →
+        Before (S.took stream form) first (W.taken writer.old) written read →
         (left : Option (List ℕ)) (failed : Bool) → IsAtEnd left → failed ≡ false →
         EndsSo (IsStreamRight (S.whole form) (S.closes form) (S.unstopped form) (S.stops form))
         read left failed first (W.taken writer.new) (W.has_failed writer.new) result }
@@ -123,7 +130,8 @@ pub(crate) fn read_stream<S: StreamReader, R: Source, W: Sink>(
 ) -> Streamed
     requires { (form : S.Form) × S.took stream.old form [] [] × (S.limit form ≡ max) }
     ensures read { (form : S.Form) → S.took stream.old form [] [] → R.has_failed reader.old ≡ false →
-        StreamedIs (S.took stream.new form) (IsEarlyRight (S.whole form) (S.closes form) (S.unstopped form) (S.stops form))
+        StreamedIs (S.took stream.new form) (IsEarlyRight (S.whole form) (S.closes form) (S.unstopped form)
+        (S.stops form))
         (R.coming reader.old) (R.coming reader.new) (R.has_failed reader.new)
         (W.taken writer.old) (W.taken writer.new) (W.has_failed writer.new) result }
     ensures real { IsRealEnd result (W.has_failed writer.new) }

@@ -38,26 +38,30 @@ pub(crate) trait TextReader: Drop {
     // The reader is of this form and took these bytes.
     ghost took: { Self → Self.Form → List ℕ → Type 0 };
 
-    /// Takes bytes from the front of `bytes`, as many as there is room for at most: until a newline was taken, none is left, or
-    /// one is refused or memory is.
+    /// Takes bytes from the front of `bytes`, as many as there is room for at most: until a newline was taken, none is
+    /// left, or one is refused or memory is.
     fn take_run(&mut self, bytes: &[u8], room: u64) -> PushedRun
-        ensures taken { (form : Self.Form) (taken : List ℕ) → took self.old form taken → IsRunTaken (TextOf (text form)) (took self.new form) taken (take room bytes.now) result }
+        ensures taken { (form : Self.Form) (taken : List ℕ) → took self.old form taken →
+            IsRunTaken (TextOf (text form)) (took self.new form) taken (take room bytes.now) result }
         ensures within { result.used ≤ length (take room bytes.now) }
         ensures goes_on { IfNone result.fault (0 < length (take room bytes.now) → 0 < result.used) };
 
     /// The bytes with which some text of the form goes on.
     fn allowed(&self) -> ByteSet
-        ensures { (form : Self.Form) (taken : List ℕ) → took self.now form taken → (byte : ℕ) → HasByte result byte ↔ Next (TextOf (text form)) taken byte };
+        ensures { (form : Self.Form) (taken : List ℕ) → took self.now form taken → (byte : ℕ) → HasByte result byte ↔
+            Next (TextOf (text form)) taken byte };
 
-    /// The canonical text of what the bytes spell, none where they are no whole text. `OutOfMemory` where they are one, and no
-    /// memory is left for it.
+    /// The canonical text of what the bytes spell, none where they are no whole text. `OutOfMemory` where they are one,
+    /// and no memory is left for it.
     fn finish(self, alloc: Global) -> Result<Option<Vec<u8>>, OutOfMemory>
         ensures { (form : Self.Form) (taken : List ℕ) → took self form taken → MatchResult result
-            (λ found. MatchOption found (TextOf (text form) taken → ⊥) (λ canonical. (v : Self.Spelled) × text form taken v × (canonical.items ≡ printed v)))
+            (λ found. MatchOption found (TextOf (text form) taken → ⊥) (λ canonical. (v : Self.Spelled) ×
+            text form taken v × (canonical.items ≡ printed v)))
             (λ _. TextOf (text form) taken) };
 
     /// Some text of the form begins with the bytes that were taken.
-    ghost viable: { (s : Self) (form : Self.Form) (taken : List ℕ) → took s form taken → Viable (TextOf (text form)) taken };
+    ghost viable: { (s : Self) (form : Self.Form) (taken : List ℕ) → took s form taken →
+        Viable (TextOf (text form)) taken };
 }
 
 impl TextReader for SettingReader {

@@ -24,7 +24,8 @@ pub(crate) fn told<W: Sink>(writer: &mut W, text: &[u8], outcome: Outcome) -> Ou
 /// Writes the last line of an outcome.
 pub(crate) fn told_line<W: Sink>(writer: &mut W, outcome: Outcome) -> Outcome
     requires { is_write_fault outcome ≡ false }
-    ensures { Wrote (W.taken writer.old) (W.taken writer.new) (W.has_failed writer.new) (last_line outcome) outcome result }
+    ensures { Wrote (W.taken writer.old) (W.taken writer.new) (W.has_failed writer.new) (last_line outcome) outcome
+        result }
 {
     let line = last_line_of(outcome);
     told(writer, line.bytes(), outcome)
@@ -34,7 +35,8 @@ pub(crate) fn told_line<W: Sink>(writer: &mut W, outcome: Outcome) -> Outcome
 #[tactic(auto, using(crate::proofs::RunLemmas::wrote_real))]
 pub(crate) fn told_after<W: Sink>(writer: &mut W, written: u64, outcome: Outcome) -> Outcome
     requires { is_write_fault outcome ≡ false }
-    ensures wrote { (first : Option (List ℕ)) (parts : List (List ℕ)) → HasWritten first (W.taken writer.old) parts written →
+    ensures wrote { (first : Option (List ℕ)) (parts : List (List ℕ)) →
+        HasWritten first (W.taken writer.old) parts written →
         Wrote first (W.taken writer.new) (W.has_failed writer.new) (joined parts ++ last_line outcome) outcome result }
     ensures real { IsRealFault result (W.has_failed writer.new) }
 {
@@ -48,9 +50,11 @@ pub(crate) fn told_after<W: Sink>(writer: &mut W, written: u64, outcome: Outcome
 
 /// Writes a part, and counts its bytes. The answer is the writer's fault, if it failed.
 pub(crate) fn told_part<W: Sink>(writer: &mut W, part: &[u8], written: &mut u64) -> Option<Outcome>
-    ensures wrote { (first : Option (List ℕ)) (parts : List (List ℕ)) → HasWritten first (W.taken writer.old) parts written.old →
+    ensures wrote { (first : Option (List ℕ)) (parts : List (List ℕ)) →
+        HasWritten first (W.taken writer.old) parts written.old →
         MatchOption result (HasWritten first (W.taken writer.new) (parts ++ part.now ∷ []) written.new)
-        (λ fault. (rest : List ℕ) (wanted : Outcome) → Wrote first (W.taken writer.new) (W.has_failed writer.new) (joined (parts ++ part.now ∷ []) ++ rest) wanted fault) }
+        (λ fault. (rest : List ℕ) (wanted : Outcome) → Wrote first (W.taken writer.new) (W.has_failed writer.new)
+        (joined (parts ++ part.now ∷ []) ++ rest) wanted fault) }
     ensures real { IfSome result (λ fault. IsRealFault fault (W.has_failed writer.new)) }
 {
     match write_text(writer, part) {
@@ -64,15 +68,18 @@ pub(crate) fn told_part<W: Sink>(writer: &mut W, part: &[u8], written: &mut u64)
     }
 }
 
-/// Writes the texts of parts that were gathered, and counts their bytes. The answer is the writer's fault, if it failed.
+/// Writes the texts of parts that were gathered, and counts their bytes. The answer is the writer's fault, if it
+/// failed.
 pub(crate) fn told_gathered<W: Sink>(
     writer: &mut W,
     gathered: &[u8],
     written: &mut u64,
 ) -> Option<Outcome>
-    ensures wrote { (first : Option (List ℕ)) (parts : List (List ℕ)) → Gathers first (W.taken writer.old) parts written.old gathered.now →
+    ensures wrote { (first : Option (List ℕ)) (parts : List (List ℕ)) →
+        Gathers first (W.taken writer.old) parts written.old gathered.now →
         MatchOption result (HasWritten first (W.taken writer.new) parts written.new)
-        (λ fault. (rest : List ℕ) (wanted : Outcome) → Wrote first (W.taken writer.new) (W.has_failed writer.new) (joined parts ++ rest) wanted fault) }
+        (λ fault. (rest : List ℕ) (wanted : Outcome) → Wrote first (W.taken writer.new) (W.has_failed writer.new)
+        (joined parts ++ rest) wanted fault) }
     ensures real { IfSome result (λ fault. IsRealFault fault (W.has_failed writer.new)) }
 {
     told_part(writer, gathered, written)
@@ -86,7 +93,8 @@ pub(crate) fn told_last<W: Sink>(
     outcome: Outcome,
 ) -> Outcome
     requires { is_write_fault outcome ≡ false }
-    ensures wrote { (first : Option (List ℕ)) (parts : List (List ℕ)) → Gathers first (W.taken writer.old) parts written.old gathered.now →
+    ensures wrote { (first : Option (List ℕ)) (parts : List (List ℕ)) →
+        Gathers first (W.taken writer.old) parts written.old gathered.now →
         Wrote first (W.taken writer.new) (W.has_failed writer.new) (joined parts ++ last_line outcome) outcome result }
     ensures real { IsRealFault result (W.has_failed writer.new) }
 {
@@ -99,7 +107,8 @@ pub(crate) fn told_last<W: Sink>(
 /// Adds a text to those that are gathered, unless they are many or no memory is left for it. Answers whether it did.
 #[inline(always)]
 fn is_added(gathered: &mut Vec<u8>, text: &[u8]) -> bool
-    ensures { MatchBool result (gathered.new.items ≡ gathered.old.items ++ text.now) (gathered.new.items ≡ gathered.old.items) }
+    ensures { MatchBool result (gathered.new.items ≡ gathered.old.items ++ text.now) (gathered.new.items ≡
+        gathered.old.items) }
 {
     if gathered.len() >= PIECE {
         return false;
@@ -130,9 +139,11 @@ pub(crate) fn gather<W: Sink>(
     writer: &mut W,
     written: &mut u64,
 ) -> Option<Outcome>
-    ensures wrote { (first : Option (List ℕ)) (parts more : List (List ℕ)) → text.items ≡ joined more → Gathers first (W.taken writer.old) parts written.old gathered.old.items →
+    ensures wrote { (first : Option (List ℕ)) (parts more : List (List ℕ)) → text.items ≡ joined more →
+        Gathers first (W.taken writer.old) parts written.old gathered.old.items →
         MatchOption result (Gathers first (W.taken writer.new) (parts ++ more) written.new gathered.new.items)
-        (λ fault. (rest : List ℕ) (wanted : Outcome) → Wrote first (W.taken writer.new) (W.has_failed writer.new) (joined (parts ++ more) ++ rest) wanted fault) }
+        (λ fault. (rest : List ℕ) (wanted : Outcome) → Wrote first (W.taken writer.new) (W.has_failed writer.new)
+        (joined (parts ++ more) ++ rest) wanted fault) }
     ensures real { IfSome result (λ fault. IsRealFault fault (W.has_failed writer.new)) }
     ensures some { IsSome result → 0 < length text.items }
 {
