@@ -12,7 +12,7 @@ all: build/cgfile
 
 # The libraries: each is proved where it was never proved here, once those are that it stands on, and beside others that
 # stand on the same. Then the program over them, which proves again what has changed.
-LIBRARIES = $(filter-out cgfile cg_rows, $(shell sed -n 's/^\([a-z_]*\):.*/\1/p' crates.txt))
+LIBRARIES = $(filter-out cgfile cg_rows cg_examples, $(shell sed -n 's/^\([a-z_]*\):.*/\1/p' crates.txt))
 below = $(filter $(LIBRARIES), $(shell sed -n 's/^$(1)://p' crates.txt))
 MAKEFLAGS += --jobs=$(shell nproc)
 
