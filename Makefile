@@ -1,11 +1,12 @@
-# cgfile: `make` proves and builds the program and shows its first run; `make check` runs all tests; `make install` installs
-# the program, its manual page and the completions of three shells below $(DESTDIR)$(PREFIX).
+# cgfile: `make` proves and builds the program and shows its first run; `make check` runs all tests; `make quick` builds it
+# without a proof, for trying alone; `make install` installs the proved program, its manual page and the completions of three
+# shells below $(DESTDIR)$(PREFIX).
 
 PREFIX ?= /usr/local
 BINDIR = $(DESTDIR)$(PREFIX)/bin
 SHAREDIR = $(DESTDIR)$(PREFIX)/share
 
-.PHONY: all check version install uninstall clean
+.PHONY: all check quick version install uninstall clean
 
 all: build/cgfile
 	printf '10000\n' | build/cgfile file cpu.weight
@@ -34,6 +35,11 @@ version:
 	@for file in crates/cg_run/src/version.rt README.md; do grep -qF "$$(rt version | cut -d ' ' -f 2-)" $$file \
 	    || { echo "$$file names another logic than $$(rt version)" >&2; exit 1; }; done
 	@grep -qF "$$(rt version)" README.md || echo "note: the README names another kit of the same logic than $$(rt version)" >&2
+
+# What it leaves stands apart from build/cgfile, and no other target takes it.
+quick:
+	scripts/quick
+	printf '10000\n' | build/quick/cgfile file cpu.weight
 
 check: version
 	rt ci
