@@ -6,7 +6,7 @@ PREFIX ?= /usr/local
 BINDIR = $(DESTDIR)$(PREFIX)/bin
 SHAREDIR = $(DESTDIR)$(PREFIX)/share
 
-.PHONY: all check quick version install uninstall clean
+.PHONY: all check quick quoted version install uninstall clean
 
 all: build/cgfile
 	printf '10000\n' | build/cgfile file cpu.weight
@@ -41,7 +41,11 @@ quick:
 	scripts/quick
 	printf '10000\n' | build/quick/cgfile file cpu.weight
 
-check: version
+# The code that README shows is that of crates/cg_examples.
+quoted:
+	scripts/quoted
+
+check: version quoted
 	rt ci
 
 install: build/cgfile
