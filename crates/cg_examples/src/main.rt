@@ -5,7 +5,7 @@
 use anyhow::Result;
 use cg_line::{decode_file, decode_setting};
 use cg_print::print_setting;
-use cg_snap::{Limits, SnapshotDecoder, What, decode_snapshot, encode_plan};
+use cg_snap::{Event, Limits, SnapshotDecoder, decode_snapshot, encode_plan};
 use cg_text::{Limit, OutOfMemory};
 use cg_tree::findings;
 use cg_value::{Entry, PlanItem, Profile, Setting};
@@ -39,10 +39,10 @@ fn killed_by_piece(decoder: &mut SnapshotDecoder, piece: &[u8]) -> Result<u64> {
         let pulled = decoder.next(&piece[used..]);
         used += pulled.used;
         match pulled.what {
-            What::NeedMore => {}
-            What::Entry(entry) => killed = killed.saturating_add(killed_in(&entry)),
-            What::Stopped(stop) => return Err(stop.into()),
-            What::OutOfMemory => return Err(OutOfMemory.into()),
+            Event::NeedMore => {}
+            Event::Given(entry) => killed = killed.saturating_add(killed_in(&entry)),
+            Event::Stopped(stop) => return Err(stop.into()),
+            Event::OutOfMemory => return Err(OutOfMemory.into()),
         }
     }
     Ok(killed)

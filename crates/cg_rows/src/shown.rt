@@ -1,6 +1,6 @@
 //! Snapshots that are read in pieces, shown, and written back.
 use cg_print::{append_entry, print_shown};
-use cg_snap::{Limits, SnapshotDecoder, What};
+use cg_snap::{Event, Limits, SnapshotDecoder};
 use cg_text::OutOfMemory;
 use cg_value::{Entry, Profile};
 use std::alloc::Global;
@@ -49,10 +49,10 @@ fn take_piece(
         let pulled = decoder.next(rest);
         used += pulled.used;
         match pulled.what {
-            What::NeedMore => {}
-            What::Entry(entry) => add_entry(alloc, texts, entry)?,
-            What::Stopped(_) => return Ok(false),
-            What::OutOfMemory => return Err(OutOfMemory),
+            Event::NeedMore => {}
+            Event::Given(entry) => add_entry(alloc, texts, entry)?,
+            Event::Stopped(_) => return Ok(false),
+            Event::OutOfMemory => return Err(OutOfMemory),
         }
     }
     Ok(true)

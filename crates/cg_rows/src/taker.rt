@@ -3,7 +3,7 @@ use crate::asked::Asked;
 use cg_line::{PushFault, PushedRun, SettingReader, ValueReader};
 use cg_print::{print_entry, print_file, print_item, print_setting};
 use cg_run::Command;
-use cg_snap::{PlanDecoder, PlanWhat, SnapshotDecoder, Stop, What, Why};
+use cg_snap::{Event, PlanDecoder, SnapshotDecoder, Stop, Why};
 use cg_text::{ByteSet, OutOfMemory};
 use cg_value::{read_kind, write_kind};
 use std::alloc::Global;
@@ -69,10 +69,10 @@ impl Taker for SnapshotDecoder {
         let pulled = SnapshotDecoder::next(self, piece);
         let used = pulled.used;
         let found = match pulled.what {
-            What::NeedMore => found_if(used == piece.len(), Found::More),
-            What::OutOfMemory => Found::Wrong,
-            What::Entry(entry) => text(print_entry(alloc, &entry)),
-            What::Stopped(stop) => Found::Stopped(stop),
+            Event::NeedMore => found_if(used == piece.len(), Found::More),
+            Event::OutOfMemory => Found::Wrong,
+            Event::Given(entry) => text(print_entry(alloc, &entry)),
+            Event::Stopped(stop) => Found::Stopped(stop),
         };
         Step { used, found }
     }
@@ -107,10 +107,10 @@ impl Taker for PlanDecoder {
         let pulled = PlanDecoder::next(self, piece);
         let used = pulled.used;
         let found = match pulled.what {
-            PlanWhat::NeedMore => found_if(used == piece.len(), Found::More),
-            PlanWhat::OutOfMemory => Found::Wrong,
-            PlanWhat::Item(item) => text(print_item(alloc, &item)),
-            PlanWhat::Stopped(stop) => Found::Stopped(stop),
+            Event::NeedMore => found_if(used == piece.len(), Found::More),
+            Event::OutOfMemory => Found::Wrong,
+            Event::Given(item) => text(print_item(alloc, &item)),
+            Event::Stopped(stop) => Found::Stopped(stop),
         };
         Step { used, found }
     }

@@ -10,19 +10,17 @@ use Rattle.cg_value.specs.Records.{records}
 use Rattle.cg_value.specs.declared.profile.Profile.{Profile}
 use Rattle.cg_snap.specs.Closed.{Closed}
 use Rattle.cg_snap.specs.Decode.{HasTaken}
-use Rattle.cg_snap.specs.Decoder.{limits_of, profile_of}
+use Rattle.cg_snap.specs.Decoder.{SnapshotDecoder, limits_of, profile_of}
 use Rattle.cg_snap.specs.Laws.{print_entries}
 use Rattle.cg_snap.specs.SnapStop.{IsSnapUnstopped, SnapStopOf}
-use Rattle.cg_snap.specs.declared.decoder.SnapshotDecoder.{SnapshotDecoder}
-use Rattle.cg_snap.specs.declared.decoder.What.TheVariants as whats
+use Rattle.cg_snap.specs.declared.event.Event.{Event}
+use Rattle.cg_snap.specs.declared.event.Event.TheVariants as events
 use Rattle.cg_snap.specs.declared.limits.Limits.{Limits}
 use Rattle.cg_snap.specs.declared.stop.Stop.{Stop}
 use Rattle.cg_run.specs.Decoded.{ArePlain, CloseMore, HasDecoded, LeftBy}
 use Rattle.cg_run.specs.Taken.{taken_closed, taken_unstopped}
 use Rattle.cg_run.specs.Stream.{PartsOf, shown_part}
 use Rattle.cg_run.specs.Streaming.{LeadsTo}
-use Rattle.cg_run.specs.declared.stream_reader.Found.{Found}
-use Rattle.cg_run.specs.declared.stream_reader.Found.TheVariants as found
 use Rattle.cg_run.proofs.Pulled.{PulledIs}
 use Rattle.cg_run.proofs.Showing.{closed_end, entries_append}
 use Rattle.cg_run.proofs.SnapEnds.{entries_push}
@@ -64,7 +62,7 @@ module _ (profile : Profile) (limits : Limits) (p : List ℕ) (es : List EntryDa
     left_length = omega (arith, less, ap length rest_is, length-drop at piece)
 
     -- One more entry is closed.
-    pub decoded_entry : (e : EntryData) → PulledIs was now profile limits front all rest n h.taken same_profile same_limits (whats.Entry e) →
+    pub decoded_entry : (e : EntryData) → PulledIs was now profile limits front all rest n h.taken same_profile same_limits (events.Given e) →
         HasDecoded now profile limits p es piece (at + n) (at + n)
     decoded_entry e w =
         let list : all ++ e ∷ [] ≡ es ++ (h.more ++ e ∷ []) = append_assoc es h.more (e ∷ []) in
@@ -94,15 +92,15 @@ module _ (profile : Profile) (limits : Limits) (p : List ℕ) (es : List EntryDa
         }
 
     -- The piece came to its end, a byte stops the stream, or memory was refused.
-    pub left_none : PulledIs was now profile limits front all rest n h.taken same_profile same_limits whats.NeedMore → n ≡ length rest →
-        LeftBy now profile limits p all piece (at + n) found.GoesOn
+    pub left_none : PulledIs was now profile limits front all rest n h.taken same_profile same_limits events.NeedMore → n ≡ length rest →
+        LeftBy now profile limits p all piece (at + n) events.NeedMore
     left_none w e =
         let whole : front ++ take n rest ≡ p ++ piece = ap (λ (t : List ℕ). front ++ t) (take_all n rest (omega (arith, e))) ∙ text_all p piece rest at rest_is in (
           subst (λ (q : List ℕ). HasTaken now profile limits q all) whole w,
           omega (arith, e, left_length),
         )
 
-    pub left_stopped : (s : Stop) → PulledIs was now profile limits front all rest n h.taken same_profile same_limits (whats.Stopped s) → LeftBy now profile limits p all piece (at + n) (found.Stopped s)
+    pub left_stopped : (s : Stop) → PulledIs was now profile limits front all rest n h.taken same_profile same_limits (events.Stopped s) → LeftBy now profile limits p all piece (at + n) (events.Stopped s)
     left_stopped s w = (
       w.0,
       subst (λ (q : List ℕ). SnapStopOf profile limits q s) (text_all p piece rest at rest_is) w.1,
@@ -110,7 +108,7 @@ module _ (profile : Profile) (limits : Limits) (p : List ℕ) (es : List EntryDa
       subst (λ (q : List ℕ). Closed profile q all) (on n) w.3,
     )
 
-    pub left_starved : PulledIs was now profile limits front all rest n h.taken same_profile same_limits whats.OutOfMemory → LeftBy now profile limits p all piece (at + n) found.OutOfMemory
+    pub left_starved : PulledIs was now profile limits front all rest n h.taken same_profile same_limits events.OutOfMemory → LeftBy now profile limits p all piece (at + n) events.OutOfMemory
     left_starved w =
         let next : at + (n + 1) ≡ (at + n) + 1 = omega arith in (
           omega (arith, w.0, left_length),
@@ -121,10 +119,12 @@ module _ (profile : Profile) (limits : Limits) (p : List ℕ) (es : List EntryDa
 
 -- ---- What a reader that shows entries came to
 
-module _ (profile : Profile) (limits : Limits) (p piece : List ℕ) (es : List EntryData) (d : SnapshotDecoder) (Took : List ℕ → List (List ℕ) → Type 0) where
+module _ (profile : Profile) (limits : Limits) (p piece : List ℕ) (es : List EntryData) (all : List (List ℕ)) (all_are : all ≡ map shown_part es) (d : SnapshotDecoder)
+    (Took : List ℕ → List (List ℕ) → Type 0) where
   -- A byte stops the stream, or memory was refused.
-  pub left_leads : (f : Found) (used : ℕ) → (f ≡ found.GoesOn → ⊥) → LeftBy d profile limits p es piece used f →
-      LeadsTo (PartsOf shown_part (λ bytes fs. Closed profile bytes fs)) (IsSnapUnstopped profile limits) Took (SnapStopOf profile limits) p (map shown_part es) piece used f
-  left_leads found.GoesOn used not h = absurd (not refl)
-  left_leads (found.Stopped s) used not h = (h.0, h.1, h.2, (es, h.3, refl))
-  left_leads found.OutOfMemory used not h = inl (h.0, h.1, h.2, (es, h.3, refl))
+  pub left_leads : (what : Event (Unit {0})) (used : ℕ) → (what ≡ events.NeedMore → ⊥) → LeftBy d profile limits p es piece used what →
+      LeadsTo (PartsOf shown_part (λ bytes fs. Closed profile bytes fs)) (IsSnapUnstopped profile limits) Took (SnapStopOf profile limits) p all piece used what
+  left_leads events.NeedMore used not h = absurd (not refl)
+  left_leads (events.Given u) used not h = absurd h
+  left_leads (events.Stopped s) used not h = (h.0, h.1, h.2, (es, h.3, all_are))
+  left_leads events.OutOfMemory used not h = inl (h.0, h.1, h.2, (es, h.3, all_are))

@@ -10,7 +10,7 @@ use Rattle.cg_value.specs.declared.profile.Profile.{Profile}
 use Rattle.cg_snap.specs.Decode.{HasTaken}
 use Rattle.cg_snap.specs.SnapStop.{IsSnapUnstopped}
 use Rattle.cg_snap.specs.Stop.{IsUnstopped}
-use Rattle.cg_snap.specs.declared.decoder.SnapshotDecoder.{SnapshotDecoder}
+use Rattle.cg_snap.specs.Decoder.{SnapshotDecoder}
 use Rattle.cg_snap.specs.declared.limits.Limits.{Limits}
 use Rattle.cg_snap.specs.declared.stop.Why.{Why}
 use Rattle.cg_tree.specs.Directory.{name_of}

@@ -17,11 +17,9 @@ pub mod Pulled
 pub mod RunLemmas
 pub mod Showing
 pub mod ShowsBytes
-pub mod ShowsText
 pub mod SnapEnds
 pub mod Stops
 pub mod Streams
-pub mod Telling
 pub mod Took
 pub mod WordsTold
 pub mod Written

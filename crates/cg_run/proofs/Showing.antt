@@ -16,21 +16,19 @@ use Rattle.cg_snap.specs.Laws.{print_entries}
 use Rattle.cg_snap.specs.Snap.{SnapText}
 use Rattle.cg_snap.specs.SnapLaws.{one_back, snap_is_print}
 use Rattle.cg_snap.specs.SnapStop.{IsSnapUnstopped}
-use Rattle.cg_snap.specs.declared.decoder.SnapshotDecoder.{SnapshotDecoder}
+use Rattle.cg_snap.specs.Decoder.{SnapshotDecoder}
 use Rattle.cg_snap.specs.declared.limits.Limits.{Limits}
 use Rattle.cg_run.specs.Shown.{IsShownBehind}
-use Rattle.cg_run.specs.ShownBytes.{IsCut, shown_bytes}
+use Rattle.cg_run.specs.ShownBytes.{CutsOff, IsCut, shown_bytes}
 use Rattle.cg_run.specs.Stream.{PartsOf, shown_part}
 use Rattle.cg_run.specs.Streaming.{WantsMemory}
 use Rattle.cg_run.specs.Taken.{taken_closed, taken_unstopped}
-use Rattle.cg_run.specs.declared.shown_text.ShownText.{ShownText}
 use Rattle.cg_run.proofs.Keeping.{unstopped_front}
 use Rattle.cg_run.proofs.ShowsBytes.{plain_shown, records_shown, shown-append, shown_end}
 use Rattle.cg_run.proofs.SnapEnds.{IsEntryEnd, entries_push, entry_end, last_lines, lines_lack_nul}
 use Rattle.cg_snap.specs.Begun.{IsRecordEnd}
 use Rattle.cg_run.specs.Decoded.{ArePlain, CloseMore, HaveClosed}
 use Rattle.cg_run.specs.Run.{joined}
-use Rattle.cg_run.specs.ShownText.{CutsOff, Shows}
 
 -- ---- Entries
 
@@ -58,20 +56,20 @@ entries_end (e ∷ es) = both_end (shown_part e) (joined (map shown_part es)) (s
 
 -- ---- The text
 
-module _ (was : ShownText) (p : List ℕ) (es : List EntryData) (b : IsShownBehind was p es) (q : List ℕ) where
-  text_more : was.text.items ++ shown_bytes q ≡ shown_bytes (b.present ++ q)
-  text_more = ap (λ t. t ++ shown_bytes q) b.text ∙ sym (shown-append b.present q)
+module _ (was : List ℕ) (p : List ℕ) (es : List EntryData) (b : IsShownBehind was p es) (q : List ℕ) where
+  text_more : was ++ shown_bytes q ≡ shown_bytes (b.present ++ q)
+  text_more = ap (λ t. t ++ shown_bytes q) b.shows ∙ sym (shown-append b.present q)
 
   -- More bytes of the entry.
-  pub behind_more : (now : ShownText) → Shows was now q → IsShownBehind now (p ++ q) es
+  pub behind_more : (now : List ℕ) → now ≡ was ++ shown_bytes q → IsShownBehind now (p ++ q) es
   behind_more now s = record {
     present = b.present ++ q;
     split = ap (λ t. t ++ q) b.split ∙ append_assoc (print_entries es) b.present q;
-    text = s ∙ text_more;
+    shows = s ∙ text_more;
   }
 
-  module _ (now : ShownText) (profile : Profile) (limits : Limits) (more : List EntryData) (end : HaveClosed profile limits (p ++ q) es more) (lines : List ℕ)
-      (cut : IsCut (was.text.items ++ shown_bytes q) lines now.text.items) where
+  module _ (now : List ℕ) (profile : Profile) (limits : Limits) (more : List EntryData) (end : HaveClosed profile limits (p ++ q) es more) (lines : List ℕ)
+      (cut : IsCut (was ++ shown_bytes q) lines now) where
     abbrev next : List ℕ
     next = end.next ++ 0 ∷ []
 
@@ -89,7 +87,7 @@ module _ (was : ShownText) (p : List ℕ) (es : List EntryData) (b : IsShownBehi
         append_cancel_left (print_entries es) (b.present ++ q) (print_entries more ++ next)
         (sym (append_assoc (print_entries es) b.present q) ∙ ap (λ t. t ++ q) (sym b.split) ∙ end.split)
 
-    whole : lines ++ now.text.items ≡ shown_more ++ mark
+    whole : lines ++ now ≡ shown_more ++ mark
     whole =
         sym cut.whole ∙ text_more ∙ ap (λ t. shown_bytes t) present_is
         ∙ entries_shown more next end.plain
@@ -98,39 +96,39 @@ module _ (was : ShownText) (p : List ℕ) (es : List EntryData) (b : IsShownBehi
     mark_plain : Lacks 10 mark
     mark_plain = lacks_both 10 end.next (58 ∷ 32 ∷ []) (path_lacks_newline end.next end.good) ((λ z. absurd (cc)), ((λ z. absurd (cc)), tt))
 
-    rest_is : now.text.items ≡ mark
-    rest_is = one_back 10 lines shown_more now.text.items mark cut.ended (entries_end more) cut.plain mark_plain whole
+    rest_is : now ≡ mark
+    rest_is = one_back 10 lines shown_more now mark cut.ended (entries_end more) cut.plain mark_plain whole
 
     -- The lines are those of the entries.
     pub lines_are : lines ≡ shown_more
-    lines_are = append_cancel_right lines shown_more now.text.items (whole ∙ ap (λ t. shown_more ++ t) (sym rest_is))
+    lines_are = append_cancel_right lines shown_more now (whole ∙ ap (λ t. shown_more ++ t) (sym rest_is))
 
     -- What is left is of the next record.
     pub behind_entries : IsShownBehind now (p ++ q) (es ++ more)
     behind_entries = record {
       present = next;
       split = end.split ∙ sym (append_assoc (print_entries es) (print_entries more) next) ∙ ap (λ t. t ++ next) (sym (entries_append es more));
-      text = rest_is ∙ sym (plain_shown end.next (0 ∷ []) next_plain);
+      shows = rest_is ∙ sym (plain_shown end.next (0 ∷ []) next_plain);
     }
 
 -- At the end of a snapshot the text is that of the last entry.
-pub last_shown : (profile : Profile) (s : ShownText) (p : List ℕ) (es : List EntryData) (e : EntryData) → IsShownBehind s p es → SnapText profile (es ++ e ∷ []) p → s.text.items ≡ shown_part e
+pub last_shown : (profile : Profile) (s : List ℕ) (p : List ℕ) (es : List EntryData) (e : EntryData) → IsShownBehind s p es → SnapText profile (es ++ e ∷ []) p → s ≡ shown_part e
 last_shown profile s p es e b whole =
     let entry = records e.path (print_lines e.value) in
     let printed : p ≡ print_entries es ++ entry = snap_is_print profile (es ++ e ∷ []) p whole ∙ entries_push es e in
     let present : b.present ≡ entry ++ [] = append_cancel_left (print_entries es) b.present entry (sym b.split ∙ printed) ∙ sym (append-nil entry) in
     let plain = lines_lack_nul profile e (print_lines e.value) (last_lines profile es e p whole) in
-    b.text ∙ ap (λ t. shown_bytes t) present ∙ records_shown e.path (print_lines e.value) [] (path_lacks_nul e.path (entry_path e)) plain ∙ append-nil (shown_part e)
+    b.shows ∙ ap (λ t. shown_bytes t) present ∙ records_shown e.path (print_lines e.value) [] (path_lacks_nul e.path (entry_path e)) plain ∙ append-nil (shown_part e)
 
 -- ---- A piece
 
-module _ (was now : ShownText) (profile : Profile) (limits : Limits) (p piece : List ℕ) (es more : List EntryData) (closed : ℕ) (b : IsShownBehind was p es) where
+module _ (was now : List ℕ) (profile : Profile) (limits : Limits) (p piece : List ℕ) (es more : List EntryData) (closed : ℕ) (b : IsShownBehind was p es) where
   cut_shown : (q lines : List ℕ) → q ≡ take closed piece → CutsOff was now q lines → CloseMore profile limits p es piece closed more → closed ≤ length piece →
       (lines ≡ joined (map shown_part more)) × IsShownBehind now (p ++ q) (es ++ more)
   cut_shown [] lines e cut (inl none) within =
       let list : es ≡ es ++ more = sym (ap (λ fs. es ++ fs) none.1 ∙ append-nil es) in (
         cut.0 ∙ ap (λ fs. joined (map shown_part fs)) (sym none.1),
-        subst (λ (fs : List EntryData). IsShownBehind now (p ++ []) fs) list (behind_more was p es b [] now cut.1),
+        subst (λ (fs : List EntryData). IsShownBehind now (p ++ []) fs) list (behind_more was p es b [] now (cut.1 ∙ sym (append-nil was))),
       )
   cut_shown (byte ∷ q) lines e cut (inl none) within =
       let z : length (byte ∷ q) ≡ 0 = ap length (e ∙ ap (λ (n : ℕ). take n piece) none.0) in
@@ -194,7 +192,7 @@ module _ (profile : Profile) (limits : Limits) (p piece : List ℕ) (es more : L
 
   -- No memory was left for what comes behind the entries: the first byte of that wanted it.
   pub rest_starved : (was now : SnapshotDecoder) → closed < length piece → HasTaken was profile limits p es → HasTaken now profile limits (p ++ piece) (es ++ more) →
-      CloseMore profile limits p es piece closed more → Wants (map shown_part (es ++ more))
+      CloseMore profile limits p es piece closed more → Wants (parts ++ map shown_part more)
   rest_starved was now less t u close =
       let whole = taken_unstopped now profile limits (p ++ piece) (es ++ more) u in
-      inl (less, first closed whole, first (closed + 1) whole, (es ++ more, closes was t close, refl))
+      inl (less, first closed whole, first (closed + 1) whole, (es ++ more, closes was t close, all_are))

@@ -1,5 +1,6 @@
 -- How bytes are shown one part after another, and records.
 use Rattle.std.proofs.Common.{◌≡◌, ◌≢◌, ℕ, zero, suc, ◌+◌, ◌<◌, Bool, true, false, List, [], ◌∷◌, ◌++◌, length, take, drop, get_or, refl, sym, ap, subst, ◌∙◌, inl, inr, append_assoc, append-nil, eqb, eq-eqb, arith, take-append-drop, if◌then◌else◌}
+use Rattle.std.proofs.Math.Seq.{drop-append-add, drop-append_seam, take-add, take-append-add}
 use Rattle.std.proofs.lemmas.Bool.Decides.{nat_tests}
 use Rattle.std.proofs.lemmas.List.{take_all, take_more, length-drop, get_or-drop}
 use Rattle.std.specs.List.{AllByRecursion}
@@ -92,32 +93,33 @@ cut_behind text k within e none = record {
 pub cut_none : (text : List ℕ) → Nowhere (Passes (is_byte 10) text) 0 (length text) → IsCut text (take 0 text) (drop 0 text)
 cut_none text none = record { whole = refl; ended = inl refl; plain = lacks_all 10 text none }
 
--- ... and what bytes are shown as is cut where they are.
+-- ---- Bytes that are appended
 
-newline_shown : (xs : List ℕ) → shown_bytes (xs ++ 10 ∷ []) ≡ shown_bytes xs ++ 10 ∷ []
-newline_shown xs = shown-append xs (10 ∷ [])
+-- A NUL came behind bytes that are shown as they are.
+pub path_ended : (old bytes front text : List ℕ) (place : ℕ) → place < length bytes → get_or bytes place 0 ≡ 0 → Nowhere (Passes (is_byte 0) bytes) 0 place →
+    front ≡ old ++ take place bytes → text ≡ front ++ 58 ∷ 32 ∷ [] → text ≡ old ++ shown_bytes (take (place + 1) bytes)
+path_ended old bytes front text place within nul none first second =
+    let path = take place bytes in
+    let ended : take (place + 1) bytes ≡ path ++ 0 ∷ [] = take_more bytes place 0 within ∙ ap (λ b. path ++ b ∷ []) nul in
+    let shown : shown_bytes (path ++ 0 ∷ []) ≡ path ++ 58 ∷ 32 ∷ [] = plain_shown path (0 ∷ []) (lacks_before 0 bytes place none) in
+    second ∙ ap (λ t. t ++ 58 ∷ 32 ∷ []) first ∙ append_assoc old path (58 ∷ 32 ∷ []) ∙ ap (λ t. old ++ t) (sym (ap (λ t. shown_bytes t) ended ∙ shown))
 
-colon_lacks : (nul : Bool) (x : ℕ) → x ≢ 10 → Lacks 10 (if nul then 58 ∷ 32 ∷ [] else x ∷ [])
-colon_lacks true x n = ((λ z. absurd (cc)), ((λ z. absurd (cc)), tt))
-colon_lacks false x n = (n, tt)
+-- One part came after another.
+pub shows_rest : (old mid now bytes rest : List ℕ) (used n : ℕ) → rest ≡ drop used bytes → mid ≡ old ++ shown_bytes (take used bytes) → now ≡ mid ++ shown_bytes (take n rest) →
+    now ≡ old ++ shown_bytes (take (used + n) bytes)
+shows_rest old mid now bytes rest used n e h g =
+    let front = take used bytes in
+    let both : take (used + n) bytes ≡ front ++ take n rest = take-add used n bytes ∙ ap (λ t. front ++ take n t) (sym e) in
+    g ∙ ap (λ t. t ++ shown_bytes (take n rest)) h ∙ append_assoc old (shown_bytes front) (shown_bytes (take n rest))
+    ∙ ap (λ t. old ++ t) (sym (ap (λ t. shown_bytes t) both ∙ shown-append front (take n rest)))
 
-shown_lacks : (xs : List ℕ) → Lacks 10 xs → Lacks 10 (shown_bytes xs)
-shown_lacks [] h = tt
-shown_lacks (x ∷ xs) h = lacks_both 10 (shown_byte x) (shown_bytes xs) (colon_lacks (eqb x 0) x h.0) (shown_lacks xs h.1)
+-- A text was moved to the end of another, more was appended, and what is behind the last newline was taken back.
+module _ (out text shown : List ℕ) where
+  pub moved_text : (all : List ℕ) → all ≡ (out ++ text) ++ shown → drop (length out) all ≡ text ++ shown
+  moved_text all e = ap (λ t. drop (length out) t) (e ∙ append_assoc out text shown) ∙ drop-append_seam out (text ++ shown)
 
-pub cut_shown : (old bytes : List ℕ) (k : ℕ) → k < length bytes → get_or bytes k 0 ≡ 10 → Nowhere (Passes (is_byte 10) bytes) (k + 1) (length bytes) →
-    IsCut (old ++ shown_bytes bytes) (old ++ shown_bytes (take (k + 1) bytes)) (shown_bytes (drop (k + 1) bytes))
-cut_shown old bytes k within e none =
-    let front = take (k + 1) bytes in
-    let back = drop (k + 1) bytes in
-    let line = take k bytes in
-    let ended : front ≡ line ++ 10 ∷ [] = take_more bytes k 0 within ∙ ap (λ b. line ++ b ∷ []) e in
-    record {
-      whole = ap (λ t. old ++ shown_bytes t) (sym (take-append-drop (k + 1) bytes)) ∙ ap (λ t. old ++ t) (shown-append front back)
-          ∙ sym (append_assoc old (shown_bytes front) (shown_bytes back));
-      ended = inr (
-        old ++ shown_bytes line,
-        ap (λ t. old ++ shown_bytes t) ended ∙ ap (λ t. old ++ t) (newline_shown line) ∙ sym (append_assoc old (shown_bytes line) (10 ∷ [])),
-      );
-      plain = shown_lacks back (lacks_behind 10 bytes (k + 1) none);
-    }
+  pub moved_front : (all : List ℕ) (end : ℕ) → all ≡ (out ++ text) ++ shown → take (length out + end) all ≡ out ++ take end (text ++ shown)
+  moved_front all end e = ap (λ t. take (length out + end) t) (e ∙ append_assoc out text shown) ∙ take-append-add out (text ++ shown) end
+
+  pub moved_back : (all : List ℕ) (end : ℕ) → all ≡ (out ++ text) ++ shown → drop (length out + end) all ≡ drop end (text ++ shown)
+  moved_back all end e = ap (λ t. drop (length out + end) t) (e ∙ append_assoc out text shown) ∙ drop-append-add out (text ++ shown) end

@@ -1,21 +1,23 @@
 -- What is right for a run over a stream.
-use Rattle.std.proofs.Common.{◌≡◌, ◌≢◌, ℕ, ◌+◌, ◌<◌, ◌≤◌, ◌⊎◌, Bool, true, false, List, [], ◌∷◌, ◌++◌, length, take, drop, Option, refl, sym, ap, subst, ◌∙◌, append_assoc, append-nil, arith, inl, inr}
+use Rattle.std.proofs.Common.{◌≡◌, ◌≢◌, ℕ, ◌+◌, ◌<◌, ◌≤◌, ◌⊎◌, Bool, true, false, List, [], ◌∷◌, ◌++◌, length, take, drop, Option, sym, ap, subst, ◌∙◌, append_assoc, append-nil, arith, inl, inr}
 use Rattle.std.proofs.Common.{length-append, length-drop, length-take, take-append-drop}
-use Rattle.std.proofs.Math.Seq.{take-add}
+use Rattle.std.proofs.Math.Seq.{take-add, take-append-add, take-length}
 use Rattle.std.specs.Io.KnownBytes.{IsAtEnd}
 use Rattle.cg_snap.specs.Stop.{place_of}
+use Rattle.cg_snap.specs.declared.event.Event.{Event}
+use Rattle.cg_snap.specs.declared.event.Event.TheVariants as events
 use Rattle.cg_snap.specs.declared.stop.Stop.{Stop}
 use Rattle.cg_snap.specs.declared.stop.Stop.TheVariants as stops
 use Rattle.cg_run.specs.Input.{Reading}
 use Rattle.cg_run.specs.Outcome.{last_line}
+use Rattle.cg_run.specs.Output.{Holds}
 use Rattle.cg_run.specs.Run.{Wrote, joined}
 use Rattle.cg_run.specs.Stream.{IsEarlyRight, IsStreamRight, IsStreamStarved, IsStreamStop}
-use Rattle.cg_run.specs.Streaming.{EndsSo, FoundIs, HasWritten, IsByteStop, IsCutAt, LeadsTo, WantsMemory}
+use Rattle.cg_run.specs.Streaming.{EndsSo, FailsIn, FoundIs, IsByteStop, IsCutAt, LeadsTo, WantsMemory}
 use Rattle.cg_run.specs.declared.outcome.Outcome.{Outcome}
 use Rattle.cg_run.specs.declared.outcome.Outcome.TheVariants as out
-use Rattle.cg_run.specs.declared.stream_reader.Found.{Found}
-use Rattle.cg_run.specs.declared.stream_reader.Found.TheVariants as found
-use Rattle.cg_run.proofs.Written.{take_past}
+use Rattle.cg_run.specs.declared.output.Output.{Output}
+use Rattle.cg_run.proofs.Written.{holds_more}
 
 -- A part of a piece, and then a part of what is left of it.
 pub text_on : (read piece rest : List ℕ) (at n : ℕ) → rest ≡ drop at piece → (read ++ take at piece) ++ take n rest ≡ read ++ take (at + n) piece
@@ -33,13 +35,7 @@ some_more : (parts more : List (List ℕ)) → more ≢ [] → parts ++ more ≢
 some_more [] more some = some
 some_more (first ∷ parts) more some = λ e. cc
 
--- Parts that have a text are some.
-some_text : (parts more all : List (List ℕ)) (text : List ℕ) → all ≡ parts ++ more → text ≡ joined more → 0 < length text → all ≢ []
-some_text parts [] all text e same some = λ none. absurd (omega (arith, some, ap length same))
-some_text parts (part ∷ more) all text e same some = λ none. some_more parts (part ∷ more) (λ z. cc) (sym e ∙ none)
-
-module _ (Took Whole Closes : List ℕ → List (List ℕ) → Type 0) (Unstopped : List ℕ → Type 0) (StopsBy : List ℕ → Stop → Type 0)
-    (closed : (p : List ℕ) (parts : List (List ℕ)) → Took p parts → Closes p parts) (passed : (p : List ℕ) (parts : List (List ℕ)) → Took p parts → Unstopped p) where
+module _ (Took Whole Closes : List ℕ → List (List ℕ) → Type 0) (Unstopped : List ℕ → Type 0) (StopsBy : List ℕ → Stop → Type 0) where
   abbrev Early : Reading → Outcome → List (List ℕ) → Type 0
   Early = IsEarlyRight Whole Closes Unstopped StopsBy
 
@@ -57,110 +53,127 @@ module _ (Took Whole Closes : List ℕ → List (List ℕ) → Type 0) (Unstoppe
   early_right r (out.WriteFault n) parts h = absurd h
   early_right r out.OutOfMemory parts h = h
 
-  -- ---- A piece, of which at bytes were taken, and then n of the rest
+  -- What a call came to that consumed n bytes of the rest of a piece, of which at were consumed before.
+  pub leads_on : (read piece rest : List ℕ) (at n : ℕ) (all : List (List ℕ)) → rest ≡ drop at piece → at ≤ length piece → (found : Event (Unit {0})) →
+      LeadsTo Closes Unstopped Took StopsBy (read ++ take at piece) all rest n found → LeadsTo Closes Unstopped Took StopsBy read all piece (at + n) found
+  leads_on read piece rest at n all e less events.NeedMore h = subst (λ (t : List ℕ). Took t all) (text_on read piece rest at n e) h
+  leads_on read piece rest at n all e less (events.Given u) h = subst (λ (t : List ℕ). Took t all) (text_on read piece rest at n e) h
+  leads_on read piece rest at n all e less (events.Stopped s) h = (
+    h.0,
+    subst (λ (t : List ℕ). StopsBy t s) (text_all read piece rest at e) h.1,
+    omega (arith, h.2, less, length-append read (take at piece), length-take at piece),
+    subst (λ (t : List ℕ). Closes t all) (text_on read piece rest at n e) h.3,
+  )
+  leads_on read piece rest at n all e less events.OutOfMemory (inl h) =
+      let next : at + (n + 1) ≡ (at + n) + 1 = omega arith in
+      inl (
+        omega (arith, h.0, less, ap length e, length-drop at piece),
+        subst Unstopped (text_on read piece rest at n e) h.1,
+        subst (λ (m : ℕ). Unstopped (read ++ take m piece)) next (subst Unstopped (text_on read piece rest at (n + 1) e) h.2),
+        subst (λ (t : List ℕ). Closes t all) (text_on read piece rest at n e) h.3,
+      )
+  leads_on read piece rest at n all e less events.OutOfMemory (inr h) = inr (
+    h.0,
+    h.1,
+    subst Unstopped (text_on read piece rest at n e) h.2,
+    subst (λ (t : List ℕ). Closes t (all ++ h.0)) (text_on read piece rest at n e) h.3,
+  )
 
-  module _ (read piece rest : List ℕ) (at n : ℕ) (rest_is : rest ≡ drop at piece) (less : at ≤ length piece) (within : n ≤ length rest) (left : Option (List ℕ)) (failed : Bool) where
+  -- A call of next within a piece: what it came to with all parts that were given, whose text was written or is held.
+  pub next_on : (first now : Option (List ℕ)) (output new : Output) (read piece rest : List ℕ) (at n : ℕ) (what found : Event (Unit {0})) (parts : List (List ℕ)) →
+      rest ≡ drop at piece → at ≤ length piece → what ≡ found → Holds first now parts output →
+      FoundIs Closes Unstopped Took StopsBy (read ++ take at piece) parts rest n output.text.items new.text.items what → new.written ≡ output.written →
+      (all : List (List ℕ)) × LeadsTo Closes Unstopped Took StopsBy read all piece (at + n) found × Holds first now all new
+  next_on first now output new read piece rest at n what found parts e less is h f same =
+      let all = parts ++ f.more in (
+        all,
+        leads_on read piece rest at n all e less found (subst (LeadsTo Closes Unstopped Took StopsBy (read ++ take at piece) all rest n) is f.leads),
+        holds_more first now parts output h f.more new f.out_is same,
+      )
+
+  -- Nothing ends the stream.
+  pub goes_on : (read piece : List ℕ) (used : ℕ) (all : List (List ℕ)) (what : Event (Unit {0})) → (what ≡ events.NeedMore) ⊎ ((u : Unit {0}) × (what ≡ events.Given u)) →
+      LeadsTo Closes Unstopped Took StopsBy read all piece used what → Took (read ++ take used piece) all
+  goes_on read piece used all what (inl e) h = subst (LeadsTo Closes Unstopped Took StopsBy read all piece used) e h
+  goes_on read piece used all what (inr e) h = subst (LeadsTo Closes Unstopped Took StopsBy read all piece used) e.1 h
+
+  -- ---- A piece, of which so many bytes were consumed
+
+  module _ (read piece : List ℕ) (used : ℕ) (within : used ≤ length piece) (left : Option (List ℕ)) (failed : Bool) (first now : Option (List ℕ)) (write_failed : Bool) (parts : List (List ℕ)) (o : Outcome) where
     abbrev r : Reading
     r = record { bytes = read ++ piece; left = left; failed = failed }
 
-    far : at + n ≤ length piece
-    far = omega (arith, less, within, ap length rest_is, length-drop at piece)
+    abbrev Ends : Type 0
+    Ends = EndsSo Early (read ++ piece) left failed first now write_failed o
 
     front : (m : ℕ) → take (length read + m) (read ++ piece) ≡ read ++ take m piece
-    front m = take_past m read piece
+    front m = take-append-add read piece m
 
     -- Memory was refused after these bytes, for the next or for a part.
-    starved : (parts more : List (List ℕ)) → Unstopped ((read ++ take at piece) ++ take n rest) → Closes ((read ++ take at piece) ++ take n rest) (parts ++ more) →
-        (((length read + (at + n)) < length (read ++ piece))
-        × Unstopped (take (length read + (at + n) + 1) (read ++ piece))) ⊎ (parts ++ more ≢ []) →
+    starved : (more : List (List ℕ)) → Unstopped (read ++ take used piece) → Closes (read ++ take used piece) (parts ++ more) →
+        (((length read + used) < length (read ++ piece)) × Unstopped (take (length read + used + 1) (read ++ piece))) ⊎ (parts ++ more ≢ []) →
         IsStreamStarved Whole Closes Unstopped StopsBy r parts
-    starved parts more u c w = record {
-      at = length read + (at + n);
-      within = omega (arith, far, length-append read piece);
-      unstopped = rw (front (at + n)) (subst Unstopped (text_on read piece rest at n rest_is) u);
+    starved more u c w = record {
+      at = length read + used;
+      within = omega (arith, within, length-append read piece);
+      unstopped = rw (front used) u;
       more = more;
-      has = inl (rw (front (at + n)) (subst (λ (t : List ℕ). Closes t (parts ++ more)) (text_on read piece rest at n rest_is) c));
+      has = inl (rw (front used) c);
       wants = w;
     }
 
     -- The writer failed in some of these parts.
-    pub parts_fault_ends : (first now : Option (List ℕ)) (write_failed : Bool) (parts : List (List ℕ)) (o : Outcome) → parts ≢ [] → Took ((read ++ take at piece) ++ take n rest) parts →
-        ((rest : List ℕ) (wanted : Outcome) → Wrote first now write_failed (joined parts ++ rest) wanted o) → EndsSo Early (read ++ piece) left failed first now write_failed o
-    parts_fault_ends first now write_failed parts o some h w = record {
+    pub fault_ends : parts ≢ [] → Unstopped (read ++ take used piece) → Closes (read ++ take used piece) parts →
+        FailsIn first now write_failed parts o → Ends
+    fault_ends some u c w = record {
       wanted = out.OutOfMemory;
       parts = parts;
-      right = starved parts [] (passed ((read ++ take at piece) ++ take n rest) parts h)
-          (rw (append-nil parts) (closed ((read ++ take at piece) ++ take n rest) parts h))
-          (inr (rw (append-nil parts) some));
+      right = starved [] u (rw (append-nil parts) c) (inr (rw (append-nil parts) some));
       wrote = w (last_line out.OutOfMemory) out.OutOfMemory;
     }
 
-    stop_right : (parts : List (List ℕ)) (s : Stop) → IsByteStop s → StopsBy (read ++ piece) s → Closes (take (place_of s) (read ++ piece)) parts → IsStreamStop Whole Closes Unstopped StopsBy r s parts
-    stop_right parts (stops.Refused place why) b x c = record { stops = x; closed = c }
-    stop_right parts (stops.TooLong place) b x c = record { stops = x; closed = c }
-    stop_right parts (stops.TooMany place) b x c = record { stops = x; closed = c }
-    stop_right parts (stops.TooMuch place) b x c = record { stops = x; closed = c }
-    stop_right parts (stops.Cut place) b x c = absurd b
+    stop_right : (s : Stop) → IsByteStop s → StopsBy (read ++ piece) s → Closes (take (place_of s) (read ++ piece)) parts → IsStreamStop Whole Closes Unstopped StopsBy r s parts
+    stop_right (stops.Refused place why) b x c = record { stops = x; closed = c }
+    stop_right (stops.TooLong place) b x c = record { stops = x; closed = c }
+    stop_right (stops.TooMany place) b x c = record { stops = x; closed = c }
+    stop_right (stops.TooMuch place) b x c = record { stops = x; closed = c }
+    stop_right (stops.Cut place) b x c = absurd b
 
-    pub stop_ends : (first now : Option (List ℕ)) (write_failed : Bool) (parts : List (List ℕ)) (s : Stop) (o : Outcome) → IsByteStop s → StopsBy ((read ++ take at piece) ++ rest) s → place_of s ≡ length (read ++ take at piece) + n →
-        Closes ((read ++ take at piece) ++ take n rest) parts → Wrote first now write_failed (joined parts ++ last_line (out.Stopped s)) (out.Stopped s) o → EndsSo Early (read ++ piece) left failed first now write_failed o
-    stop_ends first now write_failed parts s o b x e c w =
-        let place : place_of s ≡ length read + (at + n) = omega (arith, e, less, length-append read (take at piece), length-take at piece) in
-        record {
-          wanted = out.Stopped s;
-          parts = parts;
-          right = stop_right parts s b (subst (λ (t : List ℕ). StopsBy t s) (text_all read piece rest at rest_is) x)
-              (rw (place, front (at + n)) (subst (λ (t : List ℕ). Closes t parts) (text_on read piece rest at n rest_is) c));
-          wrote = w;
-        }
+    pub stop_ends : (s : Stop) → LeadsTo Closes Unstopped Took StopsBy read parts piece used (events.Stopped s) →
+        Wrote first now write_failed (joined parts ++ last_line (out.Stopped s)) (out.Stopped s) o → Ends
+    stop_ends s h w = record {
+      wanted = out.Stopped s;
+      parts = parts;
+      right = stop_right s h.0 h.1 (rw (h.2, front used) h.3);
+      wrote = w;
+    }
 
-    memory_right : (parts : List (List ℕ)) → WantsMemory Closes Unstopped (read ++ take at piece) parts rest n → IsStreamStarved Whole Closes Unstopped StopsBy r parts
-    memory_right parts (inl h) =
-        let next : length read + (at + n) + 1 ≡ length read + (at + (n + 1)) = omega arith in
-        let u : Unstopped (take (length read + (at + n) + 1) (read ++ piece)) = rw (next, front (at + (n + 1))) (subst Unstopped (text_on read piece rest at (n + 1) rest_is) h.2) in
-        starved parts [] h.1 (rw (append-nil parts) h.3) (inl (omega (arith, h.0, less, ap length rest_is, length-drop at piece, length-append read piece), u))
-    memory_right parts (inr h) = starved parts (h.0) h.2 h.3 (inr (some_more parts (h.0) h.1))
+    memory_right : WantsMemory Closes Unstopped read parts piece used → IsStreamStarved Whole Closes Unstopped StopsBy r parts
+    memory_right (inl h) =
+        let next : length read + used + 1 ≡ length read + (used + 1) = omega arith in
+        starved [] h.1 (rw (append-nil parts) h.3) (inl (omega (arith, h.0, length-append read piece), rw (next, front (used + 1)) h.2))
+    memory_right (inr h) = starved (h.0) h.2 h.3 (inr (some_more parts (h.0) h.1))
 
-    pub memory_ends : (first now : Option (List ℕ)) (write_failed : Bool) (parts : List (List ℕ)) (o : Outcome) → WantsMemory Closes Unstopped (read ++ take at piece) parts rest n →
-        Wrote first now write_failed (joined parts ++ last_line out.OutOfMemory) out.OutOfMemory o → EndsSo Early (read ++ piece) left failed first now write_failed o
-    memory_ends first now write_failed parts o h w = record { wanted = out.OutOfMemory; parts = parts; right = memory_right parts h; wrote = w }
-
-    leads_fault : (first now : Option (List ℕ)) (write_failed : Bool) (all : List (List ℕ)) (f : Found) (o : Outcome) → all ≢ [] →
-        LeadsTo Closes Unstopped Took StopsBy (read ++ take at piece) all rest n f →
-        ((rest : List ℕ) (wanted : Outcome) → Wrote first now write_failed (joined all ++ rest) wanted o) → EndsSo Early (read ++ piece) left failed first now write_failed o
-    leads_fault first now write_failed all found.GoesOn o some h w = parts_fault_ends first now write_failed all o some h w
-    leads_fault first now write_failed all (found.Stopped s) o some h w = stop_ends first now write_failed all s o h.0 h.1 h.2 h.3 (w (last_line (out.Stopped s)) (out.Stopped s))
-    leads_fault first now write_failed all found.OutOfMemory o some h w = memory_ends first now write_failed all o h (w (last_line out.OutOfMemory) out.OutOfMemory)
-
-    -- The writer failed in the text of parts that a call gave, whatever else it came to.
-    pub fault_ends : (first now : Option (List ℕ)) (write_failed : Bool) (parts : List (List ℕ)) (text : List ℕ) (f : Found) (o : Outcome) → 0 < length text →
-        (h : FoundIs Closes Unstopped Took StopsBy (read ++ take at piece) parts rest n text f) →
-        ((rest : List ℕ) (wanted : Outcome) → Wrote first now write_failed (joined (parts ++ h.more) ++ rest) wanted o) → EndsSo Early (read ++ piece) left failed first now write_failed o
-    fault_ends first now write_failed parts text f o some h w =
-        let wrote : (rest : List ℕ) (wanted : Outcome) → Wrote first now write_failed (joined h.all ++ rest) wanted o =
-        λ rest wanted. subst (λ (ps : List (List ℕ)). Wrote first now write_failed (joined ps ++ rest) wanted o) (sym h.all_are) (w rest wanted) in
-        leads_fault first now write_failed h.all f o (some_text parts h.more h.all text h.all_are h.text_is some) h.leads wrote
+    pub memory_ends : WantsMemory Closes Unstopped read parts piece used → Wrote first now write_failed (joined parts ++ last_line out.OutOfMemory) out.OutOfMemory o → Ends
+    memory_ends h w = record { wanted = out.OutOfMemory; parts = parts; right = memory_right h; wrote = w }
 
   -- ---- The end of the input
 
-  module _ (read : List ℕ) (left : Option (List ℕ)) (failed : Bool) (first now : Option (List ℕ)) (write_failed : Bool) (parts : List (List ℕ)) (took : Took read parts) where
+  module _ (read : List ℕ) (left : Option (List ℕ)) (failed : Bool) (first now : Option (List ℕ)) (write_failed : Bool) (parts : List (List ℕ)) (unstopped : Unstopped read) (closed : Closes read parts) where
     pub read_fault_ends : (o : Outcome) → failed ≡ true → Wrote first now write_failed (joined parts ++ last_line out.ReadFault) out.ReadFault o → EndsSo Early read left failed first now write_failed o
-    read_fault_ends o f w = record { wanted = out.ReadFault; parts = parts; right = record { unstopped = passed read parts took; failed = f; closed = closed read parts took }; wrote = w }
+    read_fault_ends o f w = record { wanted = out.ReadFault; parts = parts; right = record { unstopped = unstopped; failed = f; closed = closed }; wrote = w }
 
     module _ (ended : IsAtEnd left) (works : failed ≡ false) where
-      -- All parts were written, and no line is.
-      pub done_ends : (all : List (List ℕ)) (written : ℕ) → Whole read all → HasWritten first now all written → EndsSo Right read left failed first now write_failed out.Done
-      done_ends all written whole h = record { wanted = out.Done; parts = all; right = record { ended = (ended, works); unstopped = passed read parts took; whole = whole }; wrote = (refl, rw (append-nil (joined all)) h.0) }
-
-      pub last_fault_ends : (all : List (List ℕ)) (o : Outcome) → Whole read all → Wrote first now write_failed (joined all ++ []) out.Done o → EndsSo Right read left failed first now write_failed o
-      last_fault_ends all o whole w = record { wanted = out.Done; parts = all; right = record { ended = (ended, works); unstopped = passed read parts took; whole = whole }; wrote = w }
+      -- The stream is whole, and has these parts.
+      pub done_ends : (all : List (List ℕ)) (o : Outcome) → Whole read all → Wrote first now write_failed (joined all ++ []) out.Done o → EndsSo Right read left failed first now write_failed o
+      done_ends all o whole w = record { wanted = out.Done; parts = all; right = record { ended = (ended, works); unstopped = unstopped; whole = whole }; wrote = w }
 
       cut_right : (s : Stop) → IsCutAt Whole read s → IsStreamStop Whole Closes Unstopped StopsBy (record { bytes = read; left = left; failed = failed }) s parts
       cut_right (stops.Refused place why) h = absurd h
       cut_right (stops.TooLong place) h = absurd h
       cut_right (stops.TooMany place) h = absurd h
       cut_right (stops.TooMuch place) h = absurd h
-      cut_right (stops.Cut place) h = record { ended = (ended, works); unstopped = passed read parts took; not_whole = h.1; at_end = h.0; closed = closed read parts took }
+      cut_right (stops.Cut place) h = record { ended = (ended, works); unstopped = unstopped; not_whole = h.1; at_end = h.0; closed = closed }
 
       pub cut_ends : (s : Stop) (o : Outcome) → IsCutAt Whole read s → Wrote first now write_failed (joined parts ++ last_line (out.Stopped s)) (out.Stopped s) o → EndsSo Right read left failed first now write_failed o
       cut_ends s o h w = record { wanted = out.Stopped s; parts = parts; right = cut_right s h; wrote = w }
@@ -168,18 +181,16 @@ module _ (Took Whole Closes : List ℕ → List (List ℕ) → Type 0) (Unstoppe
       pub last_memory_ends : (part : List ℕ) (o : Outcome) → Whole read (parts ++ part ∷ []) →
           Wrote first now write_failed (joined parts ++ last_line out.OutOfMemory) out.OutOfMemory o →
           EndsSo Right read left failed first now write_failed o
-      last_memory_ends part o whole w =
-          let all : take (length read) read ≡ read = ap (λ (t : List ℕ). take (length read) t) (sym (append-nil read)) ∙ ap (λ (m : ℕ). take m (read ++ [])) (omega arith) ∙ take_past 0 read [] ∙ append-nil read in
-          record {
-            wanted = out.OutOfMemory;
-            parts = parts;
-            right = record {
-              at = length read;
-              within = omega arith;
-              unstopped = rw all (passed read parts took);
-              more = part ∷ [];
-              has = inr (record { ended = (ended, works); unstopped = passed read parts took; whole = whole });
-              wants = inr (some_part parts part);
-            };
-            wrote = w;
-          }
+      last_memory_ends part o whole w = record {
+        wanted = out.OutOfMemory;
+        parts = parts;
+        right = record {
+          at = length read;
+          within = omega arith;
+          unstopped = rw (take-length read) unstopped;
+          more = part ∷ [];
+          has = inr (record { ended = (ended, works); unstopped = unstopped; whole = whole });
+          wants = inr (some_part parts part);
+        };
+        wrote = w;
+      }

@@ -1,30 +1,20 @@
 -- What was written, part by part.
-use Rattle.std.specs.Prelude.{MatchOption}
-use Rattle.std.proofs.Common.{◌≡◌, ◌≢◌, ℕ, zero, suc, ◌+◌, ◌≤◌, Bool, true, List, [], ◌∷◌, ◌++◌, length, take, min, Option, Some, None, refl, sym, ap, subst, ◌∙◌, append_assoc, append-nil, arith, length-append}
+use Rattle.std.proofs.Common.{◌≡◌, ◌≢◌, ℕ, ◌+◌, ◌<◌, ◌≤◌, Bool, true, List, [], ◌∷◌, ◌++◌, length, take, min, Option, Some, None, refl, sym, ap, subst, ◌∙◌, append_assoc, append-nil, arith, length-append}
+use Rattle.std.proofs.Math.Seq.{take-append-add}
+use Rattle.std.proofs.lemmas.List.{take-append-le}
 use Rattle.std.specs.Io.KnownBytes.{Appends}
+use Rattle.cg_print.proofs.Known.{Appends-trans}
 use Rattle.cg_text.specs.Token.{told}
 use Rattle.cg_run.specs.Run.{Wrote, joined}
-use Rattle.cg_run.specs.Streaming.{Gathers, HasWritten}
+use Rattle.cg_run.specs.Output.{Holds}
+use Rattle.cg_run.specs.Streaming.{HasWritten}
 use Rattle.cg_run.specs.declared.outcome.Outcome.{Outcome}
 use Rattle.cg_run.specs.declared.outcome.Outcome.TheVariants as out
-
-pub Appends-trans : (a b c : Option (List ℕ)) (xs ys : List ℕ) → Appends a b xs → Appends b c ys → Appends a c (xs ++ ys)
-Appends-trans None b c xs ys p q = tt
-Appends-trans (Some x) None c xs ys p q = absurd p
-Appends-trans (Some x) (Some y) None xs ys p q = absurd q
-Appends-trans (Some x) (Some y) (Some z) xs ys p q = q ∙ ap (λ l. l ++ ys) p ∙ append_assoc x xs ys
-
-pub Appends-nil : (a : Option (List ℕ)) → Appends a a []
-Appends-nil None = tt
-Appends-nil (Some x) = sym (append-nil x)
+use Rattle.cg_run.specs.declared.output.Output.{Output}
 
 pub joined_push : (parts : List (List ℕ)) (part : List ℕ) → joined (parts ++ part ∷ []) ≡ joined parts ++ part
 joined_push [] part = append-nil part
 joined_push (first ∷ parts) part = ap (λ t. first ++ t) (joined_push parts part) ∙ sym (append_assoc first (joined parts) part)
-
--- Nothing was written yet.
-pub none_written : (a : Option (List ℕ)) → HasWritten a a [] 0
-none_written a = (Appends-nil a, refl)
 
 -- One more part was written.
 pub part_written : (first a b : Option (List ℕ)) (parts : List (List ℕ)) (part : List ℕ) (written more : ℕ) →
@@ -33,18 +23,6 @@ pub part_written : (first a b : Option (List ℕ)) (parts : List (List ℕ)) (pa
 part_written first a b parts part written more h p e =
     (rw (joined_push parts part) (Appends-trans first a b (joined parts) part h.0 p), rw (joined_push parts part, length-append (joined parts) part) (omega (arith, e, h.1)))
 
--- The first bytes of two texts one after the other.
-pub take_past : (n : ℕ) (xs ys : List ℕ) → take (length xs + n) (xs ++ ys) ≡ xs ++ take n ys
-take_past n [] ys = ap (λ m. take m ys) (omega arith)
-take_past n (x ∷ xs) ys =
-    let next : length (x ∷ xs) + n ≡ suc (length xs + n) = omega arith in
-    ap (λ m. take m (x ∷ (xs ++ ys))) next ∙ ap (λ t. x ∷ t) (take_past n xs ys)
-
-take_within : (n : ℕ) (xs ys : List ℕ) → n ≤ length xs → take n (xs ++ ys) ≡ take n xs
-take_within zero xs ys le = refl
-take_within (suc n) [] ys le = absurd (omega (arith, le))
-take_within (suc n) (x ∷ xs) ys le = ap (λ t. x ∷ t) (take_within n xs ys (omega (arith, le)))
-
 -- The writer failed in a text that came after the parts, and more of which was to come.
 fault_after : (first a b : Option (List ℕ)) (parts : List (List ℕ)) (text rest : List ℕ) (written n all : ℕ)
     (failed : Bool) (wanted : Outcome) → HasWritten first a parts written → n ≤ length text →
@@ -52,7 +30,7 @@ fault_after : (first a b : Option (List ℕ)) (parts : List (List ℕ)) (text re
     all ≡ told (length (joined parts) + n) → Wrote first b failed ((joined parts ++ text) ++ rest) wanted (out.WriteFault all)
 fault_after first a b parts text rest written n all failed wanted h le p f e =
     let here : take (length (joined parts) + n) ((joined parts ++ text) ++ rest) ≡ joined parts ++ take n text =
-    ap (λ (l : List ℕ). take (length (joined parts) + n) l) (append_assoc (joined parts) text rest) ∙ take_past n (joined parts) (text ++ rest) ∙ ap (λ (l : List ℕ). joined parts ++ l) (take_within n text rest le) in (
+    ap (λ (l : List ℕ). take (length (joined parts) + n) l) (append_assoc (joined parts) text rest) ∙ take-append-add (joined parts) (text ++ rest) n ∙ ap (λ (l : List ℕ). joined parts ++ l) (take-append-le n text rest le) in (
       length (joined parts) + n,
       omega (arith, le, length-append (joined parts) text, length-append (joined parts ++ text) rest),
       rw here (Appends-trans first a b (joined parts) (take n text) h.0 p),
@@ -74,64 +52,46 @@ line_fault first a b parts line written more all failed wanted h w e =
     subst (λ (t : List ℕ). Wrote first b failed t wanted (out.WriteFault all)) (append-nil (joined parts ++ line))
     (fault_after first a b parts line [] written w.0 all failed wanted h w.1 w.2 w.4 (omega (arith, e, w.3, h.1)))
 
--- ---- Texts that are gathered
+-- ---- Texts that an output holds
 
 pub joined_append : (xs ys : List (List ℕ)) → joined (xs ++ ys) ≡ joined xs ++ joined ys
 joined_append [] ys = refl
 joined_append (x ∷ xs) ys = ap (λ t. x ++ t) (joined_append xs ys) ∙ sym (append_assoc x (joined xs) (joined ys))
 
--- The text of one part, and of no part.
+-- The text of one part.
 pub joined_one : (part : List ℕ) → part ≡ joined (part ∷ [])
 joined_one part = sym (append-nil part)
 
--- The parts, with those that are gathered as one.
-pub gathered_joined : (first now : Option (List ℕ)) (parts : List (List ℕ)) (written : ℕ) (gathered : List ℕ) (h : Gathers first now parts written gathered) → joined (h.told ++ gathered ∷ []) ≡ joined parts
-gathered_joined first now parts written gathered h =
-    joined_push h.told gathered ∙ ap (λ t. joined h.told ++ t) h.text ∙ sym (joined_append h.told h.rest) ∙ ap (λ ps. joined ps) (sym h.parts_are)
+-- The same text, in other parts.
+pub written_as : (first now : Option (List ℕ)) (xs ys : List (List ℕ)) (written : ℕ) → joined xs ≡ joined ys → HasWritten first now xs written → HasWritten first now ys written
+written_as first now xs ys written e h = subst (λ (t : List ℕ). Appends first now t × (written ≡ told (length t))) e h
 
--- What was written of parts, or the writer's fault.
-pub told_as : (r : Option Outcome) (first now : Option (List ℕ)) (failed : Bool) (xs ys : List (List ℕ)) (written : ℕ) → joined xs ≡ joined ys →
-    MatchOption r (HasWritten first now xs written) (λ fault. (rest : List ℕ) (wanted : Outcome) → Wrote first now failed (joined xs ++ rest) wanted fault) →
-    MatchOption r (HasWritten first now ys written) (λ fault. (rest : List ℕ) (wanted : Outcome) → Wrote first now failed (joined ys ++ rest) wanted fault)
-told_as None first now failed xs ys written e h = subst (λ (t : List ℕ). Appends first now t × (written ≡ told (length t))) e h
-told_as (Some fault) first now failed xs ys written e h = λ rest wanted. subst (λ (t : List ℕ). Wrote first now failed (t ++ rest) wanted fault) e (h rest wanted)
+-- All is written where it holds nothing.
+pub holds_none : (first now : Option (List ℕ)) (parts : List (List ℕ)) (output : Output) → output.text.items ≡ [] → HasWritten first now parts output.written → Holds first now parts output
+holds_none first now parts output e h = record { before = parts; wrote = h; text = sym (ap (λ t. joined parts ++ t) e ∙ append-nil (joined parts)) }
 
--- Nothing is gathered yet.
-pub gathers_none : (first now : Option (List ℕ)) (parts : List (List ℕ)) (written : ℕ) (gathered : List ℕ) → gathered ≡ [] → HasWritten first now parts written → Gathers first now parts written gathered
-gathers_none first now parts written gathered e h = record { told = parts; rest = []; parts_are = sym (append-nil parts); wrote = h; text = e }
+module _ (first now : Option (List ℕ)) (parts : List (List ℕ)) (output : Output) (h : Holds first now parts output) where
+  -- The parts, with those that it holds as one.
+  pub held_joined : joined (h.before ++ output.text.items ∷ []) ≡ joined parts
+  held_joined = joined_push h.before output.text.items ∙ sym h.text
 
--- All is written where nothing is gathered.
-pub gathered_none : (first now : Option (List ℕ)) (parts : List (List ℕ)) (written : ℕ) (gathered : List ℕ) → gathered ≡ [] → Gathers first now parts written gathered → HasWritten first now parts written
-gathered_none first now parts written gathered e h =
-    let same : joined h.told ≡ joined parts = sym (append-nil (joined h.told)) ∙ ap (λ t. joined h.told ++ t) (sym e ∙ h.text) ∙ sym (joined_append h.told h.rest) ∙ ap (λ ps. joined ps) (sym h.parts_are) in
-    subst (λ (t : List ℕ). Appends first now t × (written ≡ told (length t))) same h.wrote
+  pub none_held : output.text.items ≡ [] → HasWritten first now parts output.written
+  none_held e = written_as first now h.before parts output.written (sym (append-nil (joined h.before)) ∙ ap (λ t. joined h.before ++ t) (sym e) ∙ sym h.text) h.wrote
 
--- The text of more parts is gathered; or it alone, where all others were written.
-pub gathers_more : (first now : Option (List ℕ)) (parts more : List (List ℕ)) (text : List ℕ) (written : ℕ) (old new : List ℕ) → text ≡ joined more → new ≡ old ++ text →
-    Gathers first now parts written old → Gathers first now (parts ++ more) written new
-gathers_more first now parts more text written old new same e h = record {
-  told = h.told;
-  rest = h.rest ++ more;
-  parts_are = ap (λ ps. ps ++ more) h.parts_are ∙ append_assoc h.told h.rest more;
-  wrote = h.wrote;
-  text = e ∙ ap (λ t. t ++ text) h.text ∙ ap (λ t. joined h.rest ++ t) same ∙ sym (joined_append h.rest more);
-}
+  -- The texts of more parts are appended.
+  pub holds_more : (more : List (List ℕ)) (new : Output) → new.text.items ≡ output.text.items ++ joined more → new.written ≡ output.written → Holds first now (parts ++ more) new
+  holds_more more new e same = record {
+    before = h.before;
+    wrote = (h.wrote.0, same ∙ h.wrote.1);
+    text = joined_append parts more ∙ ap (λ t. t ++ joined more) h.text ∙ append_assoc (joined h.before) output.text.items (joined more) ∙ ap (λ t. joined h.before ++ t) (sym e);
+  }
 
-pub gathers_alone : (first now : Option (List ℕ)) (parts more : List (List ℕ)) (text : List ℕ) (written : ℕ) → text ≡ joined more → HasWritten first now parts written → Gathers first now (parts ++ more) written text
-gathers_alone first now parts more text written same h = record { told = parts; rest = more; parts_are = refl; wrote = h; text = same }
+  -- Nothing more is.
+  pub holds_same : (new : Output) → new.text.items ≡ output.text.items → new.written ≡ output.written → Holds first now parts new
+  holds_same new e same = record { before = h.before; wrote = (h.wrote.0, same ∙ h.wrote.1); text = h.text ∙ ap (λ t. joined h.before ++ t) (sym e) }
 
--- The writer failed before more parts.
-pub fault_before : (first now : Option (List ℕ)) (failed : Bool) (parts more : List (List ℕ)) (fault : Outcome) → ((rest : List ℕ) (wanted : Outcome) → Wrote first now failed (joined parts ++ rest) wanted fault) →
-    (rest : List ℕ) (wanted : Outcome) → Wrote first now failed (joined (parts ++ more) ++ rest) wanted fault
-fault_before first now failed parts more fault h rest wanted =
-    subst (λ (t : List ℕ). Wrote first now failed t wanted fault) (sym (ap (λ t. t ++ rest) (joined_append parts more) ∙ append_assoc (joined parts) (joined more) rest)) (h (joined more ++ rest) wanted)
-
--- Where texts are gathered there are parts.
-pub gathered_some : (first now : Option (List ℕ)) (parts : List (List ℕ)) (written : ℕ) (gathered : List ℕ) → gathered ≢ [] → Gathers first now parts written gathered → parts ≢ []
-gathered_some first now parts written gathered some h none =
-    let both : h.told ++ h.rest ≡ [] = sym h.parts_are ∙ none in
-    some (h.text ∙ ap (λ ps. joined ps) (rest_none h.told h.rest both))
-  where
-    rest_none : (xs ys : List (List ℕ)) → xs ++ ys ≡ [] → ys ≡ []
-    rest_none [] ys e = e
-    rest_none (x ∷ xs) ys e = absurd (cc)
+  -- Where it holds a text there are parts.
+  pub held_some : 0 < length output.text.items → parts ≢ []
+  held_some some none =
+      let e : length (joined parts) ≡ 0 = ap (λ ps. length (joined ps)) none in
+      absurd (omega (arith, some, e, ap length h.text, length-append (joined h.before) output.text.items))

@@ -10,11 +10,11 @@ use Rattle.cg_snap.specs.Decode.{HasTaken}
 use Rattle.cg_snap.specs.Laws.{print_entries}
 use Rattle.cg_snap.specs.SnapStop.{IsSnapUnstopped, SnapStopOf}
 use Rattle.cg_snap.specs.Stop.{place_of}
-use Rattle.cg_snap.specs.declared.decoder.SnapshotDecoder.{SnapshotDecoder}
+use Rattle.cg_snap.specs.Decoder.{SnapshotDecoder}
+use Rattle.cg_snap.specs.declared.event.Event.{Event}
+use Rattle.cg_snap.specs.declared.event.Event.TheVariants as events
 use Rattle.cg_snap.specs.declared.limits.Limits.{Limits}
 use Rattle.cg_run.specs.Streaming.{IsByteStop}
-use Rattle.cg_run.specs.declared.stream_reader.Found.{Found}
-use Rattle.cg_run.specs.declared.stream_reader.Found.TheVariants as found
 
 -- No line of the entries has a NUL.
 abbrev pub ArePlain : List EntryData → Type 0
@@ -40,16 +40,17 @@ pub record HasDecoded (d : SnapshotDecoder) (profile : Profile) (limits : Limits
   pub close : CloseMore profile limits p es piece closed more
   pub taken : HasTaken d profile limits (p ++ take used piece) (es ++ more)
 
--- What it came to behind the entries.
-abbrev pub LeftBy : SnapshotDecoder → Profile → Limits → List ℕ → List EntryData → List ℕ → ℕ → Found → Type 0
-LeftBy d profile limits p all piece used found.GoesOn = HasTaken d profile limits (p ++ piece) all × (used ≡ length piece)
-LeftBy d profile limits p all piece used (found.Stopped s) =
+-- What it came to behind the entries, of which none is given on.
+abbrev pub LeftBy : SnapshotDecoder → Profile → Limits → List ℕ → List EntryData → List ℕ → ℕ → Event (Unit {0}) → Type 0
+LeftBy d profile limits p all piece used events.NeedMore = HasTaken d profile limits (p ++ piece) all × (used ≡ length piece)
+LeftBy d profile limits p all piece used (events.Given u) = ⊥
+LeftBy d profile limits p all piece used (events.Stopped s) =
     IsByteStop s × SnapStopOf profile limits (p ++ piece) s × (place_of s ≡ length p + used) × Closed profile (p ++ take used piece) all
-LeftBy d profile limits p all piece used found.OutOfMemory =
+LeftBy d profile limits p all piece used events.OutOfMemory =
     (used < length piece) × IsSnapUnstopped profile limits (p ++ take used piece) × IsSnapUnstopped profile limits (p ++ take (used + 1) piece)
     × Closed profile (p ++ take used piece) all
 
-pub record DecodedIs (d : SnapshotDecoder) (profile : Profile) (limits : Limits) (p : List ℕ) (es : List EntryData) (piece : List ℕ) (used closed : ℕ) (f : Found) : Type 0 where
+pub record DecodedIs (d : SnapshotDecoder) (profile : Profile) (limits : Limits) (p : List ℕ) (es : List EntryData) (piece : List ℕ) (used closed : ℕ) (what : Event (Unit {0})) : Type 0 where
   pub more : List EntryData
   pub close : CloseMore profile limits p es piece closed more
-  pub left : LeftBy d profile limits p (es ++ more) piece used f
+  pub left : LeftBy d profile limits p (es ++ more) piece used what

@@ -9,15 +9,14 @@ pub mod Input
 pub mod Kept
 pub mod Kinds
 pub mod Outcome
+pub mod Output
 pub mod Planned
 pub mod Program
 pub mod Reading
 pub mod Rows
 pub mod Run
-pub mod Seen
 pub mod Shown
 pub mod ShownBytes
-pub mod ShownText
 pub mod Source
 pub mod Stream
 pub mod Streaming

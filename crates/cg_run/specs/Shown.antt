@@ -12,20 +12,19 @@ use Rattle.cg_run.specs.ShownBytes.{shown_bytes}
 use Rattle.cg_run.specs.Stream.{PartsOf, shown_part}
 use Rattle.cg_run.specs.Taken.{taken_closed, taken_counted, taken_unstopped}
 use Rattle.cg_run.specs.declared.shown.ShownReader.{ShownReader}
-use Rattle.cg_run.specs.declared.shown_text.ShownText.{ShownText}
 
 -- The text is what came behind these entries, as it is shown.
-pub record IsShownBehind (shown : ShownText) (bytes : List ℕ) (es : List EntryData) : Type 0 where
+pub record IsShownBehind (text : List ℕ) (bytes : List ℕ) (es : List EntryData) : Type 0 where
   pub present : List ℕ
   pub split : bytes ≡ print_entries es ++ present
-  pub text : shown.text.items ≡ shown_bytes present
+  pub shows : text ≡ shown_bytes present
 
 -- Its decoder took the bytes, the parts are those of the entries that it gave, and its text is of the bytes behind these.
 pub record HasShown (s : ShownReader) (form : Profile × Limits) (p : List ℕ) (parts : List (List ℕ)) : Type 0 where
   pub es : List EntryData
   pub taken : HasTaken s.decoder (form.0) (form.1) p es
   pub parts_are : parts ≡ map shown_part es
-  pub behind : IsShownBehind s.shown p es
+  pub behind : IsShownBehind s.present.items p es
 
 abbrev pub shown_offset : ShownReader → ℕ
 shown_offset s = offset_of s.decoder

@@ -15,3 +15,12 @@ pub record IsCut (text lines rest : List ℕ) : Type 0 where
   pub whole : text ≡ lines ++ rest
   pub ended : IsRecordEnd lines
   pub plain : Lacks 10 rest
+
+-- A text that went on with the bytes gave these lines, and what is behind them is left. Where no byte came, no line was given.
+abbrev pub CutsOff : List ℕ → List ℕ → List ℕ → List ℕ → Type 0
+CutsOff old new [] lines = (lines ≡ []) × (new ≡ old)
+CutsOff old new (byte ∷ bytes) lines = IsCut (old ++ shown_bytes (byte ∷ bytes)) lines new
+
+-- The text begins with the front.
+abbrev pub Begins : List ℕ → List ℕ → Type 0
+Begins front text = (rest : List ℕ) × (text ≡ front ++ rest)

@@ -1,20 +1,18 @@
 -- What the steps of a run over a stream do.
-use Rattle.std.specs.Prelude.{◌≡◌, ◌≢◌, ℕ, ◌+◌, ◌<◌, ◌⊎◌, Bool, false, List, [], ◌∷◌, ◌++◌, length, take, Option}
-use Rattle.std.specs.Io.KnownBytes.{Appends, Consumes, IsAtEnd}
+use Rattle.std.specs.Prelude.{◌≡◌, ◌≢◌, ℕ, ◌+◌, ◌<◌, ◌⊎◌, Bool, List, [], ◌∷◌, ◌++◌, length, take, Option, option_to_list, Result, Ok, Err}
+use Rattle.std.specs.Io.KnownBytes.{Appends}
 use Rattle.cg_text.specs.Token.{told}
 use Rattle.cg_snap.specs.Stop.{place_of}
+use Rattle.cg_snap.specs.declared.decode.StreamFault.{StreamFault}
+use Rattle.cg_snap.specs.declared.decode.StreamFault.TheVariants as faults
+use Rattle.cg_snap.specs.declared.event.Event.{Event}
+use Rattle.cg_snap.specs.declared.event.Event.TheVariants as events
 use Rattle.cg_snap.specs.declared.stop.Stop.{Stop}
 use Rattle.cg_snap.specs.declared.stop.Stop.TheVariants as stop
 use Rattle.cg_run.specs.Input.{Reading}
 use Rattle.cg_run.specs.Outcome.{last_line}
-use Rattle.cg_run.specs.Run.{DidRun, IsRealFault, Wrote, joined}
+use Rattle.cg_run.specs.Run.{Wrote, joined}
 use Rattle.cg_run.specs.declared.outcome.Outcome.{Outcome}
-use Rattle.cg_run.specs.declared.stream_reader.Found.{Found}
-use Rattle.cg_run.specs.declared.stream_reader.Found.TheVariants as found
-use Rattle.cg_run.specs.declared.stream_reader.StreamEnd.{StreamEnd}
-use Rattle.cg_run.specs.declared.stream_reader.StreamEnd.TheVariants as ends
-use Rattle.cg_run.specs.declared.streaming.Streamed.{Streamed}
-use Rattle.cg_run.specs.declared.streaming.Streamed.TheVariants as streamed
 
 -- A byte is at fault, and not the end.
 abbrev pub IsByteStop : Stop → Type 0
@@ -32,50 +30,55 @@ module _ (Closes : List ℕ → List (List ℕ) → Type 0) (Unstopped : List �
 
   -- What a call of next came to that consumed so many bytes of the piece, where these parts were given in all. Took says that
   -- the reader consumed some bytes and gave some parts.
-  abbrev pub LeadsTo : (List ℕ → List (List ℕ) → Type 0) → (List ℕ → Stop → Type 0) → List ℕ → List (List ℕ) → List ℕ → ℕ → Found → Type 0
-  LeadsTo Took StopsBy p all piece used found.GoesOn = Took (p ++ take used piece) all
-  LeadsTo Took StopsBy p all piece used (found.Stopped s) =
+  abbrev pub LeadsTo : (List ℕ → List (List ℕ) → Type 0) → (List ℕ → Stop → Type 0) → List ℕ → List (List ℕ) → List ℕ → ℕ → Event (Unit {0}) → Type 0
+  LeadsTo Took StopsBy p all piece used events.NeedMore = Took (p ++ take used piece) all
+  LeadsTo Took StopsBy p all piece used (events.Given u) = Took (p ++ take used piece) all
+  LeadsTo Took StopsBy p all piece used (events.Stopped s) =
       IsByteStop s × StopsBy (p ++ piece) s × (place_of s ≡ length p + used) × Closes (p ++ take used piece) all
-  LeadsTo Took StopsBy p all piece used found.OutOfMemory = WantsMemory p all piece used
+  LeadsTo Took StopsBy p all piece used events.OutOfMemory = WantsMemory p all piece used
 
-  -- The same, where parts were given before, and the text is those that this call gives.
+  -- The same, where parts were given before, and the texts of those that this call gives are appended.
   pub record FoundIs (Took : List ℕ → List (List ℕ) → Type 0) (StopsBy : List ℕ → Stop → Type 0) (p : List ℕ) (parts : List (List ℕ))
-      (piece : List ℕ) (used : ℕ) (text : List ℕ) (f : Found) : Type 0 where
+      (piece : List ℕ) (used : ℕ) (old new : List ℕ) (found : Event (Unit {0})) : Type 0 where
     pub more : List (List ℕ)
-    pub all : List (List ℕ)
-    pub all_are : all ≡ parts ++ more
-    pub text_is : text ≡ joined more
-    pub leads : LeadsTo Took StopsBy p all piece used f
+    pub out_is : new ≡ old ++ joined more
+    pub leads : LeadsTo Took StopsBy p (parts ++ more) piece used found
 
 -- Where the stream goes on a byte was consumed, if the piece, which is so long, has one.
-abbrev pub IsFoundBy : ℕ → ℕ → Found → Type 0
-IsFoundBy whole used found.GoesOn = 0 < whole → 0 < used
-IsFoundBy whole used (found.Stopped s) = Unit {0}
-IsFoundBy whole used found.OutOfMemory = Unit {0}
+abbrev pub IsFoundBy : ℕ → ℕ → Event (Unit {0}) → Type 0
+IsFoundBy whole used events.NeedMore = 0 < whole → 0 < used
+IsFoundBy whole used (events.Given u) = 0 < whole → 0 < used
+IsFoundBy whole used (events.Stopped s) = Unit {0}
+IsFoundBy whole used events.OutOfMemory = Unit {0}
+
+-- The text of a part was appended, if there was one, and there was memory for it; and what was found is told without it.
+abbrev pub IsAppended : {Part : Type 0} → (Part → List ℕ) → Event Part → List ℕ → List ℕ → Event (Unit {0}) → Type 0
+IsAppended text events.NeedMore old new events.NeedMore = new ≡ old
+IsAppended text (events.Given part) old new (events.Given u) = new ≡ old ++ text part
+IsAppended text (events.Given part) old new events.OutOfMemory = new ≡ old
+IsAppended text (events.Stopped s) old new (events.Stopped t) = (new ≡ old) × (t ≡ s)
+IsAppended text events.OutOfMemory old new events.OutOfMemory = new ≡ old
+IsAppended text what old new found = ⊥
 
 -- The bytes are no whole stream, and the stop tells where they end.
 abbrev pub IsCutAt : (List ℕ → List (List ℕ) → Type 0) → List ℕ → Stop → Type 0
 IsCutAt Whole p (stop.Cut at) = (at ≡ length p) × ((all : List (List ℕ)) → Whole p all → ⊥)
 IsCutAt Whole p s = ⊥
 
--- What the end of the bytes leaves, by what a whole stream of them has: no part, one more, or they are no stream.
-abbrev pub EndIs : (List ℕ → List (List ℕ) → Type 0) → List ℕ → List (List ℕ) → StreamEnd → Type 0
-EndIs Whole p parts ends.Nothing = Whole p parts
-EndIs Whole p parts (ends.Part text) = Whole p (parts ++ text.items ∷ [])
-EndIs Whole p parts (ends.Stopped s) = IsCutAt Whole p s
-EndIs Whole p parts ends.OutOfMemory = (part : List ℕ) × Whole p (parts ++ part ∷ [])
+-- What the end of the bytes leaves, by what a whole stream of them has: no part or one more, whose text is appended, or they
+-- are no stream.
+abbrev pub EndIs : (List ℕ → List (List ℕ) → Type 0) → List ℕ → List (List ℕ) → List ℕ → List ℕ → Result (Unit {0}) StreamFault → Type 0
+EndIs Whole p parts old new (Ok u) = (last : Option (List ℕ)) × Whole p (parts ++ option_to_list last) × (new ≡ old ++ joined (option_to_list last))
+EndIs Whole p parts old new (Err (faults.Stopped s)) = IsCutAt Whole p s × (new ≡ old)
+EndIs Whole p parts old new (Err faults.OutOfMemory) = ((part : List ℕ) × Whole p (parts ++ part ∷ [])) × (new ≡ old)
 
 -- The writer took these parts since it had taken first, and so many bytes are told of them.
 abbrev pub HasWritten : Option (List ℕ) → Option (List ℕ) → List (List ℕ) → ℕ → Type 0
 HasWritten first now parts written = Appends first now (joined parts) × (written ≡ told (length (joined parts)))
 
--- Of these parts the writer took the first ones since it had taken first, and the texts of the others are gathered.
-pub record Gathers (first now : Option (List ℕ)) (parts : List (List ℕ)) (written : ℕ) (gathered : List ℕ) : Type 0 where
-  pub told : List (List ℕ)
-  pub rest : List (List ℕ)
-  pub parts_are : parts ≡ told ++ rest
-  pub wrote : HasWritten first now told written
-  pub text : gathered ≡ joined rest
+-- It failed in these parts, whatever was to come behind them.
+abbrev pub FailsIn : Option (List ℕ) → Option (List ℕ) → Bool → List (List ℕ) → Outcome → Type 0
+FailsIn first now write_failed parts fault = (rest : List ℕ) (wanted : Outcome) → Wrote first now write_failed (joined parts ++ rest) wanted fault
 
 -- A run that ends after these bytes were read, however much the source has left: the outcome that is right, its parts, and
 -- what was written.
@@ -91,27 +94,3 @@ pub record Before (Took : List ℕ → List (List ℕ) → Type 0) (first now : 
   pub parts : List (List ℕ)
   pub took : Took read parts
   pub wrote : HasWritten first now parts written
-
--- The same within a piece, where texts of parts are gathered.
-pub record BeforeGathered (Took : List ℕ → List (List ℕ) → Type 0) (first now : Option (List ℕ)) (written : ℕ) (read gathered : List ℕ) : Type 0 where
-  pub parts : List (List ℕ)
-  pub took : Took read parts
-  pub gathers : Gathers first now parts written gathered
-
--- What the loop of reads has done so far.
-pub record StreamedSoFar (Took : List ℕ → List (List ℕ) → Type 0) (coming left : Option (List ℕ)) (first now : Option (List ℕ)) (written : ℕ) (failed : Bool) : Type 0 where
-  pub read : List ℕ
-  pub consumed : Consumes coming left read
-  pub before : Before Took first now written read
-  pub works : failed ≡ false
-
--- How the reading of a stream went: to the end of the input; or the run ended before, as is right.
-abbrev pub StreamedIs : (Took : List ℕ → List (List ℕ) → Type 0) (Right : Reading → Outcome → List (List ℕ) → Type 0) (coming left : Option (List ℕ)) (read_failed : Bool)
-    (first now : Option (List ℕ)) (write_failed : Bool) → Streamed → Type 0
-StreamedIs Took Right coming left read_failed first now write_failed (streamed.AtEnd written) = StreamedSoFar Took coming left first now written read_failed × IsAtEnd left
-StreamedIs Took Right coming left read_failed first now write_failed (streamed.Ended o) = DidRun Right coming left read_failed first now write_failed o
-
--- A fault of the writer is told only where it has failed.
-abbrev pub IsRealEnd : Streamed → Bool → Type 0
-IsRealEnd (streamed.AtEnd written) failed = Unit {0}
-IsRealEnd (streamed.Ended o) failed = IsRealFault o failed

@@ -10,8 +10,8 @@ ghost use Rattle.cg_run.specs.Streaming.{Before, EndsSo, HasWritten};
 use crate::kept::KeptReader;
 use crate::outcome::Outcome;
 use crate::source::Source;
-use crate::streaming::{Streamed, read_stream};
-use crate::told::{told_after, told_part};
+use crate::streaming::read_stream;
+use crate::told::{write_after, write_part};
 use cg_print::Sink;
 use cg_snap::{Limits, StreamFault};
 use cg_text::OutOfMemory;
@@ -67,7 +67,7 @@ fn line_of(alloc: Global, entries: &[Entry], finding: &Finding) -> Result<Vec<u8
 }
 
 /// Writes a line for each finding.
-fn told_lines<W: Sink>(
+fn write_lines<W: Sink>(
     alloc: Global,
     entries: &[Entry],
     found: &[Finding],
@@ -81,11 +81,11 @@ fn told_lines<W: Sink>(
     let mut written = 0;
     for finding in found {
         match line_of(alloc, entries, finding) {
-            Ok(line) => match told_part(writer, line.as_slice(), &mut written) {
-                None => {}
-                Some(fault) => return fault,
+            Ok(line) => match write_part(writer, line.as_slice(), &mut written) {
+                Ok(()) => {}
+                Err(fault) => return fault,
             },
-            Err(_) => return told_after(writer, written, Outcome::OutOfMemory),
+            Err(_) => return write_after(writer, written, Outcome::OutOfMemory),
         }
     }
     if found.is_empty() {
@@ -96,7 +96,7 @@ fn told_lines<W: Sink>(
 }
 
 /// Writes what the entries of the snapshot break, once its input has ended.
-fn told_findings<W: Sink>(alloc: Global, kept: KeptReader, writer: &mut W) -> Outcome
+fn write_findings<W: Sink>(alloc: Global, kept: KeptReader, writer: &mut W) -> Outcome
     ensures ended { (form : Profile × Limits) (first : Option (List ℕ)) (read : List ℕ) (written : ℕ) →
         Before (HasKept kept form) first (W.taken writer.old) written read →
         (left : Option (List ℕ)) (failed : Bool) → IsAtEnd left → failed ≡ false →
@@ -106,12 +106,12 @@ fn told_findings<W: Sink>(alloc: Global, kept: KeptReader, writer: &mut W) -> Ou
 {
     let entries = match kept.finish() {
         Ok(entries) => entries,
-        Err(StreamFault::Stopped(stop)) => return told_after(writer, 0, Outcome::Stopped(stop)),
-        Err(StreamFault::OutOfMemory) => return told_after(writer, 0, Outcome::OutOfMemory),
+        Err(StreamFault::Stopped(stop)) => return write_after(writer, 0, Outcome::Stopped(stop)),
+        Err(StreamFault::OutOfMemory) => return write_after(writer, 0, Outcome::OutOfMemory),
     };
     match findings(alloc, entries.as_slice()) {
-        Ok(found) => told_lines(alloc, entries.as_slice(), found.as_slice(), writer),
-        Err(_) => told_after(writer, 0, Outcome::OutOfMemory),
+        Ok(found) => write_lines(alloc, entries.as_slice(), found.as_slice(), writer),
+        Err(_) => write_after(writer, 0, Outcome::OutOfMemory),
     }
 }
 
@@ -131,7 +131,7 @@ pub(crate) fn run_check<R: Source, W: Sink>(
 {
     let mut kept = KeptReader::new(alloc, profile, limits);
     match read_stream(alloc, &mut kept, reader, writer, limits.max_stream) {
-        Streamed::Ended(outcome) => outcome,
-        Streamed::AtEnd { .. } => told_findings(alloc, kept, writer),
+        Ok(_) => write_findings(alloc, kept, writer),
+        Err(outcome) => outcome,
     }
 }

@@ -1,19 +1,20 @@
-//! The entries of a snapshot, each told as a line of JSON once its bytes are closed.
-ghost use Rattle.std.specs.Prelude.{◌≡◌, [], IfOk};
-ghost use Rattle.cg_run.specs.Entries.{IsToldAs};
+//! The entries of a snapshot, each as a line of JSON once its bytes are closed.
+ghost use Rattle.std.specs.Prelude.{◌≡◌, ◌++◌, [], OnErr, OnOk};
 ghost use Rattle.cg_run.specs.Stream.{json_part};
+ghost use Rattle.cg_run.specs.Streaming.{IsAppended};
 
-use crate::stream_reader::{Found, LastPart, Next, StreamEnd, StreamReader};
-use cg_snap::{Limits, SnapshotDecoder, What};
+use crate::stream_reader::{LastPart, StreamReader};
+use cg_snap::{Event, Limits, Progress, SnapshotDecoder, StreamFault, What};
 use cg_text::OutOfMemory;
 use cg_value::{Entry, Profile};
 use std::alloc::Global;
 
-/// A reader of a snapshot, of which each entry is told.
+/// A reader of a snapshot, of which each entry is a line of JSON.
 #[derive(Drop)]
 pub(crate) struct EntryReader {
-    alloc: Global,
     decoder: SnapshotDecoder,
+    /// Room for a line.
+    line: Vec<u8>,
 }
 
 impl EntryReader {
@@ -24,32 +25,35 @@ impl EntryReader {
         ensures { HasTold result (profile, limits) [] [] }
     {
         EntryReader {
-            alloc,
             decoder: SnapshotDecoder::new(alloc, profile, limits),
+            line: Vec::new(alloc),
         }
     }
 }
 
-/// The line of an entry.
-fn text_of(alloc: Global, entry: Entry) -> Result<Vec<u8>, OutOfMemory>
-    ensures { IfOk result (λ text. text.items ≡ json_part entry) }
+/// Appends the line of an entry, which is made in `line`. After `OutOfMemory` `out` is as before.
+fn append_json(out: &mut Vec<u8>, line: &mut Vec<u8>, entry: &Entry) -> Result<(), OutOfMemory>
+    ensures added { OnOk result (out.new.items ≡ out.old.items ++ json_part entry.now) }
+    ensures kept { OnErr result (out.new.items ≡ out.old.items) }
 {
-    cg_json::line(alloc, &entry)
+    line.clear();
+    cg_json::append_line(line, entry)?;
+    out.extend_from_slice(line.as_slice())?;
+    Ok(())
 }
 
-/// What the decoder found, with the line of an entry, or with no text.
-fn told(alloc: Global, what: What) -> (Vec<u8>, Found)
-    ensures { IsToldAs what result.0.items result.1 }
+/// Appends the line of an entry, if one was found.
+fn append_found(out: &mut Vec<u8>, line: &mut Vec<u8>, what: What) -> Event<()>
+    ensures { IsAppended json_part what out.old.items out.new.items result }
 {
-    let none = Vec::new(alloc);
     match what {
-        What::NeedMore => (none, Found::GoesOn),
-        What::Entry(entry) => match text_of(alloc, entry) {
-            Ok(text) => (text, Found::GoesOn),
-            Err(_) => (none, Found::OutOfMemory),
+        Event::NeedMore => Event::NeedMore,
+        Event::Given(entry) => match append_json(out, line, &entry) {
+            Ok(()) => Event::Given(()),
+            Err(_) => Event::OutOfMemory,
         },
-        What::Stopped(stop) => (none, Found::Stopped(stop)),
-        What::OutOfMemory => (none, Found::OutOfMemory),
+        Event::Stopped(stop) => Event::Stopped(stop),
+        Event::OutOfMemory => Event::OutOfMemory,
     }
 }
 
@@ -82,26 +86,25 @@ impl StreamReader for EntryReader {
 
     ghost counted = { told_counted };
 
-    fn next(&mut self, piece: &[u8]) -> Next {
+    fn next(&mut self, piece: &[u8], out: &mut Vec<u8>) -> Progress<()> {
         let pulled = self.decoder.next(piece);
-        let (text, found) = told(self.alloc, pulled.what);
-        Next {
+        Progress {
             used: pulled.used,
-            text,
-            found,
+            what: append_found(out, &mut self.line, pulled.what),
         }
     }
 }
 
 impl LastPart for EntryReader {
-    fn finish(self) -> StreamEnd {
+    fn finish(self, out: &mut Vec<u8>) -> Result<(), StreamFault> {
+        let mut line = self.line;
         match self.decoder.finish() {
-            Ok(None) => StreamEnd::Nothing,
-            Ok(Some(entry)) => match text_of(self.alloc, entry) {
-                Ok(text) => StreamEnd::Part(text),
-                Err(_) => StreamEnd::OutOfMemory,
+            Ok(None) => Ok(()),
+            Ok(Some(entry)) => match append_json(out, &mut line, &entry) {
+                Ok(()) => Ok(()),
+                Err(_) => Err(StreamFault::OutOfMemory),
             },
-            Err(stop) => StreamEnd::Stopped(stop),
+            Err(stop) => Err(StreamFault::Stopped(stop)),
         }
     }
 }

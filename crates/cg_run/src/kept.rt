@@ -4,8 +4,8 @@ ghost use Rattle.cg_tree.specs.Directory.{name_of};
 ghost use Rattle.cg_tree.specs.Ruled.{is_ruled, ruled};
 ghost use Rattle.cg_run.specs.Checked.{AreKept, IsKeptFault};
 
-use crate::stream_reader::{Found, Next, StreamReader};
-use cg_snap::{Limits, SnapshotDecoder, StreamFault, What};
+use crate::stream_reader::StreamReader;
+use cg_snap::{Event, Limits, Progress, SnapshotDecoder, StreamFault};
 use cg_text::OutOfMemory;
 use cg_tree::is_ruled;
 use cg_value::{Entry, Profile};
@@ -87,38 +87,32 @@ impl StreamReader for KeptReader {
 
     ghost counted = { kept_counted };
 
-    fn next(&mut self, piece: &[u8]) -> Next {
+    fn next(&mut self, piece: &[u8], _out: &mut Vec<u8>) -> Progress<()> {
         let pulled = self.decoder.next(piece);
-        let text = Vec::new(*self.entries.allocator());
         let used = pulled.used;
         match pulled.what {
-            What::NeedMore => Next {
+            Event::NeedMore => Progress {
                 used,
-                text,
-                found: Found::GoesOn,
+                what: Event::NeedMore,
             },
-            What::Entry(entry) => match keep(&mut self.entries, entry) {
-                Ok(()) => Next {
+            Event::Given(entry) => match keep(&mut self.entries, entry) {
+                Ok(()) => Progress {
                     used,
-                    text,
-                    found: Found::GoesOn,
+                    what: Event::NeedMore,
                 },
                 // The byte that closes the entry wants the memory.
-                Err(_) => Next {
+                Err(_) => Progress {
                     used: used - 1,
-                    text,
-                    found: Found::OutOfMemory,
+                    what: Event::OutOfMemory,
                 },
             },
-            What::Stopped(stop) => Next {
+            Event::Stopped(stop) => Progress {
                 used,
-                text,
-                found: Found::Stopped(stop),
+                what: Event::Stopped(stop),
             },
-            What::OutOfMemory => Next {
+            Event::OutOfMemory => Progress {
                 used,
-                text,
-                found: Found::OutOfMemory,
+                what: Event::OutOfMemory,
             },
         }
     }

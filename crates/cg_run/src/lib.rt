@@ -11,6 +11,7 @@ mod kept;
 mod kinds;
 mod line;
 pub mod outcome;
+mod output;
 pub mod plain;
 mod planned;
 pub mod program;

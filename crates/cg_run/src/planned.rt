@@ -1,19 +1,17 @@
 //! The items of a plan, each printed once its record has ended.
-ghost use Rattle.std.specs.Prelude.{◌≡◌, [], IfOk};
-ghost use Rattle.cg_run.specs.Planned.{IsPrintedAs};
+ghost use Rattle.std.specs.Prelude.{◌≡◌, []};
 ghost use Rattle.cg_run.specs.Stream.{item_part};
+ghost use Rattle.cg_run.specs.Streaming.{IsAppended};
 
-use crate::stream_reader::{Found, LastPart, Next, StreamEnd, StreamReader};
-use cg_print::print_item;
-use cg_snap::{Limits, PlanDecoder, PlanWhat};
-use cg_text::OutOfMemory;
-use cg_value::{PlanItem, Profile};
+use crate::stream_reader::{LastPart, StreamReader};
+use cg_print::append_item;
+use cg_snap::{Event, Limits, PlanDecoder, PlanWhat, Progress, StreamFault};
+use cg_value::Profile;
 use std::alloc::Global;
 
 /// A reader of a plan, of which each item is printed.
 #[derive(Drop)]
 pub(crate) struct PlannedReader {
-    alloc: Global,
     decoder: PlanDecoder,
 }
 
@@ -25,32 +23,23 @@ impl PlannedReader {
         ensures { HasPlanned result (profile, limits) [] [] }
     {
         PlannedReader {
-            alloc,
             decoder: PlanDecoder::new(alloc, profile, limits),
         }
     }
 }
 
-/// The canonical record of an item.
-fn text_of(alloc: Global, item: PlanItem) -> Result<Vec<u8>, OutOfMemory>
-    ensures { IfOk result (λ text. text.items ≡ item_part item) }
+/// Appends the canonical record of an item, if one was found.
+fn append_found(out: &mut Vec<u8>, what: PlanWhat) -> Event<()>
+    ensures { IsAppended item_part what out.old.items out.new.items result }
 {
-    print_item(alloc, &item)
-}
-
-/// What the decoder found, with the text of an item, or with none.
-fn printed(alloc: Global, what: PlanWhat) -> (Vec<u8>, Found)
-    ensures { IsPrintedAs what result.0.items result.1 }
-{
-    let none = Vec::new(alloc);
     match what {
-        PlanWhat::NeedMore => (none, Found::GoesOn),
-        PlanWhat::Item(item) => match text_of(alloc, item) {
-            Ok(text) => (text, Found::GoesOn),
-            Err(_) => (none, Found::OutOfMemory),
+        Event::NeedMore => Event::NeedMore,
+        Event::Given(item) => match append_item(out, &item) {
+            Ok(()) => Event::Given(()),
+            Err(_) => Event::OutOfMemory,
         },
-        PlanWhat::Stopped(stop) => (none, Found::Stopped(stop)),
-        PlanWhat::OutOfMemory => (none, Found::OutOfMemory),
+        Event::Stopped(stop) => Event::Stopped(stop),
+        Event::OutOfMemory => Event::OutOfMemory,
     }
 }
 
@@ -82,22 +71,20 @@ impl StreamReader for PlannedReader {
 
     ghost counted = { planned_counted };
 
-    fn next(&mut self, piece: &[u8]) -> Next {
+    fn next(&mut self, piece: &[u8], out: &mut Vec<u8>) -> Progress<()> {
         let pulled = self.decoder.next(piece);
-        let (text, found) = printed(self.alloc, pulled.what);
-        Next {
+        Progress {
             used: pulled.used,
-            text,
-            found,
+            what: append_found(out, pulled.what),
         }
     }
 }
 
 impl LastPart for PlannedReader {
-    fn finish(self) -> StreamEnd {
+    fn finish(self, _out: &mut Vec<u8>) -> Result<(), StreamFault> {
         match self.decoder.finish() {
-            Ok(()) => StreamEnd::Nothing,
-            Err(stop) => StreamEnd::Stopped(stop),
+            Ok(()) => Ok(()),
+            Err(stop) => Err(StreamFault::Stopped(stop)),
         }
     }
 }

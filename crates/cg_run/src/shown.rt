@@ -3,12 +3,11 @@ ghost use Rattle.std.specs.Prelude.{◌≡◌, ◌≤◌, ℕ, List, [], length}
 ghost use Rattle.cg_value.specs.Entry.{EntryData};
 ghost use Rattle.cg_snap.specs.Decode.{HasTaken};
 ghost use Rattle.cg_run.specs.Decoded.{DecodedIs};
-ghost use Rattle.cg_run.specs.Seen.{IsSeen};
 ghost use Rattle.cg_run.specs.Streaming.{IsFoundBy};
 
-use crate::shown_text::ShownText;
-use crate::stream_reader::{Found, LastPart, Next, StreamEnd, StreamReader};
-use cg_snap::{Limits, SnapshotDecoder, Stop, What};
+use crate::shown_text::{append_closed, append_shown, append_text};
+use crate::stream_reader::{LastPart, StreamReader};
+use cg_snap::{Event, Limits, Progress, SnapshotDecoder, StreamFault};
 use cg_value::Profile;
 use std::alloc::Global;
 
@@ -16,50 +15,30 @@ use std::alloc::Global;
 /// made of its bytes, and not of its value.
 #[derive(Drop)]
 pub(crate) struct ShownReader {
-    alloc: Global,
     decoder: SnapshotDecoder,
-    shown: ShownText,
-}
-
-/// What the decoder found, but for the value of an entry, which isn't shown.
-#[derive(Clone, Copy)]
-pub(crate) enum Seen {
-    NeedMore,
-    Entry,
-    Stopped(Stop),
-    OutOfMemory,
-}
-
-/// Lets go of an entry.
-fn seen_of(what: What) -> Seen
-    ensures { IsSeen what result }
-{
-    match what {
-        What::NeedMore => Seen::NeedMore,
-        What::Entry(_) => Seen::Entry,
-        What::Stopped(stop) => Seen::Stopped(stop),
-        What::OutOfMemory => Seen::OutOfMemory,
-    }
+    /// What came behind the entries that are closed, as it is shown.
+    present: Vec<u8>,
 }
 
 /// How far a decoder came in a piece.
-#[derive(Clone, Copy)]
+#[derive(Drop)]
 pub(crate) struct Decoded {
     /// How many bytes it consumed.
     pub(crate) used: usize,
     /// How many up to the last that closes an entry, and 0 where none does.
     pub(crate) closed: usize,
-    pub(crate) found: Found,
+    /// What it came to behind the entries.
+    pub(crate) what: Event<()>,
 }
 
 /// Decodes a piece as far as it goes, and lets go of the entries.
 fn decode(decoder: &mut SnapshotDecoder, piece: &[u8]) -> Decoded
     ensures decoded { (profile : Profile) (limits : Limits) (p : List ℕ) (es : List EntryData) →
         HasTaken decoder.old profile limits p es →
-        DecodedIs decoder.new profile limits p es piece.now result.used result.closed result.found }
+        DecodedIs decoder.new profile limits p es piece.now result.used result.closed result.what }
     ensures closed { result.closed ≤ result.used }
     ensures used { result.used ≤ length piece.now }
-    ensures progress { IsFoundBy (length piece.now) result.used result.found }
+    ensures progress { IsFoundBy (length piece.now) result.used result.what }
 {
     let mut used = 0;
     let mut closed = 0;
@@ -67,20 +46,16 @@ fn decode(decoder: &mut SnapshotDecoder, piece: &[u8]) -> Decoded
         let (_, rest) = piece.split_at(used);
         let pulled = decoder.next(rest);
         used += pulled.used;
-        let found = match seen_of(pulled.what) {
-            Seen::Entry => {
+        let what = match pulled.what {
+            Event::Given(_) => {
                 closed = used;
                 continue 'entries;
             }
-            Seen::NeedMore => Found::GoesOn,
-            Seen::Stopped(stop) => Found::Stopped(stop),
-            Seen::OutOfMemory => Found::OutOfMemory,
+            Event::NeedMore => Event::NeedMore,
+            Event::Stopped(stop) => Event::Stopped(stop),
+            Event::OutOfMemory => Event::OutOfMemory,
         };
-        return Decoded {
-            used,
-            closed,
-            found,
-        };
+        return Decoded { used, closed, what };
     }
 }
 
@@ -92,9 +67,8 @@ impl ShownReader {
         ensures { HasShown result (profile, limits) [] [] }
     {
         ShownReader {
-            alloc,
             decoder: SnapshotDecoder::new(alloc, profile, limits),
-            shown: ShownText::new(alloc),
+            present: Vec::new(alloc),
         }
     }
 }
@@ -128,48 +102,48 @@ impl StreamReader for ShownReader {
 
     ghost counted = { shown_counted };
 
-    fn next(&mut self, piece: &[u8]) -> Next {
+    fn next(&mut self, piece: &[u8], out: &mut Vec<u8>) -> Progress<()> {
         let decoded = decode(&mut self.decoder, piece);
         let (front, rest) = piece.split_at(decoded.closed);
-        let text = match self.shown.take_closed(front) {
-            Ok(text) => text,
+        match append_closed(out, &mut self.present, front) {
+            Ok(()) => {}
             Err(_) => {
-                return Next {
+                return Progress {
                     used: decoded.closed,
-                    text: Vec::new(self.alloc),
-                    found: Found::OutOfMemory,
+                    what: Event::OutOfMemory,
                 };
             }
-        };
-        match decoded.found {
-            Found::GoesOn => match self.shown.take(rest) {
-                Ok(()) => Next {
+        }
+        match decoded.what {
+            Event::NeedMore => match append_shown(&mut self.present, rest) {
+                Ok(()) => Progress {
                     used: decoded.used,
-                    text,
-                    found: Found::GoesOn,
+                    what: Event::NeedMore,
                 },
                 // The first byte behind the entries wants the memory.
-                Err(_) => Next {
+                Err(_) => Progress {
                     used: decoded.closed,
-                    text,
-                    found: Found::OutOfMemory,
+                    what: Event::OutOfMemory,
                 },
             },
-            other => Next {
+            what => Progress {
                 used: decoded.used,
-                text,
-                found: other,
+                what,
             },
         }
     }
 }
 
 impl LastPart for ShownReader {
-    fn finish(self) -> StreamEnd {
+    fn finish(self, out: &mut Vec<u8>) -> Result<(), StreamFault> {
+        let mut present = self.present;
         match self.decoder.finish() {
-            Ok(None) => StreamEnd::Nothing,
-            Ok(Some(_)) => StreamEnd::Part(self.shown.text),
-            Err(stop) => StreamEnd::Stopped(stop),
+            Ok(None) => Ok(()),
+            Ok(Some(_)) => match append_text(out, &mut present) {
+                Ok(()) => Ok(()),
+                Err(_) => Err(StreamFault::OutOfMemory),
+            },
+            Err(stop) => Err(StreamFault::Stopped(stop)),
         }
     }
 }

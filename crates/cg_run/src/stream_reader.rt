@@ -1,44 +1,11 @@
-//! What reads a stream, and gives the text of each of its parts.
+//! What reads a stream, and appends the text of each of its parts.
 ghost use Rattle.std.specs.Prelude.{◌≡◌, ◌≤◌, ℕ, List, length};
 ghost use Rattle.cg_snap.specs.declared.stop.Stop.{Stop};
 ghost use Rattle.cg_run.specs.Streaming.{EndIs, FoundIs, IsFoundBy};
 
-use cg_snap::Stop;
+use cg_snap::{Progress, StreamFault};
 
-/// What a call of `next` came to.
-#[derive(Clone, Copy)]
-pub(crate) enum Found {
-    /// Nothing that ends the stream: it goes on.
-    GoesOn,
-    /// A byte that stops the stream. It isn't consumed.
-    Stopped(Stop),
-    /// No memory was left, for a byte, which isn't consumed, or for parts.
-    OutOfMemory,
-}
-
-/// What a call of `next` did.
-#[derive(Drop)]
-pub(crate) struct Next {
-    /// How many bytes of the piece it consumed.
-    pub(crate) used: usize,
-    /// The texts of parts that these bytes close, one after another.
-    pub(crate) text: Vec<u8>,
-    pub(crate) found: Found,
-}
-
-/// What the end of a stream leaves.
-#[derive(Drop)]
-pub(crate) enum StreamEnd {
-    Nothing,
-    /// The text of the last part.
-    Part(Vec<u8>),
-    /// The stream ended before it was whole.
-    Stopped(Stop),
-    /// No memory was left for the last part.
-    OutOfMemory,
-}
-
-/// A reader of a stream, which gives the text of each part once it is there.
+/// A reader of a stream, which appends the text of each part once it is there.
 pub(crate) trait StreamReader: Drop {
     /// What tells which streams are read.
     type Form;
@@ -64,14 +31,15 @@ pub(crate) trait StreamReader: Drop {
     // The reader is of this form, consumed these bytes and gave these parts.
     ghost took: { Self → Self.Form → List ℕ → List (List ℕ) → Type 0 };
 
-    /// Consumes bytes of the piece, and gives the texts of parts that they close: as far as it likes, but at least a
-    /// byte where there is one, or until a byte stops the stream or no memory is left.
-    fn next(&mut self, piece: &[u8]) -> Next
+    /// Consumes bytes of the piece, and appends the texts of parts that they close to `out`: as far as it likes, but at
+    /// least a byte where there is one, or until a byte stops the stream or no memory is left. Of a part that wanted
+    /// memory nothing is appended. `NeedMore` and `Given(())` alike say that the stream goes on.
+    fn next(&mut self, piece: &[u8], out: &mut Vec<u8>) -> Progress<()>
         ensures found { (form : Self.Form) (p : List ℕ) (parts : List (List ℕ)) → took self.old form p parts →
             FoundIs (closes form) (unstopped form) (took self.new form) (stops form) p parts piece.now result.used
-            result.text.items result.found }
+            out.old.items out.new.items result.what }
         ensures used { result.used ≤ length piece.now }
-        ensures progress { IsFoundBy (length piece.now) result.used result.found };
+        ensures progress { IsFoundBy (length piece.now) result.used result.what };
 
     /// What was consumed closes what was given.
     ghost closed: { (s : Self) (form : Self.Form) (p : List ℕ) (parts : List (List ℕ)) → took s form p parts →
@@ -88,8 +56,9 @@ pub(crate) trait StreamReader: Drop {
 
 /// A reader of a stream whose end leaves at most one part.
 pub(crate) trait LastPart: StreamReader {
-    /// What the end of the stream leaves.
-    fn finish(self) -> StreamEnd
+    /// Appends the text of the part that the end of the stream leaves, if it leaves one. After `Err` nothing was
+    /// appended.
+    fn finish(self, out: &mut Vec<u8>) -> Result<(), StreamFault>
         ensures { (form : Self.Form) (p : List ℕ) (parts : List (List ℕ)) → Self.took self form p parts →
-            EndIs (Self.whole form) p parts result };
+            EndIs (Self.whole form) p parts out.old.items out.new.items result };
 }

@@ -1,21 +1,28 @@
 -- Where a byte keeps a continuation.
-use Rattle.std.proofs.Common.{◌≡◌, ◌≢◌, ℕ, List, [], ◌∷◌, ◌++◌, refl, sym, ap, subst, ◌∙◌, append_assoc, inl, inr}
+use Rattle.std.proofs.Common.{◌≡◌, ◌≢◌, ℕ, List, [], ◌∷◌, ◌++◌, refl, sym, ap, subst, ◌∙◌, append_assoc, inl, inr, Option, Some, None, Result, Ok, Err}
+use Rattle.std.specs.Prelude.{IfOk, MatchResult}
 use Rattle.std.proofs.lemmas.List.{append-nil}
 use Rattle.std.proofs.lemmas.Bool.{cases_eq}
 use Rattle.cg_text.specs.Texts.{Lacks, Viable, Next}
 use Rattle.cg_text.specs.TextsLaws.{lacks_push}
-use Rattle.cg_value.specs.Entry.{EntryData}
+use Rattle.cg_value.specs.Entry.{EntryData, ReadsAt}
 use Rattle.cg_value.specs.Files.{KindFile}
 use Rattle.cg_value.specs.Lines.{unlines}
 use Rattle.cg_value.specs.Records.{records}
 use Rattle.cg_value.specs.declared.kind.ReadForm.{ReadForm}
 use Rattle.cg_value.specs.declared.profile.Profile.{Profile}
-use Rattle.cg_snap.specs.DecoderState.{AtLine, AtPath, AtStart, CanEndLine, IsOfKind}
+use Rattle.cg_line.specs.Reads.{Reads}
+use Rattle.cg_snap.specs.DecoderState.{At, AtLine, AtPath, AtStart, CanEndLine, IsBetween, IsClass, IsOfKind, IsOver, IsWhyAfter, RefusalIs, TakesMore}
 use Rattle.cg_snap.specs.Snap.{Snap, SnapText}
 use Rattle.cg_snap.specs.declared.present.Present.{Present}
+use Rattle.cg_snap.specs.SnapStop.{IsNameless}
+use Rattle.cg_snap.specs.declared.stop.Why.{Why}
+use Rattle.cg_snap.specs.declared.stop.Why.TheVariants as whys
+use Rattle.cg_snap.proofs.Closes.{line_begun}
 use Rattle.cg_snap.proofs.Joins.{ends_push, push_at, records-append, snap_append, unlines-push}
-use Rattle.cg_snap.proofs.States.{named_path}
-use Rattle.cg_snap.proofs.Steps.{all_push, line_goes, line_text_viable, line_viable, lines_text_snap, one_record, present_entry, same_path, some_push}
+use Rattle.cg_snap.proofs.Refusals.{line_takes}
+use Rattle.cg_snap.proofs.States.{between, named_path, no_more, no_name_refused, not_readable_refused, path_named, takes_more}
+use Rattle.cg_snap.proofs.Steps.{all_push, line_goes, line_run, line_text_viable, line_viable, lines_text_snap, one_record, present_entry, same_or_other, same_path, some_push}
 
 -- ---- Within a line
 
@@ -55,6 +62,22 @@ module _ (profile : Profile) where
             (line_goes h.kind h.lines h.line b n h.plain_line h.plain (file_more h.kind (unlines h.lines) h.line b v)) (line_text_more p h.given (records x.path.items h.lines) x.path.items h.line b h.split)
       ]
 
+  -- After more bytes of a line that the reader took: the state, and which byte goes on.
+  module _ (begun : List ℕ) (x x' : Present) (p : List ℕ) (es : List EntryData) (bs : List ℕ) (b : ℕ) (h : AtLine profile begun x p es) (n : Lacks 10 bs) (e : x'.path.items ≡ x.path.items)
+      (c : x'.lines ≡ x.lines) (r : Reads x'.reader h.kind ((unlines h.lines ++ h.line) ++ bs)) where
+    same_text : (unlines h.lines ++ h.line) ++ bs ≡ unlines h.lines ++ (h.line ++ bs)
+    same_text = append_assoc (unlines h.lines) h.line bs
+
+    pub line_refused_on : (Next (KindFile h.kind) ((unlines h.lines ++ h.line) ++ bs) b → ⊥) → (Next (Snap profile) (p ++ bs) b → ⊥) × IsWhyAfter profile (p ++ bs) b whys.Line
+    line_refused_on none =
+        let l = line_run profile begun x x' p es bs h n e c r in
+        (λ v. none (subst (λ (t : List ℕ). Next (KindFile h.kind) t b) (sym same_text) (line_takes profile begun x' (p ++ bs) es b l v)), (x'.path.items ++ 0 ∷ l.line, line_begun profile begun x' (p ++ bs) es l, (x'.path.items, l.line, refl)))
+
+    pub line_next_on : Next (KindFile h.kind) ((unlines h.lines ++ h.line) ++ bs) b → Next (Snap profile) (p ++ bs) b
+    line_next_on v =
+        let l = line_run profile begun x x' p es bs h n e c r in
+        line_allowed begun x' (p ++ bs) es b l (subst (λ (t : List ℕ). Next (KindFile h.kind) t b) same_text v)
+
   -- ---- After a path
 
   pub start_nul_allowed : (begun p : List ℕ) (es : List EntryData) (k : ReadForm) → IsOfKind profile begun k → AtStart begun p es → Next (Snap profile) p 0
@@ -71,4 +94,37 @@ module _ (profile : Profile) where
       record { rest = r.0; whole = ((es ++ e.0 ∷ []) ++ r.1 ∷ [], subst (SnapText profile ((es ++ e.0 ∷ []) ++ r.1 ∷ [])) (next_text p h.given (records x.path.items h.lines) begun r.0 h.split) whole) }
 
   pub same_nul_allowed : (begun : List ℕ) (x : Present) (p : List ℕ) (es : List EntryData) (h : AtPath profile begun x p es) → begun ≡ x.path.items → CanEndLine h.kind h.lines [] → Next (Snap profile) p 0
-  same_nul_allowed begun x p es h e g = line_viable profile [] x (p ++ 0 ∷ []) es (same_path profile begun [] x x p es 0 h refl refl e refl refl refl g)
+  same_nul_allowed begun x p es h e g = line_viable profile [] x (p ++ 0 ∷ []) es (same_path profile begun [] x x p es 0 h refl refl e refl refl h.reads g)
+
+  -- ---- What a path names
+
+  -- A NUL after the path of the present entry, whose file takes no further line.
+  pub over_refused : (begun : List ℕ) (o : Option Present) (p : List ℕ) (es : List EntryData) → IsOver begun o → IsBetween o → At profile begun o p es → RefusalIs profile p 0 (Some whys.NoMoreLines)
+  over_refused begun None p es f i h = absurd f
+  over_refused begun (Some x) p es f i h =
+      let a = between profile begun (Some x) p es i h in
+      no_more profile begun x p es a.kind a ((λ n. path_named x.path.items a.good (subst IsNameless (sym f.0) n)), subst (λ (q : List ℕ). ReadsAt profile q (Some a.kind)) f.0 a.reads_at) (sym f.0) f.1
+
+  -- A NUL after a path that names a file that can be read.
+  pub nul_next : (begun : List ℕ) (o : Option Present) (p : List ℕ) (es : List EntryData) (k : ReadForm) → IsOfKind profile begun k → TakesMore begun o → IsBetween o → At profile begun o p es → Next (Snap profile) p 0
+  nul_next begun None p es k c t i h = start_nul_allowed begun p es k c h
+  nul_next begun (Some x) p es k c t i h =
+      let a = between profile begun (Some x) p es i h in
+      elim (same_or_other x.path.items begun) [
+        | inl e ↦ same_nul_allowed begun x p es a (sym e) (takes_more a.kind a.lines (t e a.kind (unlines a.lines) a.reads))
+        | inr n ↦ next_nul_allowed begun x p es k c n a
+      ]
+
+  pub class_after : (begun : List ℕ) (o : Option Present) (p : List ℕ) (es : List EntryData) (r : Result ReadForm Why) → IsClass profile begun r → TakesMore begun o → IsBetween o → At profile begun o p es →
+      MatchResult r (λ kind. IsOfKind profile begun kind × Next (Snap profile) p 0) (λ why. RefusalIs profile p 0 (Some why))
+  class_after begun o p es (Ok kind) c t i h = (c, nul_next begun o p es kind c t i h)
+  class_after begun o p es (Err whys.PathByte) c t i h = absurd c
+  class_after begun o p es (Err whys.NoName) c t i h = no_name_refused profile begun o p es c i h
+  class_after begun o p es (Err whys.NotReadable) c t i h = not_readable_refused profile begun o p es c.0 c.1 i h
+  class_after begun o p es (Err whys.NotWritable) c t i h = absurd c
+  class_after begun o p es (Err whys.NoMoreLines) c t i h = absurd c
+  class_after begun o p es (Err whys.Line) c t i h = absurd c
+
+  pub class_kind : (begun : List ℕ) (r : Result ReadForm Why) → IsClass profile begun r → IfOk r (λ kind. IsOfKind profile begun kind)
+  class_kind begun (Ok kind) c = c
+  class_kind begun (Err why) c = tt

@@ -1,11 +1,12 @@
 -- The record that is begun after a byte, and after a run of bytes.
-use Rattle.std.proofs.Common.{◌≡◌, ◌≢◌, ℕ, ◌+◌, ◌-◌, ◌<◌, ◌≤◌, List, [], ◌∷◌, ◌++◌, length, refl, sym, ap, subst, ◌∙◌, append_assoc, arith, inl, inr, ◌⊎◌}
+use Rattle.std.proofs.Common.{◌≡◌, ◌≢◌, ℕ, ◌+◌, ◌-◌, ◌<◌, ◌≤◌, List, [], ◌∷◌, ◌++◌, length, refl, sym, ap, subst, ◌∙◌, append_assoc, arith, inl, inr}
 use Rattle.std.proofs.lemmas.List.{append-nil, length-append, length_push}
 use Rattle.cg_text.specs.ListFacts.{push_one}
 use Rattle.cg_text.specs.Texts.{Lacks}
 use Rattle.cg_text.specs.TextsLaws.{lacks_both}
 use Rattle.cg_snap.specs.Begun.{IsBegun, IsLongRecord}
 use Rattle.cg_snap.specs.ClosedLaws.{begun_once}
+use Rattle.cg_snap.specs.Course.{AreOfRecord}
 use Rattle.cg_snap.specs.Meter.{IsCounted}
 use Rattle.cg_snap.specs.declared.meter.Meter.{Meter}
 
@@ -47,24 +48,6 @@ not_long p r b max place h lt l = absurd (omega (arith, lt, long_is p r b max pl
 
 -- ---- What a meter counted
 
--- After one byte more.
-pub counted_push : (old new : Meter) (p : List ℕ) (b : ℕ) → IsCounted old p → new.limits ≡ old.limits → old.offset < old.limits.max_stream → new.offset ≡ old.offset + 1 →
-    (((b ≡ 10) × (new.record_len ≡ 0)) ⊎ ((b ≡ 10 → ⊥) × (new.record_len ≡ old.record_len + 1))) → IsCounted new (p ++ b ∷ [])
-counted_push old new p b h li lt o (inl z) = record {
-  offset = omega (arith, o, h.offset, length_push p b);
-  within = rw li (omega (arith, lt, h.offset, length_push p b));
-  begun = [];
-  begins = begun_newline p b z.0;
-  length_is = z.1;
-}
-counted_push old new p b h li lt o (inr z) = record {
-  offset = omega (arith, o, h.offset, length_push p b);
-  within = rw li (omega (arith, lt, h.offset, length_push p b));
-  begun = h.begun ++ b ∷ [];
-  begins = begun_push p h.begun b z.0 h.begins;
-  length_is = omega (arith, z.1, h.length_is, length_push h.begun b);
-}
-
 -- After what comes of a line, with its newline.
 pub counted_line : (old new : Meter) (p line : List ℕ) (n : ℕ) → IsCounted old p → new.limits ≡ old.limits → n ≡ length line + 1 → n ≤ old.limits.max_stream - old.offset → new.offset ≡ old.offset + n → new.record_len ≡ 0 →
     IsCounted new (p ++ (line ++ 10 ∷ []))
@@ -88,3 +71,16 @@ counted_run old new p q n h li plain e far o r = record {
   begins = begun_run p h.begun q plain h.begins;
   length_is = omega (arith, r, e, h.length_is, length-append h.begun q);
 }
+
+-- How much of a record is begun after bytes of one.
+begun_part : (p r q : List ℕ) → IsBegun p r → AreOfRecord q → (s : List ℕ) × IsBegun (p ++ q) s × (length s ≤ length r + length q)
+begun_part p r q h (inl plain) = (r ++ q, begun_run p r q plain h, omega (arith, length-append r q))
+begun_part p r q h (inr l) =
+    let whole : (p ++ l.0) ++ 10 ∷ [] ≡ p ++ q = append_assoc p l.0 (10 ∷ []) ∙ ap (λ (t : List ℕ). p ++ t) (sym l.1) in
+    ([], subst (λ (t : List ℕ). IsBegun t []) whole (begun_newline (p ++ l.0) 10 refl), omega arith)
+
+pub counted_most : (old new : Meter) (p q : List ℕ) → IsCounted old p → IsCounted new (p ++ q) → AreOfRecord q → new.record_len ≤ old.record_len + length q
+counted_most old new p q h n part =
+    let s = begun_part p h.begun q h.begins part in
+    let same : n.begun ≡ s.0 = begun_once (p ++ q) n.begun s.0 n.begins s.1 in
+    omega (arith, n.length_is, ap length same, s.2, h.length_is)

@@ -1,20 +1,24 @@
--- Where the bytes end: which are a whole snapshot.
-use Rattle.std.proofs.Common.{◌≡◌, ◌≢◌, ℕ, Bool, true, false, List, [], ◌∷◌, ◌++◌, Option, Some, None, refl, sym, subst, ◌∙◌}
+-- Where the bytes end: which are a whole snapshot, and which no plan.
+use Rattle.std.proofs.Common.{◌≡◌, ◌≢◌, ℕ, Bool, true, false, List, [], ◌∷◌, ◌++◌, Option, Some, None, is_some, refl, sym, subst, ◌∙◌}
 use Rattle.std.specs.Bool.{MatchBool}
 use Rattle.std.proofs.lemmas.List.{append-nil}
 use Rattle.std.proofs.lemmas.Bool.{MatchBool-at_true, MatchBool-at_false}
 use Rattle.cg_text.specs.Texts.{Lacks}
 use Rattle.cg_text.specs.TextsLaws.{lacks_inside}
-use Rattle.cg_value.specs.Entry.{EntryData, IsPath}
+use Rattle.cg_value.specs.Entry.{EntryData, IsPath, ItemData}
 use Rattle.cg_value.specs.PathLaws.{path_lacks_nul}
 use Rattle.cg_value.specs.Records.{records}
 use Rattle.cg_value.specs.declared.profile.Profile.{Profile}
 use Rattle.cg_snap.specs.DecoderState.{At, AtLine, AtPath, AtStart}
 use Rattle.cg_snap.specs.PathBytes.{ArePathBytes}
+use Rattle.cg_snap.specs.Plan.{Plan}
+use Rattle.cg_snap.specs.PlanState.{AtItems}
 use Rattle.cg_snap.specs.Snap.{AreEntryLines, Snap, SnapText, StartsOther}
 use Rattle.cg_snap.specs.SnapLaws.{cut, not_of, record_then}
+use Rattle.cg_snap.specs.declared.plan.Writing.{Writing}
 use Rattle.cg_snap.specs.declared.present.Present.{Present}
 use Rattle.cg_snap.proofs.Joins.{push_at}
+use Rattle.cg_snap.proofs.PlanStates.{item_line_cut, item_path_cut}
 use Rattle.cg_snap.proofs.Refusals.{Head, inner_head, line_inner, path_inner, snap_head}
 use Rattle.cg_snap.proofs.Steps.{bytes_no_nul}
 
@@ -66,3 +70,8 @@ module _ (profile : Profile) where
       (h : AtPath profile begun x p es) → begun ≡ [] → e.path ≡ x.path.items → AreEntryLines profile e h.lines →
       SnapText profile (es ++ e ∷ []) p
   last_entry begun x p es e h n q a = subst (SnapText profile (es ++ e ∷ [])) (end_text p h.given (records x.path.items h.lines) begun h.split n) (push_at profile es h.given x.path.items e h.lines q h.entries a h.other)
+
+  -- A record of a plan is begun.
+  pub items_cut : (begun : List ℕ) (o : Option Writing) (p : List ℕ) (items : List ItemData) → (is_some o ≡ false → begun ≢ []) → AtItems profile begun o p items → Plan profile p → ⊥
+  items_cut begun None p items n h = item_path_cut profile begun p items h (n refl)
+  items_cut begun (Some x) p items n h = item_line_cut profile begun x p items h

@@ -12,18 +12,16 @@ use Rattle.cg_line.specs.Takes.{held_of}
 use Rattle.cg_snap.specs.Begun.{IsBegun}
 use Rattle.cg_snap.specs.Closed.{Closed, EndsOther, IsHeldFor}
 use Rattle.cg_snap.specs.ClosedLaws.{closed_once}
-use Rattle.cg_snap.specs.Decoder.{Stands, held_in, profile_of}
+use Rattle.cg_snap.specs.Decoder.{SnapshotDecoder, Stands, held_in, profile_of}
 use Rattle.cg_snap.specs.DecoderState.{At}
 use Rattle.cg_snap.specs.Headline.{GaveTheEntries, GaveTheItems}
 use Rattle.cg_snap.specs.Plan.{ClosedPlan, PlanText}
-use Rattle.cg_snap.specs.PlanDecoder.{StandsForPlan, held_in_line, plan_profile_of}
+use Rattle.cg_snap.specs.PlanDecoder.{PlanDecoder, StandsForPlan, held_in_line, plan_profile_of}
 use Rattle.cg_snap.specs.PlanLaws.{closed_plan_once}
 use Rattle.cg_snap.specs.PlanState.{AtItems}
 use Rattle.cg_snap.specs.Snap.{AreEntryLines, SnapText, StartsOther}
 use Rattle.cg_snap.specs.SnapLaws.{entry_starts, lines_plain}
-use Rattle.cg_snap.specs.declared.decoder.SnapshotDecoder.{SnapshotDecoder}
-use Rattle.cg_snap.specs.declared.plan_decoder.PlanDecoder.{PlanDecoder}
-use Rattle.cg_snap.specs.declared.plan_records.Writing.{Writing}
+use Rattle.cg_snap.specs.declared.plan.Writing.{Writing}
 use Rattle.cg_snap.specs.declared.present.Present.{Present}
 use Rattle.cg_snap.proofs.Closes.{start_closed}
 use Rattle.cg_snap.proofs.Holds.{none_held, some_held}

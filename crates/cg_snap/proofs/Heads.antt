@@ -1,8 +1,7 @@
 -- The head of one more record of the present entry, taken at once.
-use Rattle.std.proofs.Common.{◌≡◌, ℕ, suc, ◌+◌, ◌<◌, ◌≤◌, get_or, List, [], ◌∷◌, ◌++◌, take, drop, length, All, refl, sym, ap, subst, ◌∙◌, append_assoc, arith, Some, false, true}
+use Rattle.std.proofs.Common.{◌≡◌, ℕ, suc, ◌+◌, ◌<◌, ◌≤◌, get_or, List, [], ◌∷◌, ◌++◌, take, drop, length, All, refl, sym, ap, subst, ◌∙◌, append_assoc, arith, inr, Some, false, true}
 use Rattle.std.proofs.Math.Seq.{take-add}
 use Rattle.std.proofs.lemmas.List.{append-nil, length-append, take-append-le, take_all}
-use Rattle.cg_file.specs.Front.{IsLineFront}
 use Rattle.cg_text.specs.Texts.{Lacks}
 use Rattle.cg_text.specs.TextsLaws.{lacks_both}
 use Rattle.cg_text.specs.Token.{told}
@@ -10,28 +9,20 @@ use Rattle.cg_value.specs.Entry.{EntryData, IsPathByte}
 use Rattle.cg_value.specs.Lines.{unlines}
 use Rattle.cg_value.specs.declared.kind.ReadForm.{ReadForm}
 use Rattle.cg_value.specs.declared.profile.Profile.{Profile}
+use Rattle.cg_line.specs.Place.{TakesLine}
 use Rattle.cg_line.specs.Reads.{Reads, reads_viable}
 use Rattle.cg_line.specs.declared.reader.ValueReader.{ValueReader}
-use Rattle.cg_snap.specs.Course.{AreFew}
+use Rattle.cg_snap.specs.Course.{AreFew, AreOfRecord}
 use Rattle.cg_snap.specs.DecoderState.{At, AtLine, AtPath, CanEndLine}
 use Rattle.cg_snap.specs.PathBytes.{ArePathBytes}
-use Rattle.cg_snap.specs.HeadState.{HasHead, Repeats}
+use Rattle.cg_snap.specs.HeadState.{Repeats}
 use Rattle.cg_snap.specs.SnapStop.{IsManyRecords}
 use Rattle.cg_snap.specs.declared.present.Present.{Present}
 use Rattle.cg_snap.proofs.Nuls.{full_is}
 use Rattle.cg_snap.proofs.PathRuns.{cut_at}
-use Rattle.cg_snap.proofs.Runs.{few_in_line, run_few}
+use Rattle.cg_snap.proofs.Runs.{few_push, line_few, path_few}
 use Rattle.cg_snap.proofs.States.{at_false, takes_more}
 use Rattle.cg_snap.proofs.Steps.{bytes_no_newline, line_whole, path_run, same_path}
-
--- ---- Lists
-
-few_push : (Many : List ℕ → ℕ → Type 0) (p q : List ℕ) (b : ℕ) → AreFew Many p q → (Many ((p ++ q) ++ b ∷ []) (length (p ++ q)) → ⊥) → AreFew Many p (q ++ b ∷ [])
-few_push Many p [] b few last = (subst (λ (t : List ℕ). Many (t ++ b ∷ []) (length t) → ⊥) (append-nil p) last, tt)
-few_push Many p (c ∷ q) b few last = (
-  few.0,
-  few_push Many (p ++ c ∷ []) q b few.1 (subst (λ (t : List ℕ). Many (t ++ b ∷ []) (length t) → ⊥) (sym (append_assoc p (c ∷ []) q)) last),
-)
 
 -- The head of a piece that begins with a path and a NUL.
 pub head_is : (path rest piece : List ℕ) (n : ℕ) → piece ≡ path ++ 0 ∷ rest → n ≡ length path + 1 → take n piece ≡ path ++ 0 ∷ []
@@ -61,12 +52,13 @@ module _ (profile : Profile) (x : Present) (p : List ℕ) (es : List EntryData) 
   pub head_plain : Lacks 10 (x.path.items ++ 0 ∷ [])
   head_plain = lacks_both 10 x.path.items (0 ∷ []) (bytes_no_newline x.path.items head_bytes) ((λ e. absurd (omega (arith, e))), tt)
 
-  pub head_taken : (begun : List ℕ) (y : Present) (piece : List ℕ) (count room max : ℕ) → begun ≡ [] →
-      y.path.items ≡ x.path.items → y.lines ≡ x.lines → y.reader ≡ x.reader → Repeats x piece room max →
+  pub head_taken : (begun : List ℕ) (y : Present) (piece : List ℕ) (count max : ℕ) → begun ≡ [] →
+      y.path.items ≡ x.path.items → y.lines ≡ x.lines → ((kind : ReadForm) (taken : List ℕ) → Reads x.reader kind taken → Reads y.reader kind taken) → Repeats x piece max →
+      ((kind : ReadForm) (taken : List ℕ) → Reads y.reader kind taken → TakesLine kind taken) →
       count ≡ length x.path.items + 1 → AtLine profile begun y (p ++ take count piece) es
-  head_taken begun y piece count room max n e c r t m =
+  head_taken begun y piece count max n e c r t takes m =
       let a = after_path in
-      let line = same_path profile x.path.items begun x y (p ++ x.path.items) es 0 a refl n refl e c r (takes_more a.kind a.lines (t.takes a.kind (unlines a.lines) a.reads)) in
+      let line = same_path profile x.path.items begun x y (p ++ x.path.items) es 0 a refl n refl e c (r a.kind (unlines a.lines) a.reads) (takes_more a.kind a.lines (takes a.kind (unlines a.lines) (r a.kind (unlines a.lines) a.reads))) in
       let whole : p ++ take count piece ≡ (p ++ x.path.items) ++ 0 ∷ [] = ap (λ (q : List ℕ). p ++ q) (head_is x.path.items t.rest piece count t.begins m) ∙ sym (append_assoc p x.path.items (0 ∷ [])) in
       subst (λ (q : List ℕ). AtLine profile begun y q es) (sym whole) line
 
@@ -75,7 +67,7 @@ module _ (profile : Profile) (x : Present) (p : List ℕ) (es : List EntryData) 
       let path = x.path.items in
       let before : At profile [] (Some x) p es = at_false (AtLine profile [] x p es) (AtPath profile [] x p es) x.in_line i h in
       let after : At profile path (Some x) (p ++ path) es = at_false (AtLine profile path x (p ++ path) es) (AtPath profile path x (p ++ path) es) x.in_line i after_path in
-      few_push (IsManyRecords profile max) p path 0 (run_few profile max [] (Some x) p path es before (rw i head_bytes))
+      few_push (IsManyRecords profile max) p path 0 (path_few profile max [] (Some x) p path es before i head_bytes)
       (full_is profile path (Some x) (p ++ path) es x.lines max false u i after ((λ e. refl), (λ n. absurd (n refl))) (λ e. absurd (cc)) (λ e. few))
 
 -- ---- The record
@@ -84,10 +76,10 @@ few_both : (Many : List ℕ → ℕ → Type 0) (p a b : List ℕ) → AreFew Ma
 few_both Many p [] b f g = subst (λ (t : List ℕ). AreFew Many t b) (append-nil p) g
 few_both Many p (c ∷ a) b f g = (f.0, few_both Many (p ++ c ∷ []) a b f.1 (subst (λ (t : List ℕ). AreFew Many t b) (sym (append_assoc p (c ∷ []) a)) g))
 
--- The bytes of a record that stands in front of a piece: its head, and its line with the newline.
-pub record_is : (path rest piece line : List ℕ) (count used : ℕ) → piece ≡ path ++ 0 ∷ rest → count ≡ length path + 1 → take used (drop count piece) ≡ line ++ 10 ∷ [] →
-    take (count + used) piece ≡ (path ++ 0 ∷ []) ++ (line ++ 10 ∷ [])
-record_is path rest piece line count used e m l = take-add count used piece ∙ (ap (λ (q : List ℕ). q ++ take used (drop count piece)) (head_is path rest piece count e m) ∙ ap (λ (q : List ℕ). (path ++ 0 ∷ []) ++ q) l)
+-- The bytes of a record that stands in front of others: its head, and its line with the newline.
+pub record_is : (path rest bytes line : List ℕ) (count used : ℕ) → bytes ≡ path ++ 0 ∷ rest → count ≡ length path + 1 → take used (drop count bytes) ≡ line ++ 10 ∷ [] →
+    take (count + used) bytes ≡ (path ++ 0 ∷ []) ++ (line ++ 10 ∷ [])
+record_is path rest bytes line count used e m l = take-add count used bytes ∙ (ap (λ (q : List ℕ). q ++ take used (drop count bytes)) (head_is path rest bytes count e m) ∙ ap (λ (q : List ℕ). (path ++ 0 ∷ []) ++ q) l)
 
 module _ (profile : Profile) (x : Present) (now : ValueReader) (p : List ℕ) (es : List EntryData) (h : AtPath profile [] x p es) (line : List ℕ) (plain : Lacks 10 line)
     (reads : (kind : ReadForm) (taken : List ℕ) → Reads x.reader kind taken → Reads now kind (taken ++ (line ++ 10 ∷ []))) where
@@ -99,7 +91,7 @@ module _ (profile : Profile) (x : Present) (now : ValueReader) (p : List ℕ) (e
   after_head =
       let a = after_path profile x p es h in
       let goes : CanEndLine a.kind a.lines [] = (line, plain, reads_viable now a.kind (unlines a.lines ++ (line ++ 10 ∷ [])) (reads a.kind (unlines a.lines) a.reads)) in
-      let nul = same_path profile x.path.items [] x begun_line (p ++ x.path.items) es 0 a refl refl refl refl refl refl goes in
+      let nul = same_path profile x.path.items [] x begun_line (p ++ x.path.items) es 0 a refl refl refl refl refl a.reads goes in
       subst (λ (q : List ℕ). AtLine profile [] begun_line q es) (append_assoc p x.path.items (0 ∷ [])) nul
 
   pub record_taken : (y : Present) (bytes : List ℕ) → bytes ≡ (x.path.items ++ 0 ∷ []) ++ (line ++ 10 ∷ []) → y.path.items ≡ x.path.items → y.lines ≡ told (x.lines + 1) → y.reader ≡ now → AtPath profile [] y (p ++ bytes) es
@@ -113,18 +105,17 @@ module _ (profile : Profile) (x : Present) (now : ValueReader) (p : List ℕ) (e
   pub record_few : (bytes : List ℕ) (max : ℕ) → bytes ≡ (x.path.items ++ 0 ∷ []) ++ (line ++ 10 ∷ []) → max ≤ 18446744073709551615 → x.in_line ≡ false → x.lines < max → AreFew (IsManyRecords profile max) p bytes
   record_few bytes max e u i few = subst (AreFew (IsManyRecords profile max) p) (sym e)
       (few_both (IsManyRecords profile max) p (x.path.items ++ 0 ∷ []) (line ++ 10 ∷ []) (head_few profile x p es h max u i few)
-      (few_in_line profile max [] (Some begun_line) (p ++ (x.path.items ++ 0 ∷ [])) line es after_head refl plain))
+      (line_few profile max [] begun_line (p ++ (x.path.items ++ 0 ∷ [])) (line ++ 10 ∷ []) es after_head refl (inr (line, refl, plain))))
 
-  pub record_front : (bytes piece : List ℕ) (n : ℕ) → bytes ≡ (x.path.items ++ 0 ∷ []) ++ (line ++ 10 ∷ []) → bytes ≡ take n piece → IsLineFront piece n
-  record_front bytes piece n e same =
+  pub record_part : (bytes : List ℕ) → bytes ≡ (x.path.items ++ 0 ∷ []) ++ (line ++ 10 ∷ []) → AreOfRecord bytes
+  record_part bytes e =
       let head = x.path.items ++ 0 ∷ [] in
-      (head ++ line, sym same ∙ (e ∙ sym (append_assoc head line (10 ∷ []))), lacks_both 10 head line (head_plain profile x p es h) plain)
+      inr (head ++ line, e ∙ sym (append_assoc head line (10 ∷ [])), lacks_both 10 head line (head_plain profile x p es h) plain)
 
 -- What the parts of a test say.
-pub has_head_is : (x : Present) (piece : List ℕ) (size room max : ℕ) → size < length piece → get_or piece size 0 ≡ 0 → take size piece ≡ x.path.items → length x.path.items < room → x.lines < max → HasHead x piece room max
-has_head_is x piece size room max inside nul same short few = record {
-  rest = drop (size + 1) piece;
-  begins = cut_at piece size inside nul ∙ ap (λ (path : List ℕ). path ++ 0 ∷ drop (size + 1) piece) same;
-  short = short;
+pub repeats_is : (x : Present) (bytes : List ℕ) (size max : ℕ) → size < length bytes → get_or bytes size 0 ≡ 0 → take size bytes ≡ x.path.items → x.lines < max → Repeats x bytes max
+repeats_is x bytes size max inside nul same few = record {
+  rest = drop (size + 1) bytes;
+  begins = cut_at bytes size inside nul ∙ ap (λ (path : List ℕ). path ++ 0 ∷ drop (size + 1) bytes) same;
   few = few;
 }

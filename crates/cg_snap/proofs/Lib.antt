@@ -17,8 +17,8 @@ pub mod Runs
 pub mod Heads
 pub mod Holds
 pub mod Offers
+pub mod Faults
 pub mod Taken
-pub mod Wholes
 pub mod FirstWrite
 pub mod PlanStates
 pub mod PlanFronts

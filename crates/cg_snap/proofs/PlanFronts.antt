@@ -1,85 +1,69 @@
--- A whole record of a plan, which is taken at once.
-use Rattle.std.proofs.Common.{◌≡◌, ℕ, ◌+◌, ◌-◌, ◌≤◌, List, [], ◌∷◌, ◌++◌, take, length, refl, sym, ap, subst, ◌∙◌, append_assoc, arith}
-use Rattle.std.proofs.Math.Seq.{take-append_seam}
-use Rattle.std.proofs.lemmas.List.{append-nil, length-append, length-take-le, take-take}
+-- The item whose line comes whole.
+use Rattle.std.proofs.Common.{◌≡◌, ℕ, ◌+◌, ◌-◌, ◌<◌, ◌≤◌, List, [], ◌∷◌, ◌++◌, take, drop, length, get_or, Option, None, sym, ap, subst, ◌∙◌, append_assoc, arith}
+use Rattle.std.proofs.lemmas.List.{append-nil, length-append, length-take-le, take-append-le, take_all, take_more, take-take}
 use Rattle.cg_text.specs.Texts.{Lacks}
 use Rattle.cg_text.specs.TextsLaws.{lacks_both}
 use Rattle.cg_value.specs.Entry.{ItemData}
-use Rattle.cg_value.specs.EntryLaws.{item_path}
-use Rattle.cg_value.specs.PathLaws.{path_lacks_newline}
+use Rattle.cg_value.specs.Settings.{KindWrite}
+use Rattle.cg_value.specs.declared.kind.WriteForm.{WriteForm}
 use Rattle.cg_value.specs.declared.profile.Profile.{Profile}
-use Rattle.cg_snap.specs.Streams.{plan_stream}
-use Rattle.cg_snap.specs.Meter.{IsCounted}
-use Rattle.cg_snap.specs.Plan.{ClosedPlan}
-use Rattle.cg_snap.specs.PlanDecoder.{ItemsAreAlong}
-use Rattle.cg_snap.specs.PlanFront.{IsAtRecord, IsItemFront}
+use Rattle.cg_line.specs.Takes.{IsRunPushed, Takes}
+use Rattle.cg_line.specs.declared.reader.PushedRun.{PushedRun}
+use Rattle.cg_line.specs.declared.setting_reader.SettingReader.{SettingReader}
+use Rattle.cg_snap.specs.Plan.{ClosedPlan, IsItemLine, PlanText}
 use Rattle.cg_snap.specs.PlanLaws.{item_line_plain}
-use Rattle.cg_snap.specs.PlanState.{AtItemPath, HasTakenItems, items_closed, items_go_on}
-use Rattle.cg_snap.specs.declared.meter.Meter.{Meter}
-use Rattle.cg_snap.specs.declared.plan_records.PlanRecords.{PlanRecords}
-use Rattle.cg_snap.proofs.Courses.{ran_line}
-use Rattle.cg_snap.proofs.PlanStates.{items_back, items_path, never_few, plan_push, taken_items}
+use Rattle.cg_snap.specs.PlanState.{AtItems}
+use Rattle.cg_snap.specs.declared.plan.Writing.{Writing}
+use Rattle.cg_snap.proofs.Courses.{text_on}
+use Rattle.cg_snap.proofs.PlanStates.{items_back, plan_push}
+use Rattle.cg_snap.proofs.Runs.{cut_ended, run_cut}
 
--- A front that ends with a newline, and what stands before that.
-pub front_line : (piece line : List ℕ) (used : ℕ) → used ≤ length piece → take used piece ≡ line ++ 10 ∷ [] → (used ≡ length line + 1) × (take (used - 1) piece ≡ line)
-front_line piece line used within e =
-    let size : used ≡ length line + 1 = sym (length-take-le used piece within) ∙ (ap length e ∙ length-append line (10 ∷ [])) in
-    let fewer : used - 1 ≡ length line = omega (arith, size) in (
-      size,
-      ap (λ (n : ℕ). take n piece) fewer ∙ (sym (take-take (length line) used piece (omega (arith, size))) ∙ (ap (λ (t : List ℕ). take (length line) t) e ∙ take-append_seam line (10 ∷ []))),
+-- The bytes before the newline.
+before_newline : (bytes back : List ℕ) (used : ℕ) → used ≤ length bytes → take used bytes ≡ back ++ 10 ∷ [] → (0 < used) × (take (used - 1) bytes ≡ back)
+before_newline bytes back used within e =
+    let size : used ≡ length back + 1 = sym (length-take-le used bytes within) ∙ (ap length e ∙ length-append back (10 ∷ [])) in
+    let fewer : used - 1 ≡ length back = omega (arith, size) in (
+      omega (arith, size),
+      ap (λ (n : ℕ). take n bytes) fewer ∙ (sym (take-take (length back) used bytes (omega (arith, size)))
+          ∙ (ap (λ (t : List ℕ). take (length back) t) e ∙ (take-append-le {A = ℕ} (length back) back (10 ∷ []) (omega arith) ∙ take_all (length back) back (omega arith)))),
     )
 
--- A record without its newline, and then with it.
-record_ends : (path line : List ℕ) → path ++ 0 ∷ (line ++ 10 ∷ []) ≡ (path ++ 0 ∷ line) ++ 10 ∷ []
-record_ends path line = sym (append_assoc path (0 ∷ line) (10 ∷ []))
+-- A reader took the rest of a line, and its newline.
+pub line_ended : (r : SettingReader) (kind : WriteForm) (line bytes : List ℕ) (run : PushedRun) → Lacks 10 line → run.used ≤ length bytes → IsRunPushed r kind line bytes run → (0 < run.used) × (get_or bytes (run.used - 1) 0 ≡ 10) →
+    (back : List ℕ) × (take run.used bytes ≡ back ++ 10 ∷ []) × Lacks 10 (line ++ back) × Takes r kind ((line ++ back) ++ 10 ∷ [])
+line_ended r kind line bytes run plain within pushed last =
+    let f = cut_ended bytes run.used within (run_cut (KindWrite kind) line bytes run.used run.fault pushed.stops) last in
+    let whole : line ++ take run.used bytes ≡ (line ++ f.0) ++ 10 ∷ [] = ap (λ (t : List ℕ). line ++ t) f.1 ∙ sym (append_assoc line f.0 (10 ∷ [])) in
+    (f.0, f.1, lacks_both 10 line f.0 plain f.2, subst (Takes r kind) whole pushed.takes)
 
-came_after : (p given begun more : List ℕ) → p ≡ given ++ begun → begun ≡ [] → p ++ more ≡ given ++ more
-came_after p given begun more e none = ap (λ (t : List ℕ). t ++ more) (e ∙ (ap (λ (t : List ℕ). given ++ t) none ∙ append-nil given))
+-- With the bytes the line of an item came, and no record is begun.
+pub item_came : (profile : Profile) (p given path line : List ℕ) (items : List ItemData) (item : ItemData) (bytes back : List ℕ) (used : ℕ) (now : List ℕ) (o : Option Writing) →
+    PlanText profile items given → Lacks 10 path → item.path ≡ path → IsItemLine profile item line →
+    used ≤ length bytes → take used bytes ≡ back ++ 10 ∷ [] → p ++ back ≡ given ++ (path ++ 0 ∷ line) → now ≡ [] → o ≡ None →
+    (0 < used) × ClosedPlan profile (p ++ take (used - 1) bytes) items × AtItems profile now o (p ++ take used bytes) (items ++ item ∷ [])
+item_came profile p given path line items item bytes back used now o whole plain q s within e text none n =
+    let before = before_newline bytes back used within e in
+    let record_is : p ++ take used bytes ≡ given ++ (path ++ 0 ∷ (line ++ 10 ∷ [])) =
+    ap (λ (t : List ℕ). p ++ t) e ∙ (sym (append_assoc p back (10 ∷ [])) ∙ (ap (λ (t : List ℕ). t ++ 10 ∷ []) text ∙ simp append_assoc)) in (
+      before.0,
+      record {
+        given = given;
+        begun = path ++ 0 ∷ line;
+        split = ap (λ (t : List ℕ). p ++ t) before.1 ∙ text;
+        whole = whole;
+        plain = lacks_both 10 path (0 ∷ line) plain ((λ z. omega (arith, z)), item_line_plain profile item line s);
+      },
+      items_back profile now o (p ++ take used bytes) (items ++ item ∷ []) n (record {
+        given = given ++ (path ++ 0 ∷ (line ++ 10 ∷ []));
+        split = rw none (record_is ∙ sym (append-nil (given ++ (path ++ 0 ∷ (line ++ 10 ∷ [])))));
+        whole = plan_push profile items given path line (record { item = item; path_is = q; spells = s }) whole;
+        begun_path = rw none tt;
+      }),
+    )
 
-module _ (profile : Profile) (s : PlanRecords) (p piece : List ℕ) (items : List ItemData) (item : ItemData) (used : ℕ) (b : IsAtRecord s) (f : IsItemFront profile piece item used)
-    (h : HasTakenItems s profile p items) where
-  before : AtItemPath profile s.begun.items p items
-  before = items_path profile s.begun.items s.present p items b.1 h.at
-
-  record_plain : Lacks 10 (item.path ++ 0 ∷ f.1.0)
-  record_plain = lacks_both 10 item.path (0 ∷ f.1.0) (path_lacks_newline item.path (item_path item)) (omega arith, item_line_plain profile item f.1.0 f.1.1)
-
-  ends : take used piece ≡ (item.path ++ 0 ∷ f.1.0) ++ 10 ∷ []
-  ends = f.1.2 ∙ record_ends item.path f.1.0
-
-  -- The items before are closed by what comes before the newline.
-  pub item_closes : ClosedPlan profile (p ++ take (used - 1) piece) items
-  item_closes = record {
-    given = before.given;
-    begun = item.path ++ 0 ∷ f.1.0;
-    split = ap (λ (t : List ℕ). p ++ t) (front_line piece (item.path ++ 0 ∷ f.1.0) used f.0 ends).1 ∙ came_after p before.given s.begun.items (item.path ++ 0 ∷ f.1.0) before.split b.0;
-    whole = before.whole;
-    plain = record_plain;
-  }
-
-  came : AtItemPath profile s.begun.items (p ++ take used piece) (items ++ item ∷ [])
-  came = record {
-    given = before.given ++ (item.path ++ 0 ∷ (f.1.0 ++ 10 ∷ []));
-    split = ap (λ (t : List ℕ). p ++ t) f.1.2 ∙ (came_after p before.given s.begun.items (item.path ++ 0 ∷ (f.1.0 ++ 10 ∷ [])) before.split b.0
-        ∙ (sym (append-nil (before.given ++ (item.path ++ 0 ∷ (f.1.0 ++ 10 ∷ [])))) ∙ ap (λ (t : List ℕ). (before.given ++ (item.path ++ 0 ∷ (f.1.0 ++ 10 ∷ []))) ++ t) (sym b.0)));
-    whole = plan_push profile items before.given item.path f.1.0 (record { item = item; path_is = refl; spells = f.1.1 }) before.whole;
-    begun_path = rw b.0 tt;
-  }
-
-  -- The records took the item's record.
-  item_came : HasTakenItems s profile (p ++ take used piece) (items ++ item ∷ [])
-  item_came = taken_items s profile (p ++ take used piece) (items ++ item ∷ []) h.profile_is (items_back profile s.begun.items s.present (p ++ take used piece) (items ++ item ∷ []) b.1 came)
-
--- The records, and the meter that counted the item's record, took it.
-pub item_along : (profile : Profile) (s : PlanRecords) (old new : Meter) (p piece : List ℕ) (items : List ItemData) (item : ItemData) (used : ℕ) → IsAtRecord s → IsItemFront profile piece item used →
-    ((q line : List ℕ) → IsCounted old q → used ≡ length line + 1 → IsCounted new (q ++ (line ++ 10 ∷ []))) → new.limits ≡ old.limits →
-    used ≤ old.limits.max_record - old.record_len → used ≤ old.limits.max_stream - old.offset → ItemsAreAlong profile s old p items → ItemsAreAlong profile s new (p ++ take used piece) (items ++ item ∷ [])
-item_along profile s old new p piece items item used b f counts limits long far h =
-    let line = item.path ++ 0 ∷ f.1.0 in
-    let e : take used piece ≡ line ++ 10 ∷ [] = ends profile s p piece items item used b f h.state in
-    let size = front_line piece line used f.0 e in
-    let same : length (take used piece) ≡ used = length-take-le used piece f.0 in
-    let counted : IsCounted new (p ++ take used piece) = subst (λ (t : List ℕ). IsCounted new (p ++ t)) (sym e) (counts p line h.counted size.0) in
-    ran_line (plan_stream profile) (λ t. items_closed t profile) (λ t. items_go_on t profile)
-    s old new p (take used piece) line (items ++ item ∷ []) e (item_came profile s p piece items item used b f h.state) h.counted counted limits h.unstopped
-    (record_plain profile s p piece items item used b f h.state) (never_few old.limits.max_lines p (take used piece)) (omega (arith, same, long)) (omega (arith, same, far))
+-- What comes of a path, its NUL, and behind that a line and its newline.
+pub record_front : (bytes rest line : List ℕ) (used n : ℕ) → used < length bytes → get_or bytes used 0 ≡ 0 → rest ≡ drop (used + 1) bytes → take n rest ≡ line ++ 10 ∷ [] →
+    take (used + 1 + n) bytes ≡ (take used bytes ++ 0 ∷ line) ++ 10 ∷ []
+record_front bytes rest line used n lt z back e =
+    let path : take (used + 1) bytes ≡ take used bytes ++ 0 ∷ [] = take_more bytes used 0 lt ∙ ap (λ (b : ℕ). take used bytes ++ b ∷ []) z in
+    sym (text_on [] bytes rest (used + 1) n back) ∙ rw (path, e) (simp append_assoc)

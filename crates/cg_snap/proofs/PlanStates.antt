@@ -1,5 +1,7 @@
 -- What the state of a plan's records tells of plans.
-use Rattle.std.proofs.Common.{◌≡◌, ◌≢◌, ℕ, ◌+◌, ◌<◌, ◌≤◌, List, [], ◌∷◌, ◌++◌, length, Option, Some, None, refl, sym, ap, subst, ◌∙◌, append_assoc, arith, inl, inr, ◌⊎◌}
+use Rattle.std.proofs.Common.{◌≡◌, ◌≢◌, ℕ, ◌+◌, ◌<◌, ◌≤◌, List, [], ◌∷◌, ◌++◌, length, Option, Some, None, false, Result, Ok, Err, MatchResult, refl, sym, ap, subst, ◌∙◌, append_assoc, arith, inl, inr, ◌⊎◌}
+use Rattle.std.specs.Result.{result_err}
+use Rattle.std.specs.Option.{is_some}
 use Rattle.std.proofs.lemmas.List.{append-nil, length-append}
 use Rattle.cg_text.specs.ListFacts.{push_one}
 use Rattle.cg_text.specs.Texts.{Lacks, Next, Viable}
@@ -20,21 +22,22 @@ use Rattle.cg_value.specs.declared.profile.Profile.TheVariants.{One, Two}
 use Rattle.cg_value.specs.declared.setting.Setting.{Setting}
 use Rattle.cg_file.specs.WeightFileLaws.{not_empty}
 use Rattle.cg_line.specs.Takes.{Takes, takes_viable}
-use Rattle.cg_snap.specs.Streams.{plan_stream}
 use Rattle.cg_snap.specs.Begun.{IsBegun}
-use Rattle.cg_snap.specs.Course.{AreFew, DidStep, RefusedBy}
+use Rattle.cg_snap.specs.Course.{AreFew, Leaves, RefusedBy}
 use Rattle.cg_snap.specs.PathBytes.{ArePathBytes}
 use Rattle.cg_snap.specs.Plan.{ClosedPlan, IsItemLine, Plan, PlanText}
 use Rattle.cg_snap.specs.PlanLaws.{item_line_plain, one_write_form, plan_ends, written_plain}
-use Rattle.cg_snap.specs.PlanState.{AtItemLine, AtItemPath, AtItems, DidItem, HasTakenItems, IsOfWriteKind}
+use Rattle.cg_snap.specs.PlanState.{AtItemLine, AtItemPath, AtItems, HasTakenItems, IsOfWriteKind, IsWriteClass}
 use Rattle.cg_snap.specs.PlanStop.{IsItemWhy, is_never_many}
 use Rattle.cg_snap.specs.SnapLaws.{cut, one_name, record_then}
 use Rattle.cg_snap.specs.SnapStop.{IsNameless}
+use Rattle.cg_snap.specs.Streams.{plan_stream}
+use Rattle.cg_snap.specs.declared.event.Event.{Event}
 use Rattle.cg_snap.specs.declared.plan_records.PlanRecords.{PlanRecords}
-use Rattle.cg_snap.specs.declared.plan_records.Writing.{Writing}
-use Rattle.cg_snap.specs.declared.records.Stepped.{Stepped}
-use Rattle.cg_snap.specs.declared.records.Stepped.TheVariants as steps
+use Rattle.cg_snap.specs.declared.plan.Writing.{Writing}
+use Rattle.cg_snap.specs.declared.stop.Why.{Why}
 use Rattle.cg_snap.specs.declared.stop.Why.TheVariants as whys
+use Rattle.cg_snap.proofs.Courses.{leaves_as}
 use Rattle.cg_snap.proofs.FirstWrite.{can_be_written}
 use Rattle.cg_snap.proofs.Refusals.{byte_in, path_byte_in, path_nul_in}
 use Rattle.cg_snap.proofs.States.{path_named, named_path}
@@ -184,7 +187,7 @@ module _ (profile : Profile) where
     begun = x.path.items ++ 0 ∷ h.line;
     split = h.split;
     whole = h.whole;
-    plain = lacks_both 10 x.path.items (0 ∷ h.line) (path_lacks_newline x.path.items h.good) ((λ e. absurd (cc)), h.plain);
+    plain = lacks_both 10 x.path.items (0 ∷ h.line) (path_lacks_newline x.path.items h.good) ((λ e. omega (arith, e)), h.plain);
   }
 
   pub closed_begun : (p : List ℕ) (items : List ItemData) (c : ClosedPlan profile p items) → IsBegun p c.begun
@@ -231,10 +234,10 @@ module _ (profile : Profile) where
   item_begun : (begun p : List ℕ) (items : List ItemData) → AtItemPath profile begun p items → IsBegun p begun
   item_begun begun p items h = closed_begun p items (items_closed_by begun None p items h)
 
-  pub item_no_name : (begun p : List ℕ) (items : List ItemData) → AtItemPath profile begun p items → IsNameless begun → RefusedBy (Plan profile) (IsItemWhy profile) p 0 (Some whys.NoName)
+  item_no_name : (begun p : List ℕ) (items : List ItemData) → AtItemPath profile begun p items → IsNameless begun → RefusedBy (Plan profile) (IsItemWhy profile) p 0 (Some whys.NoName)
   item_no_name begun p items h c = (λ v. path_named begun (item_path_nul begun p items h v).0 c, (begun, item_begun begun p items h, (bytes_no_nul begun h.begun_path, refl, c)))
 
-  pub item_not_writable : (begun p : List ℕ) (items : List ItemData) → AtItemPath profile begun p items → (IsNameless begun → ⊥) → WritesAt profile begun None → RefusedBy (Plan profile) (IsItemWhy profile) p 0 (Some whys.NotWritable)
+  item_not_writable : (begun p : List ℕ) (items : List ItemData) → AtItemPath profile begun p items → (IsNameless begun → ⊥) → WritesAt profile begun None → RefusedBy (Plan profile) (IsItemWhy profile) p 0 (Some whys.NotWritable)
   item_not_writable begun p items h c n =
       (λ v. let k = (item_path_nul begun p items h v).1 in writes_once profile begun k.0 n k.1, (begun, item_begun begun p items h, (bytes_no_nul begun h.begun_path, refl, c, n)))
 
@@ -278,14 +281,32 @@ module _ (profile : Profile) where
     nothing_begun = n;
   }
 
-  pub item_nul_next : (begun p : List ℕ) (items : List ItemData) (kind : WriteForm) → AtItemPath profile begun p items → IsOfWriteKind profile begun kind → Next (Plan profile) p 0
+  item_nul_next : (begun p : List ℕ) (items : List ItemData) (kind : WriteForm) → AtItemPath profile begun p items → IsOfWriteKind profile begun kind → Next (Plan profile) p 0
   item_nul_next begun p items kind h c =
       let first = can_be_written kind (write_form_ok profile c.1.name kind c.1.form_is) in
       let text : p ++ 0 ∷ [] ≡ h.given ++ (begun ++ 0 ∷ []) = rw h.split (append_assoc h.given begun (0 ∷ [])) in
       record { rest = first.rest; whole = line_rest_plan items h.given begun [] first.rest (p ++ 0 ∷ []) kind h.whole (named_path begun h.begun_path c.0) c.1 text first.whole }
 
+  -- Why the NUL of a path can't come, none where it can.
+  class_refused : (begun p : List ℕ) (items : List ItemData) (why : Why) → AtItemPath profile begun p items → IsWriteClass profile begun (Err why) → RefusedBy (Plan profile) (IsItemWhy profile) p 0 (Some why)
+  class_refused begun p items whys.PathByte h c = absurd c
+  class_refused begun p items whys.NoName h c = item_no_name begun p items h c
+  class_refused begun p items whys.NotReadable h c = absurd c
+  class_refused begun p items whys.NotWritable h c = item_not_writable begun p items h c.0 c.1
+  class_refused begun p items whys.NoMoreLines h c = absurd c
+  class_refused begun p items whys.Line h c = absurd c
+
+  pub class_refusal : (begun p : List ℕ) (items : List ItemData) (r : Result WriteForm Why) → AtItemPath profile begun p items → IsWriteClass profile begun r → RefusedBy (Plan profile) (IsItemWhy profile) p 0 (result_err r)
+  class_refusal begun p items (Ok kind) h c = item_nul_next begun p items kind h c
+  class_refusal begun p items (Err why) h c = class_refused begun p items why h c
+
+  pub class_after : (begun p : List ℕ) (items : List ItemData) (byte : ℕ) (r : Result WriteForm Why) → byte ≡ 0 → AtItemPath profile begun p items → IsWriteClass profile begun r →
+      MatchResult r (λ kind. (byte ≡ 0) × IsOfWriteKind profile begun kind) (λ why. RefusedBy (Plan profile) (IsItemWhy profile) p byte (Some why))
+  class_after begun p items byte (Ok kind) z h c = (z, c)
+  class_after begun p items byte (Err why) z h c = rw z (class_refused begun p items why h c)
+
   -- Bytes of a line.
-  pub item_line_taken : (begun : List ℕ) (x x' : Writing) (p : List ℕ) (items : List ItemData) (bs : List ℕ)
+  abbrev pub item_line_taken : (begun : List ℕ) (x x' : Writing) (p : List ℕ) (items : List ItemData) (bs : List ℕ)
       (h : AtItemLine profile begun x p items) → x'.path.items ≡ x.path.items → Lacks 10 bs →
       Takes x'.reader h.kind (h.line ++ bs) → AtItemLine profile begun x' (p ++ bs) items
   item_line_taken begun x x' p items bs h e n t = record {
@@ -300,37 +321,6 @@ module _ (profile : Profile) where
     takes = t;
     nothing_begun = h.nothing_begun;
   }
-
-  -- A reader that is as it was.
-  pub item_line_same : (begun : List ℕ) (x x' : Writing) (p : List ℕ) (items : List ItemData) (h : AtItemLine profile begun x p items) → x'.path.items ≡ x.path.items → Takes x'.reader h.kind h.line → AtItemLine profile begun x' p items
-  item_line_same begun x x' p items h e t = record {
-    given = h.given;
-    line = h.line;
-    kind = h.kind;
-    split = rw (h.split, e) refl;
-    whole = h.whole;
-    good = subst IsPath (sym e) h.good;
-    writes_at = subst (λ (q : List ℕ). WritesAt profile q (Some h.kind)) (sym e) h.writes_at;
-    plain = h.plain;
-    takes = t;
-    nothing_begun = h.nothing_begun;
-  }
-
-  end_text : (p g q l : List ℕ) → p ≡ g ++ (q ++ 0 ∷ l) → g ++ (q ++ 0 ∷ (l ++ 10 ∷ [])) ≡ p ++ 10 ∷ []
-  end_text p g q l e = rw e (simp append_assoc)
-
-  -- The newline of a line.
-  pub item_ended : (begun : List ℕ) (x : Writing) (p : List ℕ) (items : List ItemData)
-      (h : AtItemLine profile begun x p items) (item : ItemData) → item.path ≡ x.path.items →
-      IsItemLine profile item h.line → AtItemPath profile begun (p ++ 10 ∷ []) (items ++ item ∷ [])
-  item_ended begun x p items h item e s =
-      let i : HasItem profile x.path.items h.line = record { item = item; path_is = e; spells = s } in
-      record {
-        given = h.given ++ (x.path.items ++ 0 ∷ (h.line ++ 10 ∷ []));
-        split = rw h.nothing_begun (sym (end_text p h.given x.path.items h.line h.split) ∙ sym (append-nil (h.given ++ (x.path.items ++ 0 ∷ (h.line ++ 10 ∷ [])))));
-        whole = plan_push profile items h.given x.path.items h.line i h.whole;
-        begun_path = rw h.nothing_begun tt;
-      }
 
   -- ---- The item of a whole line
 
@@ -390,6 +380,11 @@ module _ (profile : Profile) where
         omega (arith, le, few, ap length l.nothing_begun, length-append x.path.items (0 ∷ l.line)),
       )
 
+-- No line is begun.
+pub no_line : (o : Option Writing) → is_some o ≡ false → o ≡ None
+no_line None e = refl
+no_line (Some x) e = absurd (cc)
+
 -- No record of a plan is one too many.
 pub never_few : (max : ℕ) (p run : List ℕ) → AreFew (is_never_many max) p run
 never_few max p [] = tt
@@ -400,15 +395,8 @@ never_few max p (byte ∷ run) = ((λ many. many), never_few max (p ++ byte ∷ 
 pub taken_items : (s : PlanRecords) (profile : Profile) (p : List ℕ) (items : List ItemData) → s.profile ≡ profile → AtItems profile s.begun.items s.present p items → HasTakenItems s profile p items
 taken_items s profile p items e h = record { profile_is = e; at = h; closed = items_closed_by profile s.begun.items s.present p items h; goes_on = items_viable profile s.begun.items s.present p items h }
 
-did_same : (s : PlanRecords) (profile : Profile) (p : List ℕ) (items : List ItemData) (byte : ℕ) (d : Stepped ItemData) → s.profile ≡ profile → DidItem profile s.begun.items s.present p items byte d →
-    DidStep (plan_stream profile) s p items byte d
-did_same s profile p items byte steps.Taken e h = taken_items s profile (p ++ byte ∷ []) items e h
-did_same s profile p items byte (steps.Given item) e h = taken_items s profile (p ++ byte ∷ []) (items ++ item ∷ []) e h
-did_same s profile p items byte (steps.Refused why) e h = (taken_items s profile p items e h.0, h.1)
-did_same s profile p items byte steps.OutOfMemory e h = (taken_items s profile p items e h.0, h.1)
-
--- What a step of records of that profile leaves.
-pub did_items : (s : PlanRecords) (old profile : Profile) (p : List ℕ) (items : List ItemData) (byte : ℕ) (d : Stepped ItemData) → s.profile ≡ old → old ≡ profile → DidItem old s.begun.items s.present p items byte d →
-    DidStep (plan_stream profile) s p items byte d
-did_items s old profile p items byte d e f h =
-    subst (λ (form : Profile). DidStep (plan_stream form) s p items byte d) f (did_same s old p items byte d e h)
+-- What bytes leave.
+pub items_leave : (s : PlanRecords) (profile : Profile) (max : ℕ) (p : List ℕ) (items : List ItemData) (bytes : List ℕ) (used : ℕ) (what : Event ItemData) → s.profile ≡ profile →
+    Leaves (plan_stream profile) (AtItems profile s.begun.items s.present) max p items bytes used what → Leaves (plan_stream profile) (HasTakenItems s profile) max p items bytes used what
+items_leave s profile max p items bytes used what e h =
+    leaves_as (plan_stream profile) (AtItems profile s.begun.items s.present) (HasTakenItems s profile) (λ q fs a. taken_items s profile q fs e a) max p items bytes used what h

@@ -1,6 +1,7 @@
 -- The same of a decoder's state, whatever it is.
 use Rattle.std.proofs.Common.{◌≡◌, ◌≢◌, ℕ, ◌+◌, ◌<◌, Bool, true, false, List, [], ◌∷◌, ◌++◌, Option, Some, None, refl, sym, ap, subst, ◌∙◌, append_assoc, inl, inr, ◌⊎◌, arith}
 use Rattle.std.specs.Bool.{MatchBool}
+use Rattle.std.specs.Prelude.{MatchOption}
 use Rattle.std.proofs.lemmas.Bool.{MatchBool-at_true, MatchBool-at_false}
 use Rattle.cg_text.specs.ListFacts.{push_one}
 use Rattle.cg_text.specs.Texts.{Lacks, Viable, Next}
@@ -18,13 +19,13 @@ use Rattle.cg_snap.specs.Closed.{Closed}
 use Rattle.cg_snap.specs.Begun.{IsBegun}
 use Rattle.cg_snap.specs.DecoderState.{AtLine, AtPath, AtPaths, AtStart, At, CanEndLine, IsBetween, IsLineFlag, IsOfKind, IsWhyAfter}
 use Rattle.cg_snap.specs.PathBytes.{ArePathBytes}
-use Rattle.cg_snap.specs.Snap.{Snap}
+use Rattle.cg_snap.specs.Snap.{AreEntryLines, Snap}
 use Rattle.cg_snap.specs.SnapStop.{IsNameless}
 use Rattle.cg_snap.specs.declared.present.Present.{Present}
 use Rattle.cg_snap.specs.declared.stop.Why.TheVariants as whys
 use Rattle.cg_snap.proofs.Closes.{line_begun, line_closed, path_begun, path_closed, start_begun, start_closed}
 use Rattle.cg_snap.proofs.Refusals.{head_byte, head_nul, line_takes, path_head, same_nul, start_head}
-use Rattle.cg_snap.proofs.Steps.{all_both, all_bytes, bytes_no_nul, line_end, line_kept, line_run, line_viable, line_whole, path_run, path_viable, start_viable}
+use Rattle.cg_snap.proofs.Steps.{all_both, all_bytes, bytes_no_nul, line_run, line_viable, line_whole, next_path, path_run, path_viable, start_viable}
 
 -- ---- Flags
 
@@ -121,11 +122,6 @@ module _ (profile : Profile) where
   at_closed begun None p es h = start_closed profile begun p es h
   at_closed begun (Some x) p es h = by_flag (AtLine profile begun x p es) (AtPath profile begun x p es) (Closed profile p es) x.in_line h (line_closed profile begun x p es) (path_closed profile begun x p es)
 
-  pub at_begun : (begun : List ℕ) (o : Option Present) (p : List ℕ) (es : List EntryData) → At profile begun o p es → (r : List ℕ) × IsBegun p r
-  at_begun begun None p es h = (begun, start_begun begun p es h)
-  at_begun begun (Some x) p es h =
-      by_flag (AtLine profile begun x p es) (AtPath profile begun x p es) ((r : List ℕ) × IsBegun p r) x.in_line h (λ l. (x.path.items ++ 0 ∷ l.line, line_begun profile begun x p es l)) (λ a. (begun, path_begun profile begun x p es a))
-
   -- ---- A byte of a line
 
   pub line_state : (begun : List ℕ) (x : Present) (p : List ℕ) (es : List EntryData) → x.in_line ≡ true → At profile begun (Some x) p es → AtLine profile begun x p es
@@ -140,14 +136,6 @@ module _ (profile : Profile) where
       let l = line_state begun x p es t h in
       at_true (AtLine profile begun x' (p ++ bs) es) (AtPath profile begun x' (p ++ bs) es) x'.in_line i (line_run profile begun x x' p es bs l n e c (r l.kind (unlines l.lines ++ l.line) l.reads))
 
-  pub line_ended : (begun : List ℕ) (x x' : Present) (p : List ℕ) (es : List EntryData) (b : ℕ) → x.in_line ≡ true →
-      At profile begun (Some x) p es → b ≡ 10 → x'.path.items ≡ x.path.items → x'.lines ≡ told (x.lines + 1) →
-      x'.in_line ≡ false →
-      ((k : ReadForm) (t : List ℕ) → Reads x.reader k t → Reads x'.reader k (t ++ b ∷ [])) → At profile begun (Some x') (p ++ b ∷ []) es
-  line_ended begun x x' p es b t h n e c i r =
-      let l = line_state begun x p es t h in
-      at_false (AtLine profile begun x' (p ++ b ∷ []) es) (AtPath profile begun x' (p ++ b ∷ []) es) x'.in_line i (line_end profile begun x x' p es b l n e c (r l.kind (unlines l.lines ++ l.line) l.reads))
-
   -- The rest of the line and its newline, which are the bytes.
   pub line_at_once : (begun : List ℕ) (x x' : Present) (p : List ℕ) (es : List EntryData) (line bs : List ℕ) → bs ≡ line ++ 10 ∷ [] → x.in_line ≡ true →
       At profile begun (Some x) p es → Lacks 10 line → x'.path.items ≡ x.path.items → x'.lines ≡ told (x.lines + 1) → x'.in_line ≡ false →
@@ -155,14 +143,6 @@ module _ (profile : Profile) where
   line_at_once begun x x' p es line bs f t h n e c i r =
       let l = line_state begun x p es t h in
       at_false (AtLine profile begun x' (p ++ bs) es) (AtPath profile begun x' (p ++ bs) es) x'.in_line i (rw f (line_whole profile begun x x' p es line l n e c (r l.kind (unlines l.lines ++ l.line) l.reads)))
-
-  -- A reader that is as it was.
-  pub line_same : (begun : List ℕ) (x x' : Present) (p : List ℕ) (es : List EntryData) → x.in_line ≡ true →
-      At profile begun (Some x) p es → x'.path.items ≡ x.path.items → x'.lines ≡ x.lines → x'.in_line ≡ true →
-      ((k : ReadForm) (t : List ℕ) → Reads x.reader k t → Reads x'.reader k t) → At profile begun (Some x') p es
-  line_same begun x x' p es t h e c i r =
-      let l = line_state begun x p es t h in
-      at_true (AtLine profile begun x' p es) (AtPath profile begun x' p es) x'.in_line i (line_kept profile begun x x' p es l e c (r l.kind (unlines l.lines ++ l.line) l.reads))
 
   pub line_refused : (begun : List ℕ) (x : Present) (p : List ℕ) (es : List EntryData) (b : ℕ) → x.in_line ≡ true → At profile begun (Some x) p es → ((k : ReadForm) (t : List ℕ) → Reads x.reader k t → Next (KindFile k) t b → ⊥) →
       (Next (Snap profile) p b → ⊥) × IsWhyAfter profile p b whys.Line
@@ -214,3 +194,12 @@ module _ (profile : Profile) where
 
   pub path_byte_allowed : (begun : List ℕ) (o : Option Present) (p : List ℕ) (es : List EntryData) (b : ℕ) → (b ≡ 0 → ⊥) → (b ≡ 10 → ⊥) → b < 256 → IsBetween o → At profile begun o p es → Next (Snap profile) p b
   path_byte_allowed begun o p es b z n lt i h = paths_viable (begun ++ b ∷ []) o (p ++ b ∷ []) es (paths_run begun (begun ++ b ∷ []) o p es (b ∷ []) ((omega arith, lt, n), tt) refl (between begun o p es i h))
+
+  -- The NUL of another path closes the present entry.
+  pub next_given : (begun begun' : List ℕ) (x x' : Present) (p : List ℕ) (es : List EntryData) (k : ReadForm) (o : Option EntryData) (h : AtPath profile begun x p es) → begun' ≡ [] → x.path.items ≢ begun →
+      x'.path.items ≡ begun → x'.lines ≡ 0 → x'.in_line ≡ true → IsOfKind profile begun k → Reads x'.reader k [] → MatchOption o ⊥ (λ e. (e.path ≡ x.path.items) × AreEntryLines profile e h.lines) →
+      MatchOption o (At profile begun' (Some x') (p ++ 0 ∷ []) es) (λ e. At profile begun' (Some x') (p ++ 0 ∷ []) (es ++ e ∷ []))
+  next_given begun begun' x x' p es k None h n d path lines i c r m = absurd m
+  next_given begun begun' x x' p es k (Some e) h n d path lines i c r m =
+      at_true (AtLine profile begun' x' (p ++ 0 ∷ []) (es ++ e ∷ [])) (AtPath profile begun' x' (p ++ 0 ∷ []) (es ++ e ∷ [])) x'.in_line i
+      (next_path profile begun begun' x x' p es 0 k e h refl n d path lines (named_path begun h.begun_path c.0) c.1 r m.0 m.1)

@@ -263,7 +263,26 @@ module _ (profile : Profile) where
     count = h.count;
   }
 
-  pub line_run : (begun : List ℕ) (x x' : Present) (p : List ℕ) (es : List EntryData) (bs : List ℕ)
+  -- The same where the reader took nothing.
+  pub path_kept : (begun : List ℕ) (x x' : Present) (p : List ℕ) (es : List EntryData) (h : AtPath profile begun x p es) → x'.path.items ≡ x.path.items → x'.lines ≡ x.lines → Reads x'.reader h.kind (unlines h.lines) →
+      AtPath profile begun x' p es
+  path_kept begun x x' p es h e c r = record {
+    given = h.given;
+    lines = h.lines;
+    kind = h.kind;
+    split = rw e h.split;
+    entries = h.entries;
+    other = rw e h.other;
+    good = rw e h.good;
+    reads_at = rw e h.reads_at;
+    some = h.some;
+    plain = h.plain;
+    reads = r;
+    begun_path = h.begun_path;
+    count = c ∙ h.count;
+  }
+
+  abbrev pub line_run : (begun : List ℕ) (x x' : Present) (p : List ℕ) (es : List EntryData) (bs : List ℕ)
       (h : AtLine profile begun x p es) → Lacks 10 bs → x'.path.items ≡ x.path.items → x'.lines ≡ x.lines →
       Reads x'.reader h.kind ((unlines h.lines ++ h.line) ++ bs) → AtLine profile begun x' (p ++ bs) es
   line_run begun x x' p es bs h n e c r =
@@ -285,47 +304,6 @@ module _ (profile : Profile) where
         nothing_begun = h.nothing_begun;
         count = c ∙ h.count;
       }
-
-  -- The same where the reader took nothing.
-  pub line_kept : (begun : List ℕ) (x x' : Present) (p : List ℕ) (es : List EntryData)
-      (h : AtLine profile begun x p es) → x'.path.items ≡ x.path.items → x'.lines ≡ x.lines →
-      Reads x'.reader h.kind (unlines h.lines ++ h.line) → AtLine profile begun x' p es
-  line_kept begun x x' p es h e c r = record {
-    given = h.given;
-    lines = h.lines;
-    line = h.line;
-    kind = h.kind;
-    split = rw e h.split;
-    entries = h.entries;
-    other = rw e h.other;
-    good = rw e h.good;
-    reads_at = rw e h.reads_at;
-    plain = h.plain;
-    plain_line = h.plain_line;
-    reads = r;
-    goes = h.goes;
-    nothing_begun = h.nothing_begun;
-    count = c ∙ h.count;
-  }
-
-  pub line_end : (begun : List ℕ) (x x' : Present) (p : List ℕ) (es : List EntryData) (b : ℕ)
-      (h : AtLine profile begun x p es) → b ≡ 10 → x'.path.items ≡ x.path.items → x'.lines ≡ told (x.lines + 1) →
-      Reads x'.reader h.kind ((unlines h.lines ++ h.line) ++ b ∷ []) → AtPath profile begun x' (p ++ b ∷ []) es
-  line_end begun x x' p es b h n e c r = record {
-    given = h.given;
-    lines = h.lines ++ h.line ∷ [];
-    kind = h.kind;
-    split = rw (h.split, e, n, records-append, h.nothing_begun) (simp (append_assoc, append-nil));
-    entries = h.entries;
-    other = rw e h.other;
-    good = rw e h.good;
-    reads_at = rw e h.reads_at;
-    some = some_push h.lines h.line;
-    plain = all_push (Lacks 10) h.lines h.line h.plain h.plain_line;
-    reads = rw (unlines-push, ← append_assoc (unlines h.lines) h.line (10 ∷ [])) (subst (λ (z : ℕ). Reads x'.reader h.kind ((unlines h.lines ++ h.line) ++ z ∷ [])) n r);
-    begun_path = rw h.nothing_begun tt;
-    count = c ∙ ap (λ n. told (n + 1)) h.count ∙ sym (told_more (length h.lines)) ∙ sym (ap told (length_push h.lines h.line));
-  }
 
   -- The rest of the line and its newline at once.
   pub line_whole : (begun : List ℕ) (x x' : Present) (p : List ℕ) (es : List EntryData) (bs : List ℕ)
@@ -372,7 +350,7 @@ module _ (profile : Profile) where
 
   pub same_path : (begun begun' : List ℕ) (x x' : Present) (p : List ℕ) (es : List EntryData) (b : ℕ)
       (h : AtPath profile begun x p es) → b ≡ 0 → begun' ≡ [] → begun ≡ x.path.items →
-      x'.path.items ≡ x.path.items → x'.lines ≡ x.lines → x'.reader ≡ x.reader → CanEndLine h.kind h.lines [] →
+      x'.path.items ≡ x.path.items → x'.lines ≡ x.lines → Reads x'.reader h.kind (unlines h.lines) → CanEndLine h.kind h.lines [] →
       AtLine profile begun' x' (p ++ b ∷ []) es
   same_path begun begun' x x' p es b h z n s e c r g = record {
     given = h.given;
@@ -386,7 +364,7 @@ module _ (profile : Profile) where
     reads_at = rw e h.reads_at;
     plain = h.plain;
     plain_line = tt;
-    reads = rw (r, append-nil) h.reads;
+    reads = rw append-nil r;
     goes = g;
     nothing_begun = n;
     count = c ∙ h.count;

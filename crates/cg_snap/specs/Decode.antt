@@ -1,19 +1,19 @@
 -- What becomes of the bytes of a whole stream.
-use Rattle.std.specs.Prelude.{◌≡◌, ℕ, ◌+◌, ◌<◌, ◌⊎◌, List, length, take, None}
+use Rattle.std.specs.Prelude.{◌≡◌, ℕ, ◌+◌, ◌<◌, ◌⊎◌, List, length, take}
 use Rattle.cg_value.specs.Entry.{EntryData, ItemData}
 use Rattle.cg_value.specs.declared.profile.Profile.{Profile}
-use Rattle.cg_snap.specs.Decoder.{Stands, limits_of, profile_of, stop_of}
+use Rattle.cg_snap.specs.Decoder.{SnapshotDecoder}
 use Rattle.cg_snap.specs.Plan.{Plan, PlanText}
-use Rattle.cg_snap.specs.PlanDecoder.{StandsForPlan, plan_limits_of, plan_profile_of, plan_stop_of}
+use Rattle.cg_snap.specs.PlanDecoder.{PlanDecoder}
 use Rattle.cg_snap.specs.PlanStop.{IsItemWhy, IsPlanUnstopped, is_never_many}
+use Rattle.cg_snap.specs.Pulled.{HasPulled}
 use Rattle.cg_snap.specs.Snap.{Snap, SnapText}
 use Rattle.cg_snap.specs.SnapStop.{IsManyRecords, IsRecordWhy, IsSnapUnstopped}
 use Rattle.cg_snap.specs.StreamStop.{IsStreamUnstopped, StreamStopOf}
+use Rattle.cg_snap.specs.Streams.{plan_stream, snap_stream}
 use Rattle.cg_snap.specs.declared.decode.StreamFault.{StreamFault}
 use Rattle.cg_snap.specs.declared.decode.StreamFault.TheVariants.{Stopped, OutOfMemory}
-use Rattle.cg_snap.specs.declared.decoder.SnapshotDecoder.{SnapshotDecoder}
 use Rattle.cg_snap.specs.declared.limits.Limits.{Limits}
-use Rattle.cg_snap.specs.declared.plan_decoder.PlanDecoder.{PlanDecoder}
 use Rattle.cg_snap.specs.declared.stop.Stop.{Stop}
 use Rattle.cg_snap.specs.declared.stop.Stop.TheVariants.{Refused, TooLong, TooMany, TooMuch, Cut}
 use Rattle.cg_snap.specs.declared.stop.Why.{Why}
@@ -53,11 +53,8 @@ abbrev pub IsSnapFault : Profile → Limits → List ℕ → StreamFault → Typ
 IsSnapFault profile limits = IsStreamFault (Snap profile) (IsRecordWhy profile) (IsManyRecords profile) limits
 
 -- The decoder consumed the bytes and gave these entries; and no stop came.
-pub record HasTaken (d : SnapshotDecoder) (profile : Profile) (limits : Limits) (bytes : List ℕ) (es : List EntryData) : Type 0 where
-  pub stands : Stands d bytes es
-  pub stop : stop_of d ≡ None
-  pub profile_is : profile_of d ≡ profile
-  pub limits_is : limits_of d ≡ limits
+abbrev pub HasTaken : SnapshotDecoder → Profile → Limits → List ℕ → List EntryData → Type 0
+HasTaken = HasPulled snap_stream (λ s. s.profile)
 
 -- ---- Plans
 
@@ -67,11 +64,8 @@ pub record IsPlanDecoded (profile : Profile) (limits : Limits) (bytes : List ℕ
   pub unstopped : IsPlanUnstopped profile limits bytes
 
 -- The decoder consumed the bytes and gave these items; and no stop came.
-pub record HasTakenPlan (d : PlanDecoder) (profile : Profile) (limits : Limits) (bytes : List ℕ) (items : List ItemData) : Type 0 where
-  pub stands : StandsForPlan d bytes items
-  pub stop : plan_stop_of d ≡ None
-  pub profile_is : plan_profile_of d ≡ profile
-  pub limits_is : plan_limits_of d ≡ limits
+abbrev pub HasTakenPlan : PlanDecoder → Profile → Limits → List ℕ → List ItemData → Type 0
+HasTakenPlan = HasPulled plan_stream (λ s. s.profile)
 
 abbrev pub IsPlanFault : Profile → Limits → List ℕ → StreamFault → Type 0
 IsPlanFault profile limits = IsStreamFault (Plan profile) (IsItemWhy profile) is_never_many limits

@@ -1,8 +1,8 @@
 -- What a decoder's state stands for: the bytes that it consumed, and the entries that it gave.
-use Rattle.std.specs.Prelude.{◌≡◌, ◌≢◌, ℕ, List, [], ◌∷◌, ◌++◌, length, Option, Some, None, Bool, true, false}
+use Rattle.std.specs.Prelude.{◌≡◌, ◌≢◌, ℕ, List, [], ◌∷◌, ◌++◌, length, Option, Some, None, Result, Ok, Err, Bool, false}
 use Rattle.std.specs.Bool.{MatchBool}
 use Rattle.std.specs.List.{AllByRecursion}
-use Rattle.cg_text.specs.Texts.{Lacks, Next, Viable}
+use Rattle.cg_text.specs.Texts.{Lacks, Viable}
 use Rattle.cg_text.specs.Token.{told}
 use Rattle.cg_value.specs.Entry.{EntryData, IsPath, ReadsAt}
 use Rattle.cg_value.specs.Files.{KindFile}
@@ -10,29 +10,31 @@ use Rattle.cg_value.specs.Lines.{unlines}
 use Rattle.cg_value.specs.Records.{records}
 use Rattle.cg_value.specs.declared.kind.ReadForm.{ReadForm}
 use Rattle.cg_value.specs.declared.profile.Profile.{Profile}
+use Rattle.cg_line.specs.Place.{TakesLine}
 use Rattle.cg_line.specs.Reads.{Reads}
 use Rattle.cg_snap.specs.Closed.{Closed, EndsOther}
 use Rattle.cg_snap.specs.Course.{BreaksAfter, RefusedBy}
 use Rattle.cg_snap.specs.PathBytes.{ArePathBytes}
 use Rattle.cg_snap.specs.Snap.{Snap, SnapText}
 use Rattle.cg_snap.specs.SnapStop.{IsNameless, IsRecordWhy}
-use Rattle.cg_snap.specs.declared.class.PathClass.{PathClass}
-use Rattle.cg_snap.specs.declared.class.PathClass.TheVariants.{NoName, NotReadable, Readable}
 use Rattle.cg_snap.specs.declared.present.Present.{Present}
-use Rattle.cg_snap.specs.declared.records.Stepped.{Stepped}
-use Rattle.cg_snap.specs.declared.records.Stepped.TheVariants.{Taken, Given, Refused, OutOfMemory}
 use Rattle.cg_snap.specs.declared.snapshot_records.SnapshotRecords.{SnapshotRecords}
 use Rattle.cg_snap.specs.declared.stop.Why.{Why}
+use Rattle.cg_snap.specs.declared.stop.Why.TheVariants as whys
 
 -- The path has a name, and a file there is of this kind.
 abbrev pub IsOfKind : Profile → List ℕ → ReadForm → Type 0
 IsOfKind profile path kind = (IsNameless path → ⊥) × ReadsAt profile path (Some kind)
 
--- What a path names.
-abbrev pub IsClass : Profile → List ℕ → PathClass → Type 0
-IsClass profile path NoName = IsNameless path
-IsClass profile path NotReadable = (IsNameless path → ⊥) × ReadsAt profile path None
-IsClass profile path (Readable kind) = IsOfKind profile path kind
+-- The kind of the file that a path names to a reader, or why there is none.
+abbrev pub IsClass : Profile → List ℕ → Result ReadForm Why → Type 0
+IsClass profile path (Ok kind) = IsOfKind profile path kind
+IsClass profile path (Err whys.PathByte) = ⊥
+IsClass profile path (Err whys.NoName) = IsNameless path
+IsClass profile path (Err whys.NotReadable) = (IsNameless path → ⊥) × ReadsAt profile path None
+IsClass profile path (Err whys.NotWritable) = ⊥
+IsClass profile path (Err whys.NoMoreLines) = ⊥
+IsClass profile path (Err whys.Line) = ⊥
 
 -- The line that is begun can be ended so that a file of the kind goes on.
 abbrev pub CanEndLine : ReadForm → List (List ℕ) → List ℕ → Type 0
@@ -94,11 +96,6 @@ abbrev pub IsBetween : Option Present → Type 0
 IsBetween None = Unit {0}
 IsBetween (Some x) = x.in_line ≡ false
 
--- A line is begun.
-abbrev pub IsInLine : Option Present → Type 0
-IsInLine None = ⊥
-IsInLine (Some x) = x.in_line ≡ true
-
 abbrev pub IsLineFlag : Option Present → Bool → Type 0
 IsLineFlag None flag = flag ≡ false
 IsLineFlag (Some x) flag = flag ≡ x.in_line
@@ -112,21 +109,18 @@ IsLineCount begun (Some x) n = (x.path.items ≡ begun → n ≡ x.lines) × ((x
 abbrev pub IsWhyAfter : Profile → List ℕ → ℕ → Why → Type 0
 IsWhyAfter profile = BreaksAfter (IsRecordWhy profile)
 
--- What a step by the byte leaves.
-abbrev pub Did : Profile → List ℕ → Option Present → List ℕ → List EntryData → ℕ → Stepped EntryData → Type 0
-Did profile begun present p es byte Taken = At profile begun present (p ++ byte ∷ []) es
-Did profile begun present p es byte (Given e) = At profile begun present (p ++ byte ∷ []) (es ++ e ∷ [])
-Did profile begun present p es byte (Refused why) = At profile begun present p es × (Next (Snap profile) p byte → ⊥) × IsWhyAfter profile p byte why
-Did profile begun present p es byte OutOfMemory = At profile begun present p es × Next (Snap profile) p byte
-
 -- Why the byte can't come after p, none where it can.
 abbrev pub RefusalIs : Profile → List ℕ → ℕ → Option Why → Type 0
 RefusalIs profile = RefusedBy (Snap profile) (IsRecordWhy profile)
 
--- Bytes that may be taken at once: those of a line, or of a path.
-abbrev pub IsRun : Option Present → List ℕ → Type 0
-IsRun None run = ArePathBytes run
-IsRun (Some x) run = MatchBool x.in_line (Lacks 10 run) (ArePathBytes run)
+-- The path that is begun is that of the present entry, whose file takes no further line; and otherwise, where it is, it takes one.
+abbrev pub IsOver : List ℕ → Option Present → Type 0
+IsOver begun None = ⊥
+IsOver begun (Some x) = (x.path.items ≡ begun) × ((kind : ReadForm) (taken : List ℕ) → Reads x.reader kind taken → TakesLine kind taken → ⊥)
+
+abbrev pub TakesMore : List ℕ → Option Present → Type 0
+TakesMore begun None = Unit {0}
+TakesMore begun (Some x) = x.path.items ≡ begun → (kind : ReadForm) (taken : List ℕ) → Reads x.reader kind taken → TakesLine kind taken
 
 -- The records are of this profile, consumed the bytes p and gave the entries es; so these are closed, and some snapshot goes on.
 pub record HasTakenRecords (s : SnapshotRecords) (profile : Profile) (p : List ℕ) (es : List EntryData) : Type 0 where

@@ -5,15 +5,13 @@ use Rattle.cg_value.specs.Entry.{EntryData, ItemData}
 use Rattle.cg_value.specs.declared.profile.Profile.{Profile}
 use Rattle.cg_snap.specs.Begun.{IsBegun}
 use Rattle.cg_snap.specs.Closed.{Closed, IsHeldFor}
-use Rattle.cg_snap.specs.Decoder.{Stands, held_by, limits_of, profile_of}
+use Rattle.cg_snap.specs.Decoder.{SnapshotDecoder, Stands, held_by, limits_of, profile_of}
 use Rattle.cg_snap.specs.Plan.{ClosedPlan, Plan, PlanText}
-use Rattle.cg_snap.specs.PlanDecoder.{StandsForPlan, plan_held_by, plan_limits_of, plan_profile_of}
+use Rattle.cg_snap.specs.PlanDecoder.{PlanDecoder, StandsForPlan, plan_held_by, plan_limits_of, plan_profile_of}
 use Rattle.cg_snap.specs.PlanStop.{IsPlanUnstopped, PlanStopOf}
 use Rattle.cg_snap.specs.Snap.{Snap, SnapText}
 use Rattle.cg_snap.specs.SnapStop.{IsSnapUnstopped, SnapStopOf}
-use Rattle.cg_snap.specs.declared.decoder.SnapshotDecoder.{SnapshotDecoder}
 use Rattle.cg_snap.specs.declared.limits.Limits.{Limits}
-use Rattle.cg_snap.specs.declared.plan_decoder.PlanDecoder.{PlanDecoder}
 use Rattle.cg_snap.specs.declared.stop.Stop.{Stop}
 
 -- The bytes close these entries and no others; some snapshot goes on from them, and none of them stops the stream. If they are

@@ -20,6 +20,7 @@ pub mod PlanLaws
 pub mod PlanState
 pub mod PlanStop
 pub mod ProfileLaws
+pub mod Pulled
 pub mod RoundTrip
 pub mod RowLaws
 pub mod Rows

@@ -1,5 +1,5 @@
 -- The bytes of a path that is begun.
-use Rattle.std.specs.Prelude.{ℕ, List, [], ◌∷◌}
+use Rattle.std.specs.Prelude.{◌≡◌, ℕ, ◌<◌, ◌≤◌, ◌⊎◌, List, [], ◌∷◌, length, take, get_or}
 use Rattle.std.specs.Coded.{×_prop, Unit-prop}
 use Rattle.std.specs.List.{AllByRecursion}
 use Rattle.std.proofs.Props.{props}
@@ -15,3 +15,17 @@ byte_prop byte = hlevel props
 pub path_bytes_prop : (bytes : List ℕ) → IsProp (ArePathBytes bytes)
 path_bytes_prop [] = Unit-prop
 path_bytes_prop (b ∷ bytes) = ×_prop (byte_prop b) (path_bytes_prop bytes)
+
+-- A byte that ends a path.
+abbrev pub EndsPath : ℕ → Type 0
+EndsPath byte = (byte ≡ 0) ⊎ (byte ≡ 10)
+
+-- So many path bytes come, and no more.
+pub record IsPathFront (bytes : List ℕ) (used : ℕ) : Type 0 where
+  pub within : used ≤ length bytes
+  pub plain : ArePathBytes (take used bytes)
+  pub ends : used < length bytes → EndsPath (get_or bytes used 0)
+
+-- A path byte comes.
+abbrev pub BeginsPath : List ℕ → Type 0
+BeginsPath bytes = (0 < length bytes) × IsPathByte (get_or bytes 0 0)

@@ -1,31 +1,37 @@
 -- What the state of a plan's records stands for: the bytes that were consumed, and the items that were given.
-use Rattle.std.specs.Prelude.{◌≡◌, ℕ, List, [], ◌∷◌, ◌++◌, Option, Some, None}
-use Rattle.cg_text.specs.Texts.{Lacks, Next, Viable}
+use Rattle.std.specs.Prelude.{◌≡◌, ℕ, List, [], ◌∷◌, ◌++◌, Option, Some, None, Result, Ok, Err}
+use Rattle.cg_text.specs.Texts.{Lacks, Viable}
 use Rattle.cg_value.specs.Entry.{IsPath, ItemData, WritesAt}
 use Rattle.cg_value.specs.declared.kind.WriteForm.{WriteForm}
 use Rattle.cg_value.specs.declared.profile.Profile.{Profile}
 use Rattle.cg_line.specs.Takes.{Takes}
-use Rattle.cg_snap.specs.Course.{RefusedBy}
 use Rattle.cg_snap.specs.PathBytes.{ArePathBytes}
 use Rattle.cg_snap.specs.Plan.{ClosedPlan, Plan, PlanText}
-use Rattle.cg_snap.specs.PlanStop.{IsItemWhy}
 use Rattle.cg_snap.specs.SnapStop.{IsNameless}
-use Rattle.cg_snap.specs.declared.class.WriteClass.{WriteClass}
-use Rattle.cg_snap.specs.declared.class.WriteClass.TheVariants as class
 use Rattle.cg_snap.specs.declared.plan_records.PlanRecords.{PlanRecords}
-use Rattle.cg_snap.specs.declared.plan_records.Writing.{Writing}
-use Rattle.cg_snap.specs.declared.records.Stepped.{Stepped}
-use Rattle.cg_snap.specs.declared.records.Stepped.TheVariants.{Taken, Given, Refused, OutOfMemory}
+use Rattle.cg_snap.specs.declared.plan.Writing.{Writing}
+use Rattle.cg_snap.specs.declared.stop.Why.{Why}
+use Rattle.cg_snap.specs.declared.stop.Why.TheVariants as whys
 
 -- The path has a name, and a file there is written so.
 abbrev pub IsOfWriteKind : Profile → List ℕ → WriteForm → Type 0
 IsOfWriteKind profile path kind = (IsNameless path → ⊥) × WritesAt profile path (Some kind)
 
--- What a path names for a write.
-abbrev pub IsWriteClass : Profile → List ℕ → WriteClass → Type 0
-IsWriteClass profile path class.NoName = IsNameless path
-IsWriteClass profile path class.NotWritable = (IsNameless path → ⊥) × WritesAt profile path None
-IsWriteClass profile path (class.Writable kind) = IsOfWriteKind profile path kind
+-- The file at the path is written so in some profile.
+pub record IsWritable (path : List ℕ) (kind : WriteForm) : Type 0 where
+  pub good : IsPath path
+  pub profile : Profile
+  pub writes_at : WritesAt profile path (Some kind)
+
+-- The kind of a write to the file that a path names, or why there is none.
+abbrev pub IsWriteClass : Profile → List ℕ → Result WriteForm Why → Type 0
+IsWriteClass profile path (Ok kind) = IsOfWriteKind profile path kind
+IsWriteClass profile path (Err whys.PathByte) = ⊥
+IsWriteClass profile path (Err whys.NoName) = IsNameless path
+IsWriteClass profile path (Err whys.NotReadable) = ⊥
+IsWriteClass profile path (Err whys.NotWritable) = (IsNameless path → ⊥) × WritesAt profile path None
+IsWriteClass profile path (Err whys.NoMoreLines) = ⊥
+IsWriteClass profile path (Err whys.Line) = ⊥
 
 -- After the items that were given came the front of a path.
 pub record AtItemPath (profile : Profile) (begun p : List ℕ) (items : List ItemData) : Type 0 where
@@ -51,13 +57,6 @@ pub record AtItemLine (profile : Profile) (begun : List ℕ) (x : Writing) (p : 
 abbrev pub AtItems : Profile → List ℕ → Option Writing → List ℕ → List ItemData → Type 0
 AtItems profile begun None p items = AtItemPath profile begun p items
 AtItems profile begun (Some x) p items = AtItemLine profile begun x p items
-
--- What a step by the byte leaves.
-abbrev pub DidItem : Profile → List ℕ → Option Writing → List ℕ → List ItemData → ℕ → Stepped ItemData → Type 0
-DidItem profile begun present p items byte Taken = AtItems profile begun present (p ++ byte ∷ []) items
-DidItem profile begun present p items byte (Given item) = AtItems profile begun present (p ++ byte ∷ []) (items ++ item ∷ [])
-DidItem profile begun present p items byte (Refused why) = AtItems profile begun present p items × RefusedBy (Plan profile) (IsItemWhy profile) p byte (Some why)
-DidItem profile begun present p items byte OutOfMemory = AtItems profile begun present p items × Next (Plan profile) p byte
 
 -- The records are of this profile, consumed the bytes p and gave the items; so these are closed, and some plan goes on.
 pub record HasTakenItems (s : PlanRecords) (profile : Profile) (p : List ℕ) (items : List ItemData) : Type 0 where

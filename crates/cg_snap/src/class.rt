@@ -4,23 +4,8 @@ ghost use Rattle.cg_snap.specs.DecoderState.{IsClass};
 ghost use Rattle.cg_snap.specs.PlanState.{IsWriteClass};
 ghost use Rattle.cg_snap.specs.SnapStop.{IsNameless};
 
+use crate::stop::Why;
 use cg_value::{Profile, ReadKind, WriteKind, name_of, read_kind, write_kind};
-
-/// What a path names: a file that can be read, with its kind, one that can't be, or none.
-#[derive(Clone, Copy, Debug)]
-pub(crate) enum PathClass {
-    NoName,
-    NotReadable,
-    Readable(ReadKind),
-}
-
-/// What a path names: a file that can be written, with its kind, one that can't be, or none.
-#[derive(Clone, Copy, Debug)]
-pub(crate) enum WriteClass {
-    NoName,
-    NotWritable,
-    Writable(WriteKind),
-}
 
 /// Whether the path has no name.
 fn is_nameless(path: &[u8]) -> bool
@@ -29,29 +14,29 @@ fn is_nameless(path: &[u8]) -> bool
     path.is_empty() || path[path.len() - 1] == b'/'
 }
 
-/// What the path names to a reader.
-pub(crate) fn classify(profile: Profile, path: &[u8]) -> PathClass
+/// The kind of the file at the path, if it has a name and can be read.
+pub(crate) fn readable(profile: Profile, path: &[u8]) -> Result<ReadKind, Why>
     ensures { IsClass profile path.now result }
 {
     if is_nameless(path) {
-        return PathClass::NoName;
+        return Err(Why::NoName);
     }
     match read_kind(profile, name_of(path)) {
-        Ok(kind) => PathClass::Readable(kind),
-        Err(_) => PathClass::NotReadable,
+        Ok(kind) => Ok(kind),
+        Err(_) => Err(Why::NotReadable),
     }
 }
 
-/// What the path names to a writer.
+/// The kind of a write to the file at the path, if it has a name and can be written.
 #[inline(always)]
-pub(crate) fn classify_write(profile: Profile, path: &[u8]) -> WriteClass
+pub(crate) fn writable(profile: Profile, path: &[u8]) -> Result<WriteKind, Why>
     ensures { IsWriteClass profile path.now result }
 {
     if is_nameless(path) {
-        return WriteClass::NoName;
+        return Err(Why::NoName);
     }
     match write_kind(profile, name_of(path)) {
-        Ok(kind) => WriteClass::Writable(kind),
-        Err(_) => WriteClass::NotWritable,
+        Ok(kind) => Ok(kind),
+        Err(_) => Err(Why::NotWritable),
     }
 }

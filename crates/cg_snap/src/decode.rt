@@ -1,17 +1,14 @@
 //! One snapshot, or one plan, as a whole.
-ghost use Rattle.std.specs.Prelude.{◌≡◌, ℕ, List, [], MatchOption, MatchResult};
-ghost use Rattle.cg_snap.specs.Course.{IsAlong};
-ghost use Rattle.cg_snap.specs.Decode.{IsDecoded, IsPlanDecoded, IsPlanFault, IsSnapFault, IsStreamFault};
-ghost use Rattle.cg_snap.specs.Decoder.{AreAlong};
+ghost use Rattle.std.specs.Prelude.{◌≡◌, ℕ, List, [], ◌++◌, MatchOption, MatchResult};
+ghost use Rattle.cg_value.specs.declared.profile.Profile.{Profile};
+ghost use Rattle.cg_snap.specs.Decode.{HasTaken, IsDecoded, IsPlanDecoded, IsPlanFault, IsSnapFault, IsStreamFault};
+ghost use Rattle.cg_snap.specs.Pieces.{EndsStream, joined};
+ghost use Rattle.cg_snap.specs.Pulled.{HasPulled};
 
-use crate::course::{Moved, pull};
-use crate::decoder::finish_at;
+use crate::decoder::{Decoder, PlanDecoder, SnapshotDecoder};
+use crate::event::Event;
 use crate::limits::Limits;
-use crate::meter::Meter;
-use crate::plan_decoder::finish_plan;
-use crate::plan_records::PlanRecords;
 use crate::records::Records;
-use crate::snapshot_records::SnapshotRecords;
 use crate::stop::Stop;
 use cg_value::{Entry, PlanItem, Profile};
 use std::alloc::Global;
@@ -27,53 +24,94 @@ pub enum StreamFault {
     OutOfMemory,
 }
 
-/// Takes all bytes, and puts the parts that they give behind the others.
-fn take_all<R: Records>(
-    records: &mut R,
-    meter: &mut Meter,
+/// Hands a piece to the decoder until all of it is consumed, and puts the parts that it gives behind the others.
+fn take_piece<R: Records>(
+    decoder: &mut Decoder<R>,
     parts: &mut Vec<R::Part>,
-    bytes: &[u8],
+    piece: &[u8],
 ) -> Option<StreamFault>
-    ensures taken { (form : Profile) → IsAlong (R.stream form) records.old meter.old [] parts.old.items →
-        MatchOption result (IsAlong (R.stream form) records.new meter.new bytes.now parts.new.items)
-        (λ fault. IsStreamFault (R.stream form).language (R.stream form).breaks (R.stream form).many meter.old.limits bytes.now fault) }
-    ensures limits { meter.new.limits ≡ meter.old.limits }
+    ensures { (profile : Profile) (limits : Limits) (p : List ℕ) →
+        HasPulled R.stream R.profile decoder.old profile limits p parts.old.items →
+        MatchOption result (HasPulled R.stream R.profile decoder.new profile limits (p ++ piece.now) parts.new.items)
+        (λ fault. EndsStream (R.stream profile) limits (p ++ piece.now) fault) }
 {
     let mut used = 0;
-    while used < bytes.len() {
-        let (_, rest) = bytes.split_at(used);
-        let progress = pull(records, meter, rest);
-        used += progress.used;
-        match progress.moved {
-            Moved::Taken => {}
-            Moved::Given(part) => match parts.push(part) {
+    while used < piece.len() {
+        let (_, rest) = piece.split_at(used);
+        let pulled = decoder.next(rest);
+        used += pulled.used;
+        match pulled.what {
+            Event::NeedMore => {}
+            Event::Given(part) => match parts.push(part) {
                 Ok(()) => {}
                 Err(_) => return Some(StreamFault::OutOfMemory),
             },
-            Moved::Stopped(stop) => return Some(StreamFault::Stopped(stop)),
-            Moved::OutOfMemory => return Some(StreamFault::OutOfMemory),
+            Event::Stopped(stop) => return Some(StreamFault::Stopped(stop)),
+            Event::OutOfMemory => return Some(StreamFault::OutOfMemory),
         }
     }
     None
 }
 
-/// The last entry behind the others.
-fn finish_all(
-    records: SnapshotRecords,
-    meter: &Meter,
-    entries: &mut Vec<Entry>,
+/// Hands all pieces to the decoder, one after another.
+fn take_pieces<R: Records>(
+    decoder: &mut Decoder<R>,
+    parts: &mut Vec<R::Part>,
+    pieces: &[&[u8]],
 ) -> Option<StreamFault>
-    ensures { (profile : Profile) (bytes : List ℕ) → AreAlong profile records meter.now bytes entries.old.items →
-        MatchOption result (IsDecoded profile meter.now.limits bytes entries.new.items)
-        (λ fault. IsSnapFault profile meter.now.limits bytes fault) }
+    ensures { (profile : Profile) (limits : Limits) →
+        HasPulled R.stream R.profile decoder.old profile limits [] parts.old.items →
+        MatchOption result (HasPulled R.stream R.profile decoder.new profile limits (joined pieces.now) parts.new.items)
+        (λ fault. IsStreamFault (R.stream profile).language (R.stream profile).breaks (R.stream profile).many limits
+        (joined pieces.now) fault) }
 {
-    match finish_at(records, meter.offset) {
+    for piece in pieces {
+        if let Some(fault) = take_piece(decoder, parts, piece) {
+            return Some(fault);
+        }
+    }
+    None
+}
+
+/// Puts the last entry behind the others.
+fn end_entries(decoder: SnapshotDecoder, entries: &mut Vec<Entry>) -> Option<StreamFault>
+    ensures { (profile : Profile) (limits : Limits) (bytes : List ℕ) →
+        HasTaken decoder profile limits bytes entries.old.items →
+        MatchOption result (IsDecoded profile limits bytes entries.new.items)
+        (λ fault. IsSnapFault profile limits bytes fault) }
+{
+    match decoder.finish() {
         Ok(None) => None,
         Ok(Some(entry)) => match entries.push(entry) {
             Ok(()) => None,
             Err(_) => Some(StreamFault::OutOfMemory),
         },
         Err(stop) => Some(StreamFault::Stopped(stop)),
+    }
+}
+
+/// The entries of the snapshot whose text is these pieces, joined. They are any list of slices: empty ones may be among
+/// them, and each may begin anywhere, also within a path or a token. Each is taken by `SnapshotDecoder::next`.
+///
+/// `Stopped` is the stop of the joined bytes, which is `Cut` with their length where they end before a snapshot does;
+/// `OutOfMemory` is a want of memory. Both are as `decode_snapshot` tells them of the joined bytes.
+pub fn decode_snapshot_pieces(
+    alloc: Global,
+    profile: Profile,
+    limits: Limits,
+    pieces: &[&[u8]],
+) -> Result<Vec<Entry>, StreamFault>
+    ensures { MatchResult result (λ entries. IsDecoded profile limits (joined pieces.now) entries.items)
+        (λ fault. IsSnapFault profile limits (joined pieces.now) fault) }
+{
+    let mut decoder = SnapshotDecoder::new(alloc, profile, limits);
+    let mut entries = Vec::new(alloc);
+    if let Some(fault) = take_pieces(&mut decoder, &mut entries, pieces) {
+        return Err(fault);
+    }
+    match end_entries(decoder, &mut entries) {
+        Some(fault) => Err(fault),
+        None => Ok(entries),
     }
 }
 
@@ -87,15 +125,31 @@ pub fn decode_snapshot(
     ensures { MatchResult result (λ entries. IsDecoded profile limits bytes.now entries.items)
         (λ fault. IsSnapFault profile limits bytes.now fault) }
 {
-    let mut records = SnapshotRecords::new(alloc, profile);
-    let mut meter = Meter::new(limits);
-    let mut entries = Vec::new(alloc);
-    if let Some(fault) = take_all(&mut records, &mut meter, &mut entries, bytes) {
+    decode_snapshot_pieces(alloc, profile, limits, &[bytes])
+}
+
+/// The items of the plan whose text is these pieces, joined. They are any list of slices: empty ones may be among them,
+/// and each may begin anywhere, also within a path or a token. Each is taken by `PlanDecoder::next`.
+///
+/// `Stopped` is the stop of the joined bytes, which is `Cut` with their length where they end before a plan does;
+/// `OutOfMemory` is a want of memory. Both are as `decode_plan` tells them of the joined bytes.
+pub fn decode_plan_pieces(
+    alloc: Global,
+    profile: Profile,
+    limits: Limits,
+    pieces: &[&[u8]],
+) -> Result<Vec<PlanItem>, StreamFault>
+    ensures { MatchResult result (λ items. IsPlanDecoded profile limits (joined pieces.now) items.items)
+        (λ fault. IsPlanFault profile limits (joined pieces.now) fault) }
+{
+    let mut decoder = PlanDecoder::new(alloc, profile, limits);
+    let mut items = Vec::new(alloc);
+    if let Some(fault) = take_pieces(&mut decoder, &mut items, pieces) {
         return Err(fault);
     }
-    match finish_all(records, &meter, &mut entries) {
-        Some(fault) => Err(fault),
-        None => Ok(entries),
+    match decoder.finish() {
+        Ok(()) => Ok(items),
+        Err(stop) => Err(StreamFault::Stopped(stop)),
     }
 }
 
@@ -109,14 +163,5 @@ pub fn decode_plan(
     ensures { MatchResult result (λ items. IsPlanDecoded profile limits bytes.now items.items)
         (λ fault. IsPlanFault profile limits bytes.now fault) }
 {
-    let mut records = PlanRecords::new(alloc, profile);
-    let mut meter = Meter::new(limits);
-    let mut items = Vec::new(alloc);
-    if let Some(fault) = take_all(&mut records, &mut meter, &mut items, bytes) {
-        return Err(fault);
-    }
-    match finish_plan(&records, meter.offset) {
-        Ok(()) => Ok(items),
-        Err(stop) => Err(StreamFault::Stopped(stop)),
-    }
+    decode_plan_pieces(alloc, profile, limits, &[bytes])
 }

@@ -1,128 +1,118 @@
-//! The decoder of a snapshot.
+//! The decoders of streams: of a snapshot, and of a plan.
 ghost use Rattle.std.specs.Prelude.{◌≡◌, ◌↔◌, ◌≤◌, ℕ, List, [], length, Some, None, Err};
 ghost use Rattle.cg_text.specs.Bytes.{HasByte};
 ghost use Rattle.cg_text.specs.Texts.{Next};
 ghost use Rattle.cg_text.specs.Token.{told};
-ghost use Rattle.cg_value.specs.Entry.{EntryData};
+ghost use Rattle.cg_value.specs.Entry.{EntryData, ItemData};
+ghost use Rattle.cg_value.specs.declared.profile.Profile.{Profile};
+ghost use Rattle.cg_snap.specs.Begun.{IsBegun};
 ghost use Rattle.cg_snap.specs.Closed.{IsHeldFor};
-ghost use Rattle.cg_snap.specs.Snap.{Snap};
+ghost use Rattle.cg_snap.specs.Course.{IsMovedBy};
+ghost use Rattle.cg_snap.specs.Decoder.{FinishIs, Stands, held_by, profile_of, stop_of};
 ghost use Rattle.cg_snap.specs.DecoderState.{HasTakenRecords};
-ghost use Rattle.cg_snap.specs.Decoder.{FinishIs};
+ghost use Rattle.cg_snap.specs.PlanDecoder.{PlanFinishIs, StandsForPlan, plan_held_by, plan_profile_of, plan_stop_of};
+ghost use Rattle.cg_snap.specs.PlanState.{HasTakenItems};
+ghost use Rattle.cg_snap.specs.Pulled.{IsStuck, StandsFor, WhatCame};
 
-use crate::course::{Moved, allowed, pull};
-use crate::entry_step::ended;
+use crate::course::{allowed, pull};
+use crate::entry::ended;
+use crate::event::{Event, Progress};
 use crate::limits::Limits;
 use crate::meter::Meter;
+use crate::plan_records::PlanRecords;
+use crate::records::Records;
 use crate::snapshot_records::SnapshotRecords;
 use crate::stop::Stop;
 use cg_text::ByteSet;
-use cg_value::{Entry, Profile};
+use cg_value::{Entry, PlanItem, Profile};
 use std::alloc::Global;
 
-/// What a call of `next` found.
+/// A decoder of a stream of records of a path, a NUL, a line and a newline. It takes the stream in pieces, however it's
+/// cut.
 #[derive(Drop)]
-pub enum What {
-    /// Nothing yet: the whole piece was consumed.
-    NeedMore,
-    /// An entry. The last byte consumed is the NUL after another path.
-    Entry(Entry),
-    /// A byte that stops the stream. It isn't consumed.
-    Stopped(Stop),
-    /// No memory was left for a byte, which isn't consumed.
-    OutOfMemory,
+pub struct Decoder<R> {
+    pub(crate) records: R,
+    pub(crate) meter: Meter,
+    pub(crate) stop: Option<Stop>,
 }
 
-/// What a call of `next` found, and how many bytes of the piece it consumed.
-#[derive(Drop)]
-pub struct Pulled {
-    pub used: usize,
-    pub what: What,
-}
+/// A decoder of a snapshot, whose records become an entry for each path.
+pub type SnapshotDecoder = Decoder<SnapshotRecords>;
 
-/// A decoder of a snapshot: records of a path, a NUL, a line and a newline, which become an entry for each path. It
-/// takes the snapshot in pieces, however it's cut.
-#[derive(Drop)]
-pub struct SnapshotDecoder {
-    records: SnapshotRecords,
-    meter: Meter,
-    stop: Option<Stop>,
-}
+/// A decoder of a plan, of whose records each is an item. The limit on the records of one path isn't looked at.
+pub type PlanDecoder = Decoder<PlanRecords>;
 
-impl SnapshotDecoder {
-    ghost use Rattle.cg_snap.specs.Decoder.{Stands, WhatIs, IsProgress, IsStuck, held_by, profile_of, limits_of, stop_of};
+/// What bytes of a snapshot came to.
+pub type What = Event<Entry>;
 
+/// What bytes of a plan came to.
+pub type PlanWhat = Event<PlanItem>;
+
+/// What `next` of a decoder of a snapshot answers.
+pub type Pulled = Progress<Entry>;
+
+/// What `next` of a decoder of a plan answers.
+pub type PlanPulled = Progress<PlanItem>;
+
+impl<R: Records> Decoder<R> {
     /// A decoder that consumed nothing. It takes no memory.
-    pub fn new(alloc: Global, profile: Profile, limits: Limits) -> SnapshotDecoder
-        ensures stands { Stands result [] [] }
-        ensures profile { profile_of result ≡ profile }
-        ensures limits { limits_of result ≡ limits }
-        ensures stop { stop_of result ≡ None }
+    pub fn new(alloc: Global, profile: Profile, limits: Limits) -> Decoder<R>
+        ensures stands { StandsFor (R.stream profile) result [] [] }
+        ensures profile { R.profile result.records ≡ profile }
+        ensures limits { result.meter.limits ≡ limits }
+        ensures stop { result.stop ≡ None }
     {
-        SnapshotDecoder {
-            records: SnapshotRecords::new(alloc, profile),
+        Decoder {
+            records: R::new(alloc, profile),
             meter: Meter::new(limits),
             stop: None,
         }
     }
 
-    /// Consumes bytes until one event: an entry, a stop, or no memory. Where none comes, it consumes the whole piece.
-    /// After a stop it consumes nothing and answers the same stop. After `OutOfMemory` the call may be made again with
-    /// the rest of the piece.
-    pub fn next(&mut self, piece: &[u8]) -> Pulled
-        ensures pulled { (p : List ℕ) (es : List EntryData) → stop_of self.old ≡ None → Stands self.old p es →
-            WhatIs self.new p es piece.now result.used result.what }
+    /// Consumes bytes until one event: a part, which is an entry or an item, a stop, or no memory. Where none comes, it
+    /// consumes the whole piece. After a stop it consumes nothing and answers the same stop. After `OutOfMemory` the
+    /// call may be made again with the rest of the piece.
+    pub fn next(&mut self, piece: &[u8]) -> Progress<R::Part>
+        ensures pulled { (p : List ℕ) (es : List R.Part) → self.old.stop ≡ None →
+            StandsFor (R.stream (R.profile self.old.records)) self.old p es →
+            WhatCame (R.stream (R.profile self.new.records)) self.new p es piece.now result.used result.what }
         ensures used { result.used ≤ length piece.now }
-        ensures progress { IsProgress (length piece.now) result.used result.what }
-        ensures stuck { (s : Stop) → stop_of self.old ≡ Some s → IsStuck self.old self.new result s }
-        ensures profile { profile_of self.new ≡ profile_of self.old }
-        ensures limits { limits_of self.new ≡ limits_of self.old }
+        ensures progress { IsMovedBy (length piece.now) result.used result.what }
+        ensures stuck { (s : Stop) → self.old.stop ≡ Some s → IsStuck self.old self.new result s }
+        ensures profile { R.profile self.new.records ≡ R.profile self.old.records }
+        ensures limits { self.new.meter.limits ≡ self.old.meter.limits }
     {
         if let Some(stop) = self.stop {
-            return Pulled {
+            return Progress {
                 used: 0,
-                what: What::Stopped(stop),
+                what: Event::Stopped(stop),
             };
         }
         let progress = pull(&mut self.records, &mut self.meter, piece);
-        let used = progress.used;
-        match progress.moved {
-            Moved::Taken => Pulled {
-                used,
-                what: What::NeedMore,
-            },
-            Moved::Given(entry) => Pulled {
-                used,
-                what: What::Entry(entry),
-            },
-            Moved::Stopped(stop) => {
-                self.stop = Some(stop);
-                Pulled {
-                    used,
-                    what: What::Stopped(stop),
-                }
-            }
-            Moved::OutOfMemory => Pulled {
-                used,
-                what: What::OutOfMemory,
-            },
+        if let Event::Stopped(stop) = &progress.what {
+            self.stop = Some(*stop);
         }
+        progress
     }
 
     /// How many bytes were consumed. It takes no memory.
     pub fn offset(&self) -> u64
-        ensures { (p : List ℕ) (es : List EntryData) → Stands self.now p es → result ≡ length p }
+        ensures { (p : List ℕ) (es : List R.Part) → StandsFor (R.stream (R.profile self.now.records)) self.now p es →
+            result ≡ length p }
     {
         self.meter.offset
     }
 
-    /// The bytes with which some snapshot goes on. Limits don't matter, nor a stop that came. It takes no memory.
+    /// The bytes with which some stream goes on. Limits don't matter, nor a stop that came. It takes no memory.
     pub fn allowed(&self) -> ByteSet
-        ensures { (p : List ℕ) (es : List EntryData) → Stands self.now p es → (byte : ℕ) → HasByte result byte ↔
-            Next (Snap (profile_of self.now)) p byte }
+        ensures { (p : List ℕ) (es : List R.Part) → StandsFor (R.stream (R.profile self.now.records)) self.now p es →
+            (byte : ℕ) → HasByte result byte ↔ Next (R.stream (R.profile self.now.records)).language p byte }
     {
         allowed(&self.records)
     }
+}
 
+impl Decoder<SnapshotRecords> {
     /// The sum of the lengths of its vectors, or `u64::MAX` where that is more. It takes no memory.
     pub fn held(&self) -> u64
         ensures exact { result ≡ told (held_by self.now) }
@@ -145,20 +135,20 @@ impl SnapshotDecoder {
             FinishIs (profile_of self) p es result }
         ensures stuck { (s : Stop) → stop_of self ≡ Some s → result ≡ Err s }
     {
-        let SnapshotDecoder {
+        let Decoder {
             records,
             meter,
             stop,
         } = self;
-        if let Some(stop) = stop {
-            return Err(stop);
+        match stop {
+            Some(stop) => Err(stop),
+            None => finish_records(records, meter.offset),
         }
-        finish_at(records, meter.offset)
     }
 }
 
-/// What the end of the stream makes of the records.
-pub(crate) fn finish_at(records: SnapshotRecords, at: u64) -> Result<Option<Entry>, Stop>
+/// What the end of a snapshot makes of the records.
+fn finish_records(records: SnapshotRecords, at: u64) -> Result<Option<Entry>, Stop>
     ensures { (profile : Profile) (p : List ℕ) (es : List EntryData) → HasTakenRecords records profile p es → at ≡
         length p → FinishIs profile p es result }
 {
@@ -182,5 +172,48 @@ pub(crate) fn finish_at(records: SnapshotRecords, at: u64) -> Result<Option<Entr
                 None => Err(Stop::Cut { at }),
             }
         }
+    }
+}
+
+impl Decoder<PlanRecords> {
+    /// The sum of the lengths of its vectors, or `u64::MAX` where that is more: never more than the record that is
+    /// begun. It takes no memory.
+    pub fn held(&self) -> u64
+        ensures exact { result ≡ told (plan_held_by self.now) }
+        ensures held { (p : List ℕ) (items : List ItemData) → StandsForPlan self.now p items → (begun : List ℕ) ×
+            IsBegun p begun × (plan_held_by self.now ≤ length begun) }
+    {
+        let begun = self.records.begun.len() as u64;
+        match &self.records.present {
+            None => begun,
+            Some(writing) => begun
+                .saturating_add(writing.path.len() as u64)
+                .saturating_add(writing.reader.held()),
+        }
+    }
+
+    /// Whether the stream is a whole plan, whose items were all given; or where a record is begun, `Cut` with the
+    /// stream's length; or the stop that came. It takes no memory.
+    pub fn finish(self) -> Result<(), Stop>
+        ensures finished { (p : List ℕ) (items : List ItemData) → plan_stop_of self ≡ None →
+            StandsForPlan self p items → PlanFinishIs (plan_profile_of self) p items result }
+        ensures stuck { (s : Stop) → plan_stop_of self ≡ Some s → result ≡ Err s }
+    {
+        match self.stop {
+            Some(stop) => Err(stop),
+            None => finish_items(&self.records, self.meter.offset),
+        }
+    }
+}
+
+/// What the end of a plan makes of the records.
+fn finish_items(records: &PlanRecords, at: u64) -> Result<(), Stop>
+    ensures { (profile : Profile) (p : List ℕ) (items : List ItemData) → HasTakenItems records.now profile p items →
+        at ≡ length p → PlanFinishIs profile p items result }
+{
+    if records.present.is_none() && records.begun.is_empty() {
+        Ok(())
+    } else {
+        Err(Stop::Cut { at })
     }
 }

@@ -1,14 +1,15 @@
 //! How much of a stream was consumed, and the limits of that.
-ghost use Rattle.std.specs.Prelude.{◌≡◌, ◌+◌, ◌-◌, ◌<◌, ◌≤◌, ℕ, List, [], ◌∷◌, ◌++◌, length};
-ghost use Rattle.cg_text.specs.Texts.{Lacks};
+ghost use Rattle.std.specs.Prelude.{◌≡◌, ◌+◌, ◌-◌, ◌<◌, ◌≤◌, ◌++◌, ℕ, List, [], length};
+ghost use Rattle.cg_snap.specs.Course.{AreOfRecord};
 ghost use Rattle.cg_snap.specs.Meter.{IsCounted, LimitIs};
 
 use crate::limits::Limits;
+use crate::path::ends_line;
 use crate::stop::Stop;
 
 /// Counts the bytes that were consumed, and those of the record that is begun.
 #[derive(Drop)]
-pub(crate) struct Meter {
+pub struct Meter {
     pub(crate) limits: Limits,
     pub(crate) offset: u64,
     pub(crate) record_len: u64,
@@ -44,51 +45,35 @@ impl Meter {
         None
     }
 
-    /// How many bytes without a newline pass no limit of the record or of the whole stream.
-    pub(crate) fn room(&self) -> u64
+    /// How many of so many bytes, of which none but the last is a newline, pass no limit of the record or of the whole
+    /// stream.
+    pub(crate) fn room(&self, bytes: usize) -> usize
+        ensures bytes { result ≤ bytes }
         ensures stream { result ≤ self.now.limits.max_stream - self.now.offset }
         ensures record { result ≤ self.now.limits.max_record - self.now.record_len }
+        ensures place { self.now.offset + result ≤ 18446744073709551615 }
+        ensures some { 0 < bytes → self.now.offset < self.now.limits.max_stream →
+            self.now.record_len < self.now.limits.max_record → 0 < result }
     {
         let far = self.limits.max_stream.saturating_sub(self.offset);
         let long = self.limits.max_record.saturating_sub(self.record_len);
-        far.min(long)
+        (bytes as u64).min(far).min(long) as usize
     }
 
-    /// Counts a byte.
-    pub(crate) fn count(&mut self, byte: u8)
-        requires stream { self.old.offset < self.old.limits.max_stream }
-        requires record { self.old.record_len < self.old.limits.max_record }
-        ensures counted { (p : List ℕ) → IsCounted self.old p → IsCounted self.new (p ++ byte ∷ []) }
+    /// Counts bytes, of which none but the last is a newline.
+    pub(crate) fn count(&mut self, bytes: &[u8])
+        requires stream { length bytes.now ≤ self.old.limits.max_stream - self.old.offset }
+        requires record { length bytes.now ≤ self.old.limits.max_record - self.old.record_len }
+        ensures counted { (p : List ℕ) → IsCounted self.old p → AreOfRecord bytes.now →
+            IsCounted self.new (p ++ bytes.now) }
         ensures limits { self.new.limits ≡ self.old.limits }
     {
-        self.offset += 1;
-        self.record_len = if byte == b'\n' {
+        let count = bytes.len() as u64;
+        self.offset += count;
+        self.record_len = if ends_line(bytes, bytes.len()) {
             0
         } else {
-            self.record_len + 1
+            self.record_len + count
         };
-    }
-
-    /// Counts what comes of a line with its newline.
-    pub(crate) fn count_line(&mut self, run: usize)
-        requires stream { run ≤ self.old.limits.max_stream - self.old.offset }
-        ensures counted { (p line : List ℕ) → IsCounted self.old p → run ≡ length line + 1 →
-            IsCounted self.new (p ++ (line ++ 10 ∷ [])) }
-        ensures limits { self.new.limits ≡ self.old.limits }
-    {
-        self.offset += run as u64;
-        self.record_len = 0;
-    }
-
-    /// Counts bytes without a newline.
-    pub(crate) fn count_run(&mut self, run: usize)
-        requires stream { run ≤ self.old.limits.max_stream - self.old.offset }
-        requires record { run ≤ self.old.limits.max_record - self.old.record_len }
-        ensures counted { (p bytes : List ℕ) → IsCounted self.old p → Lacks 10 bytes → run ≡ length bytes →
-            IsCounted self.new (p ++ bytes) }
-        ensures limits { self.new.limits ≡ self.old.limits }
-    {
-        self.offset += run as u64;
-        self.record_len += run as u64;
     }
 }

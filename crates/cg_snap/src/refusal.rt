@@ -1,12 +1,14 @@
 //! Why a byte can't come next.
-ghost use Rattle.std.specs.Prelude.{◌≡◌, ℕ, List, Some, true};
+ghost use Rattle.std.specs.Prelude.{◌≡◌, ℕ, List, Some, true, MatchBool, MatchResult, IfOk};
+ghost use Rattle.cg_text.specs.Texts.{Next};
 ghost use Rattle.cg_value.specs.Entry.{EntryData};
-ghost use Rattle.cg_snap.specs.DecoderState.{At, IsBetween, RefusalIs};
+ghost use Rattle.cg_snap.specs.DecoderState.{At, IsBetween, IsOfKind, IsOver, RefusalIs, TakesMore};
+ghost use Rattle.cg_snap.specs.Snap.{Snap};
 
-use crate::class::{PathClass, classify};
+use crate::class::readable;
 use crate::present::Present;
 use crate::stop::Why;
-use cg_value::Profile;
+use cg_value::{Profile, ReadKind};
 
 /// Why the byte can't come within a line.
 fn line_refusal(begun: &Vec<u8>, present: &Present, byte: u8) -> Option<Why>
@@ -21,29 +23,31 @@ fn line_refusal(begun: &Vec<u8>, present: &Present, byte: u8) -> Option<Why>
     }
 }
 
-/// Why no NUL can come after the path.
-fn nul_refusal(profile: Profile, begun: &Vec<u8>, present: &Option<Present>) -> Option<Why>
-    ensures { (p : List ℕ) (es : List EntryData) → At profile begun.now.items present.now p es → IsBetween present.now →
-        RefusalIs profile p 0 result }
+/// Whether the path that is begun is that of the present entry, whose file takes no further line.
+fn is_over(begun: &Vec<u8>, present: &Option<Present>) -> bool
+    ensures { MatchBool result (IsOver begun.now.items present.now) (TakesMore begun.now.items present.now) }
 {
-    match classify(profile, begun.as_slice()) {
-        PathClass::NoName => Some(Why::NoName),
-        PathClass::NotReadable => Some(Why::NotReadable),
-        PathClass::Readable(_) => match present {
-            None => None,
-            Some(x) => {
-                if x.path.as_slice() == begun.as_slice() {
-                    if x.reader.takes_line() {
-                        None
-                    } else {
-                        Some(Why::NoMoreLines)
-                    }
-                } else {
-                    None
-                }
-            }
-        },
+    match present {
+        Some(x) => x.path.as_slice() == begun.as_slice() && !x.reader.takes_line(),
+        None => false,
     }
+}
+
+/// The kind of the file at the path that is begun, of which a line may begin after a NUL; or why no NUL can come.
+pub(crate) fn kind_after(
+    profile: Profile,
+    begun: &Vec<u8>,
+    present: &Option<Present>,
+) -> Result<ReadKind, Why>
+    ensures after { (p : List ℕ) (es : List EntryData) → At profile begun.now.items present.now p es →
+        IsBetween present.now → MatchResult result (λ kind. IsOfKind profile begun.now.items kind ×
+        Next (Snap profile) p 0) (λ why. RefusalIs profile p 0 (Some why)) }
+    ensures kind { IfOk result (λ kind. IsOfKind profile begun.now.items kind) }
+{
+    if is_over(begun, present) {
+        return Err(Why::NoMoreLines);
+    }
+    readable(profile, begun.as_slice())
 }
 
 /// Why the byte can't come within a path, or after it.
@@ -57,7 +61,10 @@ fn path_refusal(
         RefusalIs profile p byte result }
 {
     if byte == 0 {
-        return nul_refusal(profile, begun, present);
+        return match kind_after(profile, begun, present) {
+            Ok(_) => None,
+            Err(why) => Some(why),
+        };
     }
     if byte == b'\n' {
         return Some(Why::PathByte);
@@ -75,10 +82,8 @@ pub(crate) fn refusal(
     ensures { (p : List ℕ) (es : List EntryData) → At profile begun.now.items present.now p es →
         RefusalIs profile p byte result }
 {
-    if let Some(x) = present {
-        if x.in_line {
-            return line_refusal(begun, x, byte);
-        }
+    match present {
+        Some(x) if x.in_line => line_refusal(begun, x, byte),
+        _ => path_refusal(profile, begun, present, byte),
     }
-    path_refusal(profile, begun, present, byte)
 }

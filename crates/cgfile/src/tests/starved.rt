@@ -14,7 +14,9 @@ use cg_print::{
     CutSink, EntryWriteFault, append_entry, append_item, print_file, print_setting, write_entry,
 };
 use cg_run::{Command, CutSource, Outcome, parse_words, run, status};
-use cg_snap::{Limits, Pulled, SnapshotDecoder, Stop, StreamFault, What, Why, decode_snapshot};
+use cg_snap::{
+    Event, Limits, Progress, Pulled, SnapshotDecoder, Stop, StreamFault, Why, decode_snapshot,
+};
 use cg_text::{Items, Key, KeyFault, NumberSet, OutOfMemory, StrictListText, Token};
 use cg_value::{
     Entry, Flat, FlatRefused, PlanItem, Profile, Setting, Value, read_kind, write_kind,
@@ -670,28 +672,28 @@ fn next_starved(
         let pulled = snapshot.next(rest);
         used = used.saturating_add(pulled.used);
         match pulled.what {
-            What::OutOfMemory => {
+            Event::OutOfMemory => {
                 let _ = held.pop();
             }
-            what => return Pulled { used, what },
+            what => return Progress { used, what },
         }
     }
-    Pulled {
+    Progress {
         used,
-        what: What::OutOfMemory,
+        what: Event::OutOfMemory,
     }
 }
 
 /// Whether the two entries of a snapshot come where they do.
 fn gives_two(alloc: Global, held: &mut Blocks) -> bool {
     let mut snapshot = decoder(alloc);
-    let Pulled { used, what } = next_starved(&mut snapshot, held, TWO_FILES, 0);
+    let Progress { used, what } = next_starved(&mut snapshot, held, TWO_FILES, 0);
     let first = match what {
-        What::Entry(entry) => Some(entry),
+        Event::Given(entry) => Some(entry),
         _ => None,
     };
     let rest = next_starved(&mut snapshot, held, TWO_FILES, used);
-    let is_all = rest.used == 35 && matches!(&rest.what, What::NeedMore);
+    let is_all = rest.used == 35 && matches!(&rest.what, Event::NeedMore);
     let last = last_entry(snapshot);
     used == 33
         && is_all
@@ -708,7 +710,7 @@ fn stops_at_line(alloc: Global, held: &mut Blocks) -> bool {
     };
     let pulled = next_starved(&mut snapshot, held, LINE_TOO_MANY, 0);
     let is_stopped = match pulled.what {
-        What::Stopped(stop) => stop == refused,
+        Event::Stopped(stop) => stop == refused,
         _ => false,
     };
     let is_here = pulled.used == 26 && snapshot.offset() == 26;
@@ -732,8 +734,8 @@ fn given_after(
     place: usize,
 ) -> Option<usize> {
     match next_starved(snapshot, held, piece, 0).what {
-        What::NeedMore => Some(place),
-        What::Entry(entry) => { is_at(entries, place, &entry).then_some(place.saturating_add(1)) }
+        Event::NeedMore => Some(place),
+        Event::Given(entry) => { is_at(entries, place, &entry).then_some(place.saturating_add(1)) }
         _ => None,
     }
 }

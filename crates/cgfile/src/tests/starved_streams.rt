@@ -7,7 +7,7 @@ use crate::tests::starved::{Blocks, hog, is_printed};
 use cg_json::{line, view};
 use cg_line::{UpgradeFault, upgrade};
 use cg_snap::{
-    EncodeFault, Limits, PlanDecoder, PlanPulled, PlanWhat, Stop, StreamFault, Why, decode_plan,
+    EncodeFault, Event, Limits, PlanDecoder, PlanPulled, Progress, Stop, StreamFault, Why, decode_plan,
     encode_plan, encode_snapshot,
 };
 use cg_text::{Items, Key, Limit, OutOfMemory};
@@ -28,15 +28,15 @@ fn next_starved(plan: &mut PlanDecoder, held: &mut Blocks, piece: &[u8]) -> Plan
         let pulled = plan.next(rest);
         used = used.saturating_add(pulled.used);
         match pulled.what {
-            PlanWhat::OutOfMemory => {
+            Event::OutOfMemory => {
                 let _ = held.pop();
             }
-            what => return PlanPulled { used, what },
+            what => return Progress { used, what },
         }
     }
-    PlanPulled {
+    Progress {
         used,
-        what: PlanWhat::OutOfMemory,
+        what: Event::OutOfMemory,
     }
 }
 
@@ -51,19 +51,19 @@ fn gives(
     let mut plan = PlanDecoder::new(alloc, Profile::One, Limits::DEFAULT);
     let mut consumed: usize = 0;
     for piece in text.chunks(size.max(1)) {
-        let PlanPulled { used, what } = next_starved(&mut plan, held, piece);
+        let Progress { used, what } = next_starved(&mut plan, held, piece);
         consumed = consumed.saturating_add(used);
         if plan.offset() != consumed as u64 || plan.held() > plan.offset() {
             return false;
         }
         match (what, wanted) {
-            (PlanWhat::NeedMore, _) => {}
-            (PlanWhat::Item(item), Ok(setting)) => {
+            (Event::NeedMore, _) => {}
+            (Event::Given(item), Ok(setting)) => {
                 return consumed == text.len()
                     && *item.setting() == *setting
                     && plan.finish() == Ok(());
             }
-            (PlanWhat::Stopped(told), Err(stop)) => {
+            (Event::Stopped(told), Err(stop)) => {
                 return consumed.saturating_add(1) == text.len()
                     && told == stop
                     && plan.finish() == Err(stop);

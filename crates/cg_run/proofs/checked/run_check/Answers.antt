@@ -4,9 +4,9 @@ use Rattle.cg_run.specs.Check.{HasNoParts, PartsOfAll, finding_lines}
 use Rattle.cg_run.proofs.Checking.{early_checked}
 use Rattle.cg_run.proofs.checked.run_check.Goals as goal
 
-pub returns-in-Ended-clause-ran : goal.returns-in-Ended-clause-ran
-returns-in-Ended-clause-ran g c fresh =
-    let h = c.in-Ended.ensures.read (c.args.profile, c.args.limits) c.new-kept.ensures fresh in
+pub returns-in-Err-clause-ran : goal.returns-in-Err-clause-ran
+returns-in-Err-clause-ran g c fresh =
+    let h = c.in-Err.ensures.read (c.args.profile, c.args.limits) c.new-kept.ensures fresh in
     record {
       read = h.read;
       consumed = h.consumed;
@@ -17,10 +17,10 @@ returns-in-Ended-clause-ran g c fresh =
       wrote = h.wrote;
     }
 
-pub returns-in-AtEnd-clause-ran : goal.returns-in-AtEnd-clause-ran
-returns-in-AtEnd-clause-ran g c fresh =
-    let h = c.in-AtEnd.ensures.read (c.args.profile, c.args.limits) c.new-kept.ensures fresh in
-    let e = c.told_findings.ensures.ended (c.args.profile, c.args.limits) (g.W.Sink.taken c.args.writer.now) h.0.read c.in-AtEnd.written h.0.before
+pub returns-in-Ok-clause-ran : goal.returns-in-Ok-clause-ran
+returns-in-Ok-clause-ran g c fresh =
+    let h = c.in-Ok.ensures.read (c.args.profile, c.args.limits) c.new-kept.ensures fresh in
+    let e = c.write_findings.ensures.ended (c.args.profile, c.args.limits) (g.W.Sink.taken c.args.writer.now) h.0.read c.in-Ok.field-0.written h.0.before
     (g.R.Source.coming c.read_stream.new.reader) (g.R.Source.has_failed c.read_stream.new.reader) h.1 h.0.works in
     record {
       read = h.0.read;

@@ -1,8 +1,9 @@
 use Rattle.std.proofs.Common.{◌≡◌, ◌++◌, length, take, drop, ap, arith, length-drop}
-use Rattle.cg_snap.specs.declared.decoder.What.TheVariants as whats
+use Rattle.cg_snap.specs.declared.event.Event.TheVariants as events
 use Rattle.cg_run.proofs.Decoding.{decoded_entry, decoded_none, left_none, left_starved, left_stopped}
 use Rattle.cg_run.proofs.Pulled.{pulled_is}
 use Rattle.cg_run.proofs.shown.decode.Goals as goal
+use Rattle.cg_run.proofs.shown.decode.Goals.{in-NeedMore, in-Stopped, in-OutOfMemory}
 
 pub entries-init : goal.entries-init
 entries-init c = record {
@@ -19,21 +20,20 @@ entries-preserved c =
     let n = c.next-pulled.result.used in
     let was = c.entries.decoder in
     let now = c.next-pulled.new.self in
-    let seen = rw c.in-Entry.is at c.seen_of.ensures in
     let left : length rest ≡ length (drop at piece) = ap length c.split_at.ensures.back in
     record {
       within = omega (arith, c.next-pulled.ensures.used, left, length-drop at piece, c.entries.invariant.within);
       closed = omega arith;
       decoded = λ profile limits p es h.
           let b = c.entries.invariant.decoded profile limits p es h in
-          let what = rw seen.1 at (c.next-pulled.ensures.pulled (p ++ take at piece) (es ++ b.more) b.taken.stop b.taken.stands) in
-          let pulled = pulled_is was now profile limits (p ++ take at piece) (es ++ b.more) rest n b.taken c.next-pulled.ensures.profile c.next-pulled.ensures.limits (whats.Entry seen.0) what in
+          let what = rw c.in-Given.is at (c.next-pulled.ensures.pulled (p ++ take at piece) (es ++ b.more) b.taken.stop b.taken.stands) in
+          let pulled = pulled_is was now profile limits (p ++ take at piece) (es ++ b.more) rest n b.taken c.next-pulled.ensures.profile c.next-pulled.ensures.limits (events.Given c.in-Given.field-0) what in
           decoded_entry profile limits p es piece was now rest at n c.entries.closed c.split_at.ensures.back c.entries.invariant.within c.next-pulled.ensures.used b
-          c.next-pulled.ensures.profile c.next-pulled.ensures.limits seen.0 pulled;
+          c.next-pulled.ensures.profile c.next-pulled.ensures.limits c.in-Given.field-0 pulled;
     }
 
-pub returns-in-NeedMore-clause-decoded : goal.returns-in-NeedMore-clause-decoded
-returns-in-NeedMore-clause-decoded c profile limits p es h =
+pub returns-in-entries-clause-decoded : goal.returns-in-entries-clause-decoded
+returns-in-entries-clause-decoded c profile limits p es h =
     let piece = c.args.piece.now in
     let rest = c.split_at.result.1.now in
     let at = c.entries.used in
@@ -41,55 +41,29 @@ returns-in-NeedMore-clause-decoded c profile limits p es h =
     let was = c.entries.decoder in
     let now = c.next-pulled.new.self in
     let b = c.entries.invariant.decoded profile limits p es h in
-    let what = rw (rw c.in-NeedMore.is at c.seen_of.ensures) at (c.next-pulled.ensures.pulled (p ++ take at piece) (es ++ b.more) b.taken.stop b.taken.stands) in
-    let pulled = pulled_is was now profile limits (p ++ take at piece) (es ++ b.more) rest n b.taken c.next-pulled.ensures.profile c.next-pulled.ensures.limits whats.NeedMore what in
+    let front = p ++ take at piece in
+    let all = es ++ b.more in
+    let back = c.split_at.ensures.back in
+    let inside = c.entries.invariant.within in
+    let within = c.next-pulled.ensures.used in
+    let same_profile = c.next-pulled.ensures.profile in
+    let same_limits = c.next-pulled.ensures.limits in
+    let seen = c.next-pulled.ensures.pulled front all b.taken.stop b.taken.stands in
     record {
       more = b.more;
       close = b.close;
-      left = left_none profile limits p es piece was now rest at n c.entries.closed c.split_at.ensures.back c.entries.invariant.within c.next-pulled.ensures.used b
-          c.next-pulled.ensures.profile c.next-pulled.ensures.limits pulled (omega (arith, what.1));
+      left = elim c.match-pulled.branch [
+        | in-NeedMore w ↦
+            let what = rw w.in-NeedMore.is at seen in
+            let pulled = pulled_is was now profile limits front all rest n b.taken same_profile same_limits events.NeedMore what in
+            rw w.what-is (left_none profile limits p es piece was now rest at n c.entries.closed back inside within b same_profile same_limits pulled (omega (arith, what.1)))
+        | in-Stopped w ↦
+            let what = rw w.in-Stopped.is at seen in
+            let pulled = pulled_is was now profile limits front all rest n b.taken same_profile same_limits (events.Stopped w.in-Stopped.stop) what in
+            rw w.what-is (left_stopped profile limits p es piece was now rest at n c.entries.closed back inside within b same_profile same_limits w.in-Stopped.stop pulled)
+        | in-OutOfMemory w ↦
+            let what = rw w.in-OutOfMemory.is at seen in
+            let pulled = pulled_is was now profile limits front all rest n b.taken same_profile same_limits events.OutOfMemory what in
+            rw w.what-is (left_starved profile limits p es piece was now rest at n c.entries.closed back inside within b same_profile same_limits pulled)
+      ];
     }
-
-pub returns-in-Stopped-clause-decoded : goal.returns-in-Stopped-clause-decoded
-returns-in-Stopped-clause-decoded c profile limits p es h =
-    let piece = c.args.piece.now in
-    let rest = c.split_at.result.1.now in
-    let at = c.entries.used in
-    let n = c.next-pulled.result.used in
-    let was = c.entries.decoder in
-    let now = c.next-pulled.new.self in
-    let b = c.entries.invariant.decoded profile limits p es h in
-    let what = rw (rw c.in-Stopped.is at c.seen_of.ensures) at (c.next-pulled.ensures.pulled (p ++ take at piece) (es ++ b.more) b.taken.stop b.taken.stands) in
-    let pulled = pulled_is was now profile limits (p ++ take at piece) (es ++ b.more) rest n b.taken c.next-pulled.ensures.profile c.next-pulled.ensures.limits (whats.Stopped c.in-Stopped.stop) what in
-    record {
-      more = b.more;
-      close = b.close;
-      left = left_stopped profile limits p es piece was now rest at n c.entries.closed c.split_at.ensures.back c.entries.invariant.within c.next-pulled.ensures.used b
-          c.next-pulled.ensures.profile c.next-pulled.ensures.limits c.in-Stopped.stop pulled;
-    }
-
-pub returns-in-OutOfMemory-clause-decoded : goal.returns-in-OutOfMemory-clause-decoded
-returns-in-OutOfMemory-clause-decoded c profile limits p es h =
-    let piece = c.args.piece.now in
-    let rest = c.split_at.result.1.now in
-    let at = c.entries.used in
-    let n = c.next-pulled.result.used in
-    let was = c.entries.decoder in
-    let now = c.next-pulled.new.self in
-    let b = c.entries.invariant.decoded profile limits p es h in
-    let what = rw (rw c.in-OutOfMemory.is at c.seen_of.ensures) at (c.next-pulled.ensures.pulled (p ++ take at piece) (es ++ b.more) b.taken.stop b.taken.stands) in
-    let pulled = pulled_is was now profile limits (p ++ take at piece) (es ++ b.more) rest n b.taken c.next-pulled.ensures.profile c.next-pulled.ensures.limits whats.OutOfMemory what in
-    record {
-      more = b.more;
-      close = b.close;
-      left = left_starved profile limits p es piece was now rest at n c.entries.closed c.split_at.ensures.back c.entries.invariant.within c.next-pulled.ensures.used b
-          c.next-pulled.ensures.profile c.next-pulled.ensures.limits pulled;
-    }
-
-pub returns-in-NeedMore-clause-progress : goal.returns-in-NeedMore-clause-progress
-returns-in-NeedMore-clause-progress c =
-    let piece = c.args.piece.now in
-    let rest = c.split_at.result.1.now in
-    let all : c.next-pulled.result.used ≡ length rest = rw (rw c.in-NeedMore.is at c.seen_of.ensures) at c.next-pulled.ensures.progress in
-    let left : length rest ≡ length (drop c.entries.used piece) = ap length c.split_at.ensures.back in
-    λ some. omega (arith, some, all, left, length-drop c.entries.used piece, c.entries.invariant.within)

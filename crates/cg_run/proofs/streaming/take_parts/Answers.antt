@@ -1,64 +1,116 @@
-use Rattle.std.proofs.Common.{◌≡◌, ◌≢◌, ◌++◌, ◌∷◌, [], ℕ, List, sym, ◌∙◌, ap, subst, take, drop, length, append-nil, arith, refl}
-use Rattle.std.proofs.Math.Seq.{take-length}
-use Rattle.std.proofs.lemmas.Grind.{common_steps}
-use Rattle.cg_run.specs.Streaming.{Gathers}
-use Rattle.cg_run.proofs.Streams.{parts_fault_ends}
-use Rattle.cg_run.proofs.Written.{gathered_none, gathered_some, gathers_none}
+use Rattle.std.specs.Prelude.{MatchResult, OnErr, OnOk, Result, Ok, Err}
+use Rattle.std.proofs.Common.{◌≡◌, ◌+◌, ◌≤◌, ◌++◌, ℕ, List, refl, ap, subst, take, length, length-drop, arith}
+use Rattle.std.proofs.lemmas.List.{take_all}
+use Rattle.std.proofs.lemmas.Result.{err_from_is_err_and}
+use Rattle.cg_snap.specs.declared.event.Event.TheVariants as events
+use Rattle.cg_run.specs.declared.output.Output.{Output}
+use Rattle.cg_run.proofs.Streams.{fault_ends, goes_on, memory_ends, next_on, stop_ends}
+use Rattle.cg_run.proofs.Written.{held_some, none_held}
 use Rattle.cg_run.proofs.streaming.take_parts.Goals as goal
 
-nothing_left : (xs : List ℕ) → [] ≡ drop (length xs) xs
-nothing_left [] = refl
-nothing_left (x ∷ xs) = nothing_left xs
+either : {A E X Y : Type 0} {P Q : A → Type 0} {R S : E → Type 0} (r : Result A E) → MatchResult r P R → OnOk r X → OnErr r Y →
+    ((a : A) → P a → X → Q a) → ((e : E) → R e → Y → S e) → MatchResult r Q S
+either (Ok a) h x y f g = f a h x
+either (Err e) h x y f g = g e h y
 
-pub returns-in-Some-clause-took : goal.returns-in-Some-clause-took
-returns-in-Some-clause-took g c form first read h left failed =
-    c.in-Some.ensures.took form first read
-    (record {
-      parts = h.parts;
-      took = h.took;
-      gathers = gathers_none first (g.W.Sink.taken c.args.writer.now) h.parts c.args.written.now c.new-gathered.result.items c.new-gathered.ensures.items h.wrote;
-    }) left failed
+pub returns-in-Stopped-clause-took : goal.returns-in-Stopped-clause-took
+returns-in-Stopped-clause-took g c form first read h left failed =
+    let at = c.loop-used.used in
+    let n = c.next-progress.result.used in
+    let what = c.next-progress.result.what in
+    let piece = c.args.piece.now in
+    let rest = c.split_at.result.1.now in
+    let s = c.next-progress.new.self in
+    let b = c.loop-used.invariant.before form first read h in
+    let output : Output = record { text = c.next-progress.new.out; written = c.loop-used.output.written } in
+    let on = next_on (g.S.StreamReader.took s form) (g.S.StreamReader.whole form) (g.S.StreamReader.closes form) (g.S.StreamReader.unstopped form) (g.S.StreamReader.stops form)
+    first (g.W.Sink.taken c.loop-used.writer) c.loop-used.output output read piece rest at n what (events.Stopped c.in-Stopped.stop) b.parts c.split_at.ensures.back c.loop-used.invariant.within c.in-Stopped.is b.holds
+    (c.next-progress.ensures.found form (read ++ take at piece) b.parts b.took) refl in
+    let within : at + n ≤ length piece = omega (arith, c.next-progress.ensures.used, ap length c.split_at.ensures.back, length-drop at piece, c.loop-used.invariant.within) in
+    stop_ends (g.S.StreamReader.took s form) (g.S.StreamReader.whole form) (g.S.StreamReader.closes form) (g.S.StreamReader.unstopped form) (g.S.StreamReader.stops form)
+    read piece (at + n) within left failed first (g.W.Sink.taken c.finish.new.writer) (g.W.Sink.has_failed c.finish.new.writer) (on.0) c.finish.result
+    c.in-Stopped.stop on.1 (c.finish.ensures.wrote first (on.0) on.2)
 
-pub returns-then-is_empty-clause-took : goal.returns-then-is_empty-clause-took
-returns-then-is_empty-clause-took g c form first read h =
-    let b = c.in-None.ensures.took form first read
-    (record {
-      parts = h.parts;
-      took = h.took;
-      gathers = gathers_none first (g.W.Sink.taken c.args.writer.now) h.parts c.args.written.now c.new-gathered.result.items c.new-gathered.ensures.items h.wrote;
-    }) in
-    let none : c.gather_parts.new.gathered.items ≡ [] = grind (arith, common_steps) in
-    record { parts = b.parts; took = b.took; wrote = gathered_none first (g.W.Sink.taken c.gather_parts.new.writer) b.parts c.gather_parts.new.written c.gather_parts.new.gathered.items none b.gathers }
+pub returns-in-OutOfMemory-clause-took : goal.returns-in-OutOfMemory-clause-took
+returns-in-OutOfMemory-clause-took g c form first read h left failed =
+    let at = c.loop-used.used in
+    let n = c.next-progress.result.used in
+    let what = c.next-progress.result.what in
+    let piece = c.args.piece.now in
+    let rest = c.split_at.result.1.now in
+    let s = c.next-progress.new.self in
+    let b = c.loop-used.invariant.before form first read h in
+    let output : Output = record { text = c.next-progress.new.out; written = c.loop-used.output.written } in
+    let on = next_on (g.S.StreamReader.took s form) (g.S.StreamReader.whole form) (g.S.StreamReader.closes form) (g.S.StreamReader.unstopped form) (g.S.StreamReader.stops form)
+    first (g.W.Sink.taken c.loop-used.writer) c.loop-used.output output read piece rest at n what events.OutOfMemory b.parts c.split_at.ensures.back c.loop-used.invariant.within c.in-OutOfMemory.is b.holds
+    (c.next-progress.ensures.found form (read ++ take at piece) b.parts b.took) refl in
+    let within : at + n ≤ length piece = omega (arith, c.next-progress.ensures.used, ap length c.split_at.ensures.back, length-drop at piece, c.loop-used.invariant.within) in
+    let after = c.finish-in-OutOfMemory in
+    memory_ends (g.S.StreamReader.took s form) (g.S.StreamReader.whole form) (g.S.StreamReader.closes form) (g.S.StreamReader.unstopped form) (g.S.StreamReader.stops form)
+    read piece (at + n) within left failed first (g.W.Sink.taken after.new.writer) (g.W.Sink.has_failed after.new.writer) (on.0) after.result
+    on.1 (after.ensures.wrote first (on.0) on.2)
 
-pub returns-in-None-told_gathered-clause-took : goal.returns-in-None-told_gathered-clause-took
-returns-in-None-told_gathered-clause-took g c form first read h =
-    let b = c.in-None.ensures.took form first read
-    (record {
-      parts = h.parts;
-      took = h.took;
-      gathers = gathers_none first (g.W.Sink.taken c.args.writer.now) h.parts c.args.written.now c.new-gathered.result.items c.new-gathered.ensures.items h.wrote;
-    }) in
-    let gathers = subst (λ (t : List ℕ). Gathers first (g.W.Sink.taken c.gather_parts.new.writer) b.parts c.gather_parts.new.written t) (sym c.as_slice.ensures.value) b.gathers in
-    record { parts = b.parts; took = b.took; wrote = c.in-None-told_gathered.ensures.wrote first b.parts gathers }
+pub loop-used-preserved : goal.loop-used-preserved
+loop-used-preserved g c = record {
+  within = omega (arith, c.next-progress.ensures.used, ap length c.split_at.ensures.back, length-drop c.loop-used.used c.args.piece.now, c.loop-used.invariant.within);
+  before = λ form first read h.
+      let at = c.loop-used.used in
+      let n = c.next-progress.result.used in
+      let what = c.next-progress.result.what in
+      let piece = c.args.piece.now in
+      let rest = c.split_at.result.1.now in
+      let s = c.next-progress.new.self in
+      let b = c.loop-used.invariant.before form first read h in
+      let output : Output = record { text = c.next-progress.new.out; written = c.loop-used.output.written } in
+      let on = next_on (g.S.StreamReader.took s form) (g.S.StreamReader.whole form) (g.S.StreamReader.closes form) (g.S.StreamReader.unstopped form) (g.S.StreamReader.stops form)
+      first (g.W.Sink.taken c.loop-used.writer) c.loop-used.output output read piece rest at n what what b.parts c.split_at.ensures.back c.loop-used.invariant.within refl b.holds
+      (c.next-progress.ensures.found form (read ++ take at piece) b.parts b.took) refl in
+      record {
+        parts = on.0;
+        took = goes_on (g.S.StreamReader.took s form) (g.S.StreamReader.whole form) (g.S.StreamReader.closes form) (g.S.StreamReader.unstopped form) (g.S.StreamReader.stops form) read piece (at + n) (on.0) what c.in-NeedMore.is on.1;
+        holds = c.in_ok-write_many-in-NeedMore.ensures.wrote first (on.0) on.2;
+      };
+}
+
+pub returns-in_err-write_many-in-NeedMore-clause-took : goal.returns-in_err-write_many-in-NeedMore-clause-took
+returns-in_err-write_many-in-NeedMore-clause-took g c form first read h =
+    let at = c.loop-used.used in
+    let n = c.next-progress.result.used in
+    let what = c.next-progress.result.what in
+    let piece = c.args.piece.now in
+    let rest = c.split_at.result.1.now in
+    let s = c.next-progress.new.self in
+    let b = c.loop-used.invariant.before form first read h in
+    let output : Output = record { text = c.next-progress.new.out; written = c.loop-used.output.written } in
+    let on = next_on (g.S.StreamReader.took s form) (g.S.StreamReader.whole form) (g.S.StreamReader.closes form) (g.S.StreamReader.unstopped form) (g.S.StreamReader.stops form)
+    first (g.W.Sink.taken c.loop-used.writer) c.loop-used.output output read piece rest at n what what b.parts c.split_at.ensures.back c.loop-used.invariant.within refl b.holds
+    (c.next-progress.ensures.found form (read ++ take at piece) b.parts b.took) refl in
+    let within : at + n ≤ length piece = omega (arith, c.next-progress.ensures.used, ap length c.split_at.ensures.back, length-drop at piece, c.loop-used.invariant.within) in
+    let fault = c.in_err-write_many-in-NeedMore in
+    let took = goes_on (g.S.StreamReader.took s form) (g.S.StreamReader.whole form) (g.S.StreamReader.closes form) (g.S.StreamReader.unstopped form) (g.S.StreamReader.stops form) read piece (at + n) (on.0) what c.in-NeedMore.is on.1 in
+    let e = err_from_is_err_and c.from_residual.result c.from_residual.ensures.1 in
+    rw (e.1, e.2) (λ left failed.
+    fault_ends (g.S.StreamReader.took s form) (g.S.StreamReader.whole form) (g.S.StreamReader.closes form) (g.S.StreamReader.unstopped form) (g.S.StreamReader.stops form)
+    read piece (at + n) within left failed first (g.W.Sink.taken c.write_many.new.writer) (g.W.Sink.has_failed c.write_many.new.writer) (on.0) fault.field-0.0
+    (held_some first (g.W.Sink.taken c.loop-used.writer) (on.0) output on.2 fault.ensures.some)
+    (g.met.S.StreamReader.passed s form (read ++ take (at + n) piece) (on.0) took) (g.met.S.StreamReader.closed s form (read ++ take (at + n) piece) (on.0) took)
+    (fault.ensures.wrote first (on.0) on.2))
 
 pub returns-clause-took : goal.returns-clause-took
-returns-clause-took g c form first read h left failed =
-    let b = c.in-None.ensures.took form first read
-    (record {
-      parts = h.parts;
-      took = h.took;
-      gathers = gathers_none first (g.W.Sink.taken c.args.writer.now) h.parts c.args.written.now c.new-gathered.result.items c.new-gathered.ensures.items h.wrote;
-    }) in
-    let gathers = subst (λ (t : List ℕ). Gathers first (g.W.Sink.taken c.gather_parts.new.writer) b.parts c.gather_parts.new.written t) (sym c.as_slice.ensures.value) b.gathers in
+returns-clause-took g c form first read h =
+    let at = c.loop-used.used in
     let piece = c.args.piece.now in
-    let s = c.gather_parts.new.stream in
-    let some : c.gather_parts.new.gathered.items ≢ [] = λ e. absurd (let many = ap length e in grind (arith, common_steps)) in
-    let all : read ++ piece ≡ (read ++ take (length piece) piece) ++ [] = ap (λ t. read ++ t) (sym (take-length piece)) ∙ sym (append-nil (read ++ take (length piece) piece)) in
-    parts_fault_ends (g.S.StreamReader.took s form) (g.S.StreamReader.whole form) (g.S.StreamReader.closes form)
-    (g.S.StreamReader.unstopped form) (g.S.StreamReader.stops form) (g.met.S.StreamReader.closed s form)
-    (g.met.S.StreamReader.passed s form)
-    read piece [] (length piece) 0 (nothing_left piece) (omega arith) (omega arith) left failed
-    first (g.W.Sink.taken c.told_gathered.new.writer) (g.W.Sink.has_failed c.told_gathered.new.writer) b.parts c.in-Some-told_gathered.fault
-    (gathered_some first (g.W.Sink.taken c.gather_parts.new.writer) b.parts c.gather_parts.new.written c.gather_parts.new.gathered.items some b.gathers)
-    (subst (λ (t : List ℕ). g.S.StreamReader.took s form t b.parts) all b.took)
-    (c.in-Some-told_gathered.ensures.wrote first b.parts gathers)
+    let s = c.loop-used.stream in
+    let b = c.loop-used.invariant.before form first read h in
+    let all : take at piece ≡ piece = take_all at piece (omega (arith, c.loop-used-test.false)) in
+    either c.write.result (c.write.ensures.wrote first b.parts b.holds) c.write.ensures.none c.write.ensures.some
+    (λ u holds none. record {
+      parts = b.parts;
+      took = subst (λ (t : List ℕ). g.S.StreamReader.took s form (read ++ t) b.parts) all b.took;
+      wrote = none_held first (g.W.Sink.taken c.write.new.writer) b.parts c.write.new.self holds none;
+    })
+    (λ o wrote some left failed.
+    fault_ends (g.S.StreamReader.took s form) (g.S.StreamReader.whole form) (g.S.StreamReader.closes form) (g.S.StreamReader.unstopped form) (g.S.StreamReader.stops form)
+    read piece at c.loop-used.invariant.within left failed first (g.W.Sink.taken c.write.new.writer) (g.W.Sink.has_failed c.write.new.writer) b.parts o
+    (held_some first (g.W.Sink.taken c.loop-used.writer) b.parts c.loop-used.output b.holds some)
+    (g.met.S.StreamReader.passed s form (read ++ take at piece) b.parts b.took) (g.met.S.StreamReader.closed s form (read ++ take at piece) b.parts b.took) wrote)

@@ -1,49 +1,33 @@
-use Rattle.std.proofs.Common.{◌++◌, ◌∷◌, [], refl}
-use Rattle.cg_snap.proofs.Courses.{free_of, limit_stops, moved, refused_stops, stayed}
-use Rattle.cg_snap.proofs.Stops.{unstopped_push}
+use Rattle.std.proofs.Common.{◌++◌, List, ℕ, append-nil, take, refl, sym, subst, arith}
+use Rattle.cg_snap.specs.Course.{AreOfRecord}
+use Rattle.cg_snap.specs.Meter.{IsCounted}
+use Rattle.cg_snap.proofs.Courses.{advanced, front_advances, limit_stops, refused_stops}
 use Rattle.cg_snap.proofs.course.advance.Goals as goal
+use Rattle.cg_snap.proofs.course.advance.Goals.{in-Some-refusal, in-None}
 
-pub returns-in-Some-refusal-clause-moved : goal.returns-in-Some-refusal-clause-moved
-returns-in-Some-refusal-clause-moved g c form p es h = (
-  refused_stops ((g.R.Records.stream form).language) ((g.R.Records.stream form).breaks) ((g.R.Records.stream form).many)
-      c.args.meter.now p c.args.byte c.args.meter.now.offset c.in-Some-refusal.why h.counted h.unstopped refl (c.in-Some-refusal.ensures form p es h.state),
-  h,
-)
+pub returns-in-Some-clause-advances : goal.returns-in-Some-clause-advances
+returns-in-Some-clause-advances g c form p es h =
+    let stream = g.R.Records.stream form in
+    let meter = c.args.meter.now in
+    elim c.match-refusal.branch [
+      | in-Some-refusal w ↦ rw (append-nil p, w.stop-is) (c.requires, refused_stops stream.language stream.breaks stream.many meter p _ meter.offset w.in-Some-refusal.why h.counted h.unstopped refl (w.in-Some-refusal.ensures form p es h.state), h)
+      | in-None w ↦ rw (append-nil p, w.stop-is)
+          (c.requires, limit_stops stream.language stream.breaks stream.many meter p _ c.is_full.result c.in-Some.limit h.counted h.unstopped c.in-Some.ensures (c.is_full.ensures form p es h.state) (w.in-None.ensures form p es h.state), h)
+    ]
 
-pub returns-in-None-clause-moved : goal.returns-in-None-clause-moved
-returns-in-None-clause-moved g c form p es h = (
-  limit_stops ((g.R.Records.stream form).language) ((g.R.Records.stream form).breaks) ((g.R.Records.stream form).many)
-      c.args.meter.now p c.args.byte c.is_full.result c.in-Some.limit h.counted h.unstopped c.in-Some.ensures (c.is_full.ensures form p es h.state) (c.in-None.ensures form p es h.state),
-  h,
-)
+pub take-progress-requires : goal.take-progress-requires
+take-progress-requires g c = record { place = omega (arith, c.room.ensures.place, c.split_at.ensures.front_len) }
 
-pub returns-in-Taken-clause-moved : goal.returns-in-Taken-clause-moved
-returns-in-Taken-clause-moved g c form p es h =
-    moved (g.R.Records.stream form) (λ s. g.R.Records.closed s form) (λ s. g.R.Records.goes_on s form)
-    c.step.new.self c.args.meter.now c.count.new.self p es c.args.byte c.is_full.result (c.in-Taken.ensures.did form p es h.state) h.counted (c.count.ensures.counted p h.counted) c.count.ensures.limits
-    h.unstopped c.in_default.ensures (c.is_full.ensures form p es h.state)
-
-pub returns-in-Given-clause-moved : goal.returns-in-Given-clause-moved
-returns-in-Given-clause-moved g c form p es h = (
-  g.R.Records.closed c.args.records.now form p es h.state,
-  moved (g.R.Records.stream form) (λ s. g.R.Records.closed s form) (λ s. g.R.Records.goes_on s form)
-      c.step.new.self c.args.meter.now c.count-in-Given.new.self p (es ++ c.in-Given.part ∷ []) c.args.byte c.is_full.result (c.in-Given.ensures.did form p es h.state) h.counted
-      (c.count-in-Given.ensures.counted p h.counted) c.count-in-Given.ensures.limits h.unstopped c.in_default.ensures (c.is_full.ensures form p es h.state),
-)
-
-pub returns-in-Refused-clause-moved : goal.returns-in-Refused-clause-moved
-returns-in-Refused-clause-moved g c form p es h =
-    let did = c.in-Refused.ensures.did form p es h.state in (
-      refused_stops ((g.R.Records.stream form).language) ((g.R.Records.stream form).breaks) ((g.R.Records.stream form).many) c.args.meter.now p c.args.byte c.args.meter.now.offset c.in-Refused.why h.counted h.unstopped refl did.1,
-      stayed (g.R.Records.stream form) (λ s. g.R.Records.closed s form) (λ s. g.R.Records.goes_on s form)
-          c.step.new.self c.args.meter.now c.args.meter.now p es did.0 h.counted h.unstopped refl,
-    )
-
-pub returns-in-OutOfMemory-clause-moved : goal.returns-in-OutOfMemory-clause-moved
-returns-in-OutOfMemory-clause-moved g c form p es h =
-    let did = c.in-OutOfMemory.ensures.did form p es h.state in
-    let free = free_of ((g.R.Records.stream form).language) ((g.R.Records.stream form).breaks) ((g.R.Records.stream form).many) c.args.meter.now p c.args.byte c.is_full.result h.counted c.in_default.ensures (c.is_full.ensures form p es h.state) in (
-      unstopped_push ((g.R.Records.stream form).language) ((g.R.Records.stream form).breaks) ((g.R.Records.stream form).many) c.args.meter.now.limits p c.args.byte h.unstopped did.1 free,
-      stayed (g.R.Records.stream form) (λ s. g.R.Records.closed s form) (λ s. g.R.Records.goes_on s form)
-          c.step.new.self c.args.meter.now c.args.meter.now p es did.0 h.counted h.unstopped refl,
-    )
+pub returns-clause-advances : goal.returns-clause-advances
+returns-clause-advances g c form p es h =
+    let stream = g.R.Records.stream form in
+    let piece = c.args.piece.now in
+    let front = c.split_at.result.0.now in
+    let took = c.take-progress in
+    let used = took.result.used in
+    let part = took.ensures.of_record form p es h.state in
+    let counted = subst (λ (q : List ℕ). IsCounted c.count.new.self (p ++ q)) {y = take used front} c.split_at-2.ensures.front (c.count.ensures.counted p h.counted (subst AreOfRecord {x = take used front} (sym {b = take used front} c.split_at-2.ensures.front) part)) in
+    front_advances stream took.new.self c.count.new.self p piece front es c.room.result used took.result.what c.split_at.ensures.front took.ensures.within
+    (advanced stream (λ s. g.R.Records.closed s form) (λ s. g.R.Records.goes_on s form) took.new.self c.args.meter.now c.count.new.self p front es used took.ensures.within h.counted counted c.count.ensures.limits h.unstopped
+    (took.ensures.few form p es h.state) part (omega (arith, c.room.ensures.record, c.split_at.ensures.front_len)) (omega (arith, c.room.ensures.stream, c.split_at.ensures.front_len)) took.result.what
+    (took.ensures.left form p es h.state h.counted.offset))

@@ -1,8 +1,20 @@
-use Rattle.cg_run.proofs.Telling.{found_is}
+use Rattle.cg_snap.specs.Closed.{Closed}
+use Rattle.cg_snap.specs.Decode.{HasTaken}
+use Rattle.cg_snap.specs.SnapStop.{IsSnapUnstopped, SnapStopOf}
+use Rattle.cg_run.specs.Stream.{json_part}
+use Rattle.cg_run.specs.Taken.{taken_closed, taken_unstopped}
+use Rattle.cg_run.proofs.Finds.{appended_is}
+use Rattle.cg_run.proofs.Pulled.{pulled_is}
 use Rattle.cg_run.proofs.entries.EntryReaderStreamReader.next.Goals as goal
 
 pub returns-clause-found : goal.returns-clause-found
 returns-clause-found c form p parts h =
-    found_is c.args.self.now (record { alloc = c.args.self.now.alloc; decoder = c.next-pulled.new.self }) form p parts c.args.piece.now c.next-pulled.result.used h
-    c.next-pulled.ensures.profile c.next-pulled.ensures.limits c.next-pulled.result.what c.told-text.result.0.items c.told-text.result.1
-    (c.next-pulled.ensures.pulled p h.es h.taken.stop h.taken.stands) c.told-text.ensures
+    let now = c.next-pulled.new.self in
+    let piece = c.args.piece.now in
+    let used = c.next-pulled.result.used in
+    let what = c.next-pulled.result.what in
+    appended_is json_part (λ q es. HasTaken now (form.0) (form.1) q es) (λ q es. Closed (form.0) q es) (IsSnapUnstopped (form.0) (form.1)) (SnapStopOf (form.0) (form.1))
+    (taken_closed now (form.0) (form.1)) (taken_unstopped now (form.0) (form.1)) p (h.0) parts h.2 piece used c.args.out.now.items c.append_found.new.out.items
+    what c.append_found.result
+    (pulled_is c.args.self.now.decoder now (form.0) (form.1) p (h.0) piece used h.1 c.next-pulled.ensures.profile c.next-pulled.ensures.limits
+    what (c.next-pulled.ensures.pulled p (h.0) h.1.stop h.1.stands)) c.append_found.ensures

@@ -1,0 +1,35 @@
+-- What an output holds of the texts of parts, and what reading leaves of it.
+use Rattle.std.specs.Prelude.{◌≡◌, ℕ, Bool, false, List, [], ◌++◌, Option, Result, Ok, Err}
+use Rattle.std.specs.Io.KnownBytes.{Consumes, IsAtEnd}
+use Rattle.cg_run.specs.Input.{Reading}
+use Rattle.cg_run.specs.Run.{DidRun, joined}
+use Rattle.cg_run.specs.Streaming.{Before, HasWritten}
+use Rattle.cg_run.specs.declared.outcome.Outcome.{Outcome}
+use Rattle.cg_run.specs.declared.output.Output.{Output}
+
+-- The text of these parts is what the writer took since it had taken first, one text after another, and behind it what the
+-- output holds.
+pub record Holds (first now : Option (List ℕ)) (parts : List (List ℕ)) (output : Output) : Type 0 where
+  pub before : List (List ℕ)
+  pub wrote : HasWritten first now before output.written
+  pub text : joined parts ≡ joined before ++ output.text.items
+
+-- What was read and written before a call of next.
+pub record BeforeNext (Took : List ℕ → List (List ℕ) → Type 0) (first now : Option (List ℕ)) (output : Output) (read : List ℕ) : Type 0 where
+  pub parts : List (List ℕ)
+  pub took : Took read parts
+  pub holds : Holds first now parts output
+
+-- What the loop of reads has done so far: nothing that it read is held.
+pub record StreamedSoFar (Took : List ℕ → List (List ℕ) → Type 0) (coming left : Option (List ℕ)) (first now : Option (List ℕ)) (output : Output) (failed : Bool) : Type 0 where
+  pub read : List ℕ
+  pub consumed : Consumes coming left read
+  pub before : Before Took first now output.written read
+  pub none : output.text.items ≡ []
+  pub works : failed ≡ false
+
+-- How the reading of a stream went: to the end of the input; or the run ended before, as is right.
+abbrev pub StreamedIs : (Took : List ℕ → List (List ℕ) → Type 0) (Right : Reading → Outcome → List (List ℕ) → Type 0) (coming left : Option (List ℕ)) (read_failed : Bool)
+    (first now : Option (List ℕ)) (write_failed : Bool) → Result Output Outcome → Type 0
+StreamedIs Took Right coming left read_failed first now write_failed (Ok output) = StreamedSoFar Took coming left first now output read_failed × IsAtEnd left
+StreamedIs Took Right coming left read_failed first now write_failed (Err o) = DidRun Right coming left read_failed first now write_failed o
