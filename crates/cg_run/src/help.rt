@@ -50,7 +50,7 @@ A snapshot is what grep -rZ prints: for each line of each file a record of the f
 and the line. An entry is shown as soon as the path of the next one has come.
 
 Examples:
-  grep -rZ '' /sys/fs/cgroup 2> /dev/null | cgfile show
+  LC_ALL=C grep -rZ '' /sys/fs/cgroup 2> /dev/null | cgfile show
   printf 'a/cpu.weight\\000100\\n' | cgfile show     writes a/cpu.weight: 100",
     },
     Row {
@@ -62,7 +62,8 @@ A line is an object of the kind, the path and the value of an entry, written as 
 the next one has come. Text that isn't UTF-8 is an array of its bytes.
 
 Examples:
-  grep -rZ '' /sys/fs/cgroup 2> /dev/null | cgfile json | jq -r 'select(.kind == \"limit\").path'
+  LC_ALL=C grep -rZ '' /sys/fs/cgroup 2> /dev/null | cgfile json |
+    jq -r 'select(.kind == \"limit\").path'
   printf 'cpuset.cpus\\0000-4,6\\n' | cgfile json
                     writes {\"kind\":\"set\",\"path\":\"cpuset.cpus\",\"value\":[[0,4],[6,6]]}",
     },
@@ -90,7 +91,7 @@ It keeps the entries of cgroup.controllers, cgroup.subtree_control, cgroup.procs
 and no other, until the input has ended. The status is 1 where there is a line.
 
 Example:
-  grep -rZ '' /sys/fs/cgroup 2> /dev/null | cgfile check",
+  LC_ALL=C grep -rZ '' /sys/fs/cgroup 2> /dev/null | cgfile check",
     },
     Row {
         word: "kinds",
