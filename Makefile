@@ -1,6 +1,6 @@
-# cgfile: `make` proves and builds the program and shows its first run; `make check` runs all tests; `make quick` builds it
-# without a proof, for trying alone; `make install` installs the proved program, its manual page and the completions of three
-# shells below $(DESTDIR)$(PREFIX).
+# cgfile: `make` proves and builds the program and the C library and shows the program's first run; `make check` runs all tests;
+# `make quick` builds the program without a proof, for trying alone; `make install` installs the proved program, its manual page,
+# the completions of three shells, and the C library, below $(DESTDIR)$(PREFIX).
 
 PREFIX ?= /usr/local
 BINDIR = $(DESTDIR)$(PREFIX)/bin
@@ -8,7 +8,7 @@ SHAREDIR = $(DESTDIR)$(PREFIX)/share
 
 .PHONY: all check quick quoted version install uninstall clean
 
-all: build/cgfile
+all: build/cgfile library
 	printf '10000\n' | build/cgfile file cpu.weight
 
 # The libraries: each is proved where it was never proved here, once those are that it stands on, and beside others that
@@ -48,16 +48,63 @@ quoted:
 check: version quoted
 	rt ci
 
-install: build/cgfile
+install: build/cgfile install-library
 	install -D -m 755 build/cgfile $(BINDIR)/cgfile
 	install -D -m 644 man/cgfile.1 $(SHAREDIR)/man/man1/cgfile.1
 	install -D -m 644 completions/cgfile.bash $(SHAREDIR)/bash-completion/completions/cgfile
 	install -D -m 644 completions/_cgfile $(SHAREDIR)/zsh/site-functions/_cgfile
 	install -D -m 644 completions/cgfile.fish $(SHAREDIR)/fish/vendor_completions.d/cgfile.fish
 
-uninstall:
+uninstall: uninstall-library
 	rm -f $(BINDIR)/cgfile $(SHAREDIR)/man/man1/cgfile.1 $(SHAREDIR)/bash-completion/completions/cgfile \
 	    $(SHAREDIR)/zsh/site-functions/_cgfile $(SHAREDIR)/fish/vendor_completions.d/cgfile.fish
 
 clean:
 	rm -rf build
+
+# The C library: its calls as an archive and as a shared object, of which each shows the calls of include/cgfile.h alone, and
+# what pkg-config tells of them. The kit's allocator, over the C library's malloc, realloc and free, is in both.
+LIBDIR = $(DESTDIR)$(PREFIX)/lib
+INCLUDEDIR = $(DESTDIR)$(PREFIX)/include
+LIBRARY_VERSION = 0.1.0
+SONAME = libcgfile.so.0
+
+.PHONY: library check-library install-library uninstall-library build/cgfile.pc
+
+library: build/libcgfile.a build/libcgfile.so build/cgfile.pc
+
+build/cgfile.o: crates.txt $(shell find crates -path '*/out' -prune -o -type f -print) \
+    | $(filter $(LIBRARIES), $(shell sed -n 's/^cg_c staticlib://p' crates.txt)) version
+	cd crates/cg_c && rt lib
+	mkdir -p build
+	ld -r -o $@ --whole-archive crates/cg_c/out/libcg_c.a --no-whole-archive "$$(dirname "$$(rt doc)")/c/liblibc_c.a"
+	objcopy --wildcard --keep-global-symbol='cgfile_*' $@
+
+build/libcgfile.a: build/cgfile.o
+	rm -f $@
+	ar rcs $@ $<
+
+build/libcgfile.so: build/cgfile.o
+	$(CC) -shared -o $@ -Wl,-soname,$(SONAME) -Wl,--no-undefined -Wl,-z,text -Wl,-z,relro,-z,now $<
+
+build/cgfile.pc:
+	mkdir -p build
+	printf '%s\n' 'prefix=$(PREFIX)' 'libdir=$${prefix}/lib' 'includedir=$${prefix}/include' '' 'Name: cgfile' \
+	    'Description: reads the interface files of Linux control groups exactly' 'Version: $(LIBRARY_VERSION)' \
+	    'Libs: -L$${libdir} -lcgfile' 'Cflags: -I$${includedir}' > $@
+
+# The library is tried as it is installed, from C, Rust and Python.
+check-library: library
+	tests/library
+
+install-library: library
+	install -D -m 644 include/cgfile.h $(INCLUDEDIR)/cgfile.h
+	install -D -m 644 build/libcgfile.a $(LIBDIR)/libcgfile.a
+	install -D -m 755 build/libcgfile.so $(LIBDIR)/libcgfile.so.$(LIBRARY_VERSION)
+	ln -sf libcgfile.so.$(LIBRARY_VERSION) $(LIBDIR)/$(SONAME)
+	ln -sf $(SONAME) $(LIBDIR)/libcgfile.so
+	install -D -m 644 build/cgfile.pc $(LIBDIR)/pkgconfig/cgfile.pc
+
+uninstall-library:
+	rm -f $(INCLUDEDIR)/cgfile.h $(LIBDIR)/libcgfile.a $(LIBDIR)/libcgfile.so $(LIBDIR)/$(SONAME) \
+	    $(LIBDIR)/libcgfile.so.$(LIBRARY_VERSION) $(LIBDIR)/pkgconfig/cgfile.pc

@@ -1,0 +1,2 @@
+pub mod AmongNames
+pub mod Entries

@@ -1,0 +1,4 @@
+pub mod Answer
+pub mod Json
+pub mod Kind
+pub mod Number

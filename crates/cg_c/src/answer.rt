@@ -1,0 +1,52 @@
+//! What a call answers: a status, and a text in the caller's buffer.
+ghost use Rattle.std.specs.Prelude.{◌≡◌, ◌<◌, ◌++◌, length, drop, IsTrue, IsFalse};
+ghost use Rattle.cg_c.specs.Answer.{profile_of};
+
+use cg_value::Profile;
+
+/// Done: what was asked for is told.
+pub(crate) const DONE: u32 = 0;
+/// After a byte, whose place is told, no text continues.
+pub(crate) const REFUSED: u32 = 1;
+/// The bytes end before a text does.
+pub(crate) const CUT: u32 = 2;
+/// A file of the name can't be read, or written.
+pub(crate) const NO_FORM: u32 = 3;
+/// The buffer is shorter than the text, whose length is told.
+pub(crate) const NO_ROOM: u32 = 4;
+/// No memory was left.
+pub(crate) const NO_MEMORY: u32 = 5;
+/// No profile has the number.
+pub(crate) const NO_PROFILE: u32 = 6;
+/// The file has no such number.
+pub(crate) const NONE: u32 = 7;
+/// The number is `max`.
+pub(crate) const MAX: u32 = 8;
+/// The path is empty, has a NUL or a newline, or ends with `/`.
+pub(crate) const BAD_PATH: u32 = 9;
+/// The file has no line.
+pub(crate) const NO_LINES: u32 = 10;
+
+/// The profile of a number.
+pub(crate) fn profile_of(number: u32) -> Option<Profile>
+    ensures { result ≡ profile_of number }
+{
+    match number {
+        1 => Some(Profile::One),
+        2 => Some(Profile::Two),
+        _ => None,
+    }
+}
+
+/// Puts the text at the front of the buffer, if there is room.
+pub(crate) fn put(text: &[u8], out: &mut [u8]) -> bool
+    ensures yes { IsTrue result → out.new ≡ text.now ++ drop (length text.now) out.old }
+    ensures no { IsFalse result → length out.old < length text.now }
+    ensures kept { IsFalse result → out.new ≡ out.old }
+{
+    if out.len() < text.len() {
+        return false;
+    }
+    out[..text.len()].copy_from_slice(text);
+    true
+}

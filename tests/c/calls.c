@@ -1,0 +1,178 @@
+/* What the calls of the C library answer, right use and bad: each row says what is wanted. Prints each row that differs, and
+ * last how many there were; the status is 1 where any differs. */
+#include <cgfile.h>
+
+#include <stdio.h>
+#include <string.h>
+
+#define BYTES(text) (const uint8_t *)(text), sizeof(text) - 1
+#define UNSET 99
+
+static int rows, wrong;
+static uint8_t out[4096];
+static size_t used, taken, path_len;
+static uint64_t at, number;
+
+/* The buffer is filled with a byte that no answer has, so that a byte past the answer that was written shows. */
+static void begin(void) {
+    memset(out, 0xEE, sizeof out);
+    used = taken = path_len = UNSET;
+    at = number = UNSET;
+}
+
+static void row(int line, int is_right) {
+    rows++;
+    if (!is_right) {
+        wrong++;
+        printf("tests/c/calls.c:%d differs\n", line);
+    }
+}
+
+static int holds(const char *text, size_t len) {
+    for (size_t place = len; place < sizeof out; place++)
+        if (out[place] != 0xEE)
+            return 0;
+    return used == len && memcmp(out, text, len) == 0;
+}
+
+static int is_clean(void) {
+    for (size_t place = 0; place < sizeof out; place++)
+        if (out[place] != 0xEE)
+            return 0;
+    return 1;
+}
+
+#define ROW(is_right) row(__LINE__, is_right)
+#define GIVES(call, text) (begin(), ROW((call) == CGFILE_DONE && holds(text, sizeof(text) - 1)))
+#define TELLS(call, status, place) (begin(), ROW((call) == (status) && at == (place) && is_clean()))
+#define LACKS(call, room) (begin(), ROW((call) == CGFILE_NO_ROOM && used == (room) && is_clean()))
+
+static uint32_t setting(uint32_t profile, const char *name, const uint8_t *line, size_t line_len, size_t room) {
+    return cgfile_setting(profile, (const uint8_t *)name, strlen(name), line, line_len, out, room, &used, &at);
+}
+
+static uint32_t file(uint32_t profile, const char *name, const uint8_t *text, size_t text_len, size_t room) {
+    return cgfile_file(profile, (const uint8_t *)name, strlen(name), text, text_len, out, room, &used, &at);
+}
+
+static uint32_t json(uint32_t profile, const char *path, const uint8_t *text, size_t text_len, size_t room) {
+    return cgfile_json(profile, (const uint8_t *)path, strlen(path), text, text_len, out, room, &used, &at);
+}
+
+static uint32_t value(const char *name, const char *key, const uint8_t *text, size_t text_len) {
+    return cgfile_number(1, (const uint8_t *)name, strlen(name), text, text_len, (const uint8_t *)key, strlen(key),
+                         &number, &at);
+}
+
+static uint32_t kind(uint32_t profile, const char *name, bool is_written, size_t room) {
+    return cgfile_kind(profile, (const uint8_t *)name, strlen(name), is_written, out, room, &used);
+}
+
+static void settings(void) {
+    GIVES(setting(1, "memory.max", BYTES("15E\n"), 21), "17293822569102704640\n");
+    GIVES(setting(1, "io.max", BYTES("8:16 wiops=7 rbps=max\n"), sizeof out), "8:16 rbps=max wiops=7\n");
+    GIVES(setting(2, "cpuset.cpus", BYTES("4,0-3\n"), sizeof out), "0-4\n");
+    GIVES(setting(1, "my.file", BYTES("any thing\n"), sizeof out), "any thing\n");
+    TELLS(setting(1, "memory.max", BYTES("16E\n"), sizeof out), CGFILE_REFUSED, 2);
+    TELLS(setting(1, "cpu.weight", BYTES("10001\n"), sizeof out), CGFILE_REFUSED, 4);
+    TELLS(setting(1, "cpu.weight", BYTES("100\n\n"), sizeof out), CGFILE_REFUSED, 4);
+    TELLS(setting(1, "cpu.weight", BYTES("100"), sizeof out), CGFILE_CUT, 3);
+    TELLS(setting(1, "cpu.weight", BYTES(""), sizeof out), CGFILE_CUT, 0);
+    TELLS(setting(1, "cpu.stat", BYTES("usage_usec 1\n"), sizeof out), CGFILE_NO_FORM, UNSET);
+    TELLS(setting(0, "cpu.max", BYTES("max\n"), sizeof out), CGFILE_NO_PROFILE, UNSET);
+    TELLS(setting(3, "cpu.max", BYTES("max\n"), sizeof out), CGFILE_NO_PROFILE, UNSET);
+    TELLS(setting(4294967295u, "cpu.max", BYTES("max\n"), sizeof out), CGFILE_NO_PROFILE, UNSET);
+    LACKS(setting(1, "memory.max", BYTES("15E\n"), 20), 21);
+    LACKS(setting(1, "memory.max", BYTES("15E\n"), 0), 21);
+    /* a name of no bytes is outside the table */
+    GIVES(setting(1, "", BYTES("any thing\n"), sizeof out), "any thing\n");
+    TELLS(setting(1, "", BYTES("a\0"), sizeof out), CGFILE_REFUSED, 1);
+    /* a profile has its own greatest list number */
+    TELLS(setting(1, "cpuset.cpus", BYTES("65536\n"), sizeof out), CGFILE_REFUSED, 4);
+    GIVES(setting(2, "cpuset.cpus", BYTES("65536\n"), sizeof out), "65536\n");
+}
+
+static void files(void) {
+    GIVES(file(1, "cpu.weight", BYTES("100\n"), 4), "100\n");
+    GIVES(file(1, "cpuset.cpus", BYTES("0-3,5\n"), sizeof out), "0-3,5\n");
+    GIVES(file(1, "cgroup.controllers", BYTES(""), 1), "\n");
+    GIVES(file(1, "cgroup.procs", BYTES(""), 0), "");
+    GIVES(file(1, "", BYTES("\n"), sizeof out), "\n");
+    TELLS(file(1, "cpuset.cpus", BYTES("0-3,4\n"), sizeof out), CGFILE_REFUSED, 5);
+    TELLS(file(1, "cpu.weight", BYTES("100"), sizeof out), CGFILE_CUT, 3);
+    TELLS(file(1, "cgroup.kill", BYTES("1\n"), sizeof out), CGFILE_NO_FORM, UNSET);
+    TELLS(file(3, "cpu.weight", BYTES("100\n"), sizeof out), CGFILE_NO_PROFILE, UNSET);
+    LACKS(file(1, "cpu.weight", BYTES("100\n"), 3), 4);
+    LACKS(file(1, "cgroup.controllers", BYTES(""), 0), 1);
+}
+
+static void numbers(void) {
+    begin();
+    ROW(value("memory.current", "", BYTES("42\n")) == CGFILE_DONE && number == 42);
+    begin();
+    ROW(value("memory.max", "", BYTES("18446744073709551615\n")) == CGFILE_DONE && number == UINT64_MAX);
+    begin();
+    ROW(value("memory.max", "", BYTES("max\n")) == CGFILE_MAX && number == UNSET);
+    begin();
+    ROW(value("memory.stat", "file", BYTES("anon 1\nfile 2\n")) == CGFILE_DONE && number == 2);
+    begin();
+    ROW(value("memory.stat", "fil", BYTES("anon 1\nfile 2\n")) == CGFILE_NONE && number == UNSET);
+    begin();
+    ROW(value("memory.stat", "", BYTES("anon 1\n")) == CGFILE_NONE && number == UNSET);
+    begin();
+    ROW(value("memory.current", "anon", BYTES("42\n")) == CGFILE_NONE && number == UNSET);
+    begin();
+    ROW(value("my.file", "", BYTES("42\n")) == CGFILE_NONE && number == UNSET);
+    TELLS(value("memory.current", "", BYTES("42x\n")), CGFILE_REFUSED, 2);
+    TELLS(value("memory.stat", "anon", BYTES("anon 1\nanon 2\n")), CGFILE_REFUSED, 11);
+    TELLS(value("memory.stat", "anon", BYTES("anon 1")), CGFILE_CUT, 6);
+    TELLS(value("cgroup.kill", "", BYTES("1\n")), CGFILE_NO_FORM, UNSET);
+    begin();
+    ROW(cgfile_number(3, BYTES("pids.max"), BYTES("1\n"), BYTES(""), &number, &at) == CGFILE_NO_PROFILE);
+}
+
+static void lines(void) {
+    GIVES(json(1, "a/cpu.max", BYTES("max 100000\n"), sizeof out),
+          "{\"kind\":\"cpu_max\",\"path\":\"a/cpu.max\",\"value\":{\"period\":100000,\"quota\":\"max\"}}\n");
+    GIVES(json(1, "cgroup.freeze", BYTES("1\n"), 54),
+          "{\"kind\":\"number\",\"path\":\"cgroup.freeze\",\"value\":1}\n");
+    LACKS(json(1, "cgroup.freeze", BYTES("1\n"), 50), 51);
+    TELLS(json(1, "a/cpu.weight", BYTES("10001\n"), sizeof out), CGFILE_REFUSED, 4);
+    TELLS(json(1, "a/cpu.weight", BYTES("1"), sizeof out), CGFILE_CUT, 1);
+    TELLS(json(1, "a/cgroup.kill", BYTES("1\n"), sizeof out), CGFILE_NO_FORM, UNSET);
+    TELLS(json(1, "a/", BYTES("1\n"), sizeof out), CGFILE_BAD_PATH, UNSET);
+    TELLS(json(1, "", BYTES("1\n"), sizeof out), CGFILE_BAD_PATH, UNSET);
+    TELLS(json(1, "a\nb/cpu.weight", BYTES("1\n"), sizeof out), CGFILE_BAD_PATH, UNSET);
+    TELLS(json(1, "a/cgroup.procs", BYTES(""), sizeof out), CGFILE_NO_LINES, UNSET);
+    TELLS(json(0, "a/cpu.max", BYTES("max 100000\n"), sizeof out), CGFILE_NO_PROFILE, UNSET);
+}
+
+static void kinds(void) {
+    GIVES(kind(1, "memory.max", false, 5), "limit");
+    GIVES(kind(1, "memory.max", true, sizeof out), "size_limit");
+    GIVES(kind(1, "memory.numa_stat", false, sizeof out), "raw");
+    GIVES(kind(2, "memory.numa_stat", false, sizeof out), "nested");
+    GIVES(kind(1, "a/memory.max", false, sizeof out), "raw");
+    LACKS(kind(1, "memory.max", false, 4), 5);
+    begin();
+    ROW(kind(1, "cgroup.kill", false, sizeof out) == CGFILE_NO_FORM && is_clean() && used == UNSET);
+    begin();
+    ROW(kind(1, "cpu.stat", true, sizeof out) == CGFILE_NO_FORM && is_clean() && used == UNSET);
+    begin();
+    ROW(kind(3, "cpu.stat", false, sizeof out) == CGFILE_NO_PROFILE && is_clean() && used == UNSET);
+    ROW(cgfile_known(BYTES("cpu.weight")));
+    ROW(cgfile_known(BYTES("cpuset.cpus.partition")));
+    ROW(!cgfile_known(BYTES("cpu.weigh")));
+    ROW(!cgfile_known(BYTES("a/cpu.weight")));
+    ROW(!cgfile_known(BYTES("")));
+}
+
+int main(void) {
+    settings();
+    files();
+    numbers();
+    lines();
+    kinds();
+    printf("%d rows, %d differ\n", rows, wrong);
+    return wrong != 0;
+}
