@@ -6,9 +6,10 @@
  * lent; docs/C.md says what that rests on.
  *
  * What the caller owes:
- * - A pointer with a length points to that many bytes, and is never NULL, even where the length is 0.
+ * - A pointer with a length points to that many bytes, and is never NULL, even where the length is 0. No NUL need end
+ *   them. A pointer without one points to a number that is aligned as its type is.
  * - What a call writes (out, used, at, ..) overlaps nothing else that it is lent.
- * - No length is greater than PTRDIFF_MAX.
+ * - No length is greater than PTRDIFF_MAX. A bool is 0 or 1, as C hands it over.
  * - malloc, realloc and free are those of one allocator. Memory is taken and given back within a call.
  *
  * NAME is the name of an interface file alone, without a folder: "cpu.max", not "a/cpu.max". A name outside the file
