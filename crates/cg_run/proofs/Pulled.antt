@@ -1,12 +1,11 @@
 -- What a decoder finds that took some bytes.
 use Rattle.std.proofs.Common.{◌≡◌, ℕ, ◌+◌, ◌-◌, ◌<◌, List, [], ◌∷◌, ◌++◌, length, take, None, subst, ◌∙◌}
-use Rattle.cg_value.specs.Entry.{EntryData}
 use Rattle.cg_value.specs.declared.profile.Profile.{Profile}
-use Rattle.cg_snap.specs.Closed.{Closed}
-use Rattle.cg_snap.specs.Decode.{HasTaken}
-use Rattle.cg_snap.specs.Decoder.{SnapshotDecoder, Stands, WhatIs, limits_of, profile_of, stop_of}
-use Rattle.cg_snap.specs.SnapStop.{IsSnapUnstopped, SnapStopOf}
+use Rattle.cg_snap.specs.Course.{Stream}
+use Rattle.cg_snap.specs.Pulled.{HasPulled, StandsFor, WhatCame}
 use Rattle.cg_snap.specs.Stop.{place_of}
+use Rattle.cg_snap.specs.StreamStop.{IsStreamUnstopped, StreamStopOf}
+use Rattle.cg_snap.specs.declared.decoder.Decoder.{Decoder}
 use Rattle.cg_snap.specs.declared.event.Event.{Event}
 use Rattle.cg_snap.specs.declared.event.Event.TheVariants as events
 use Rattle.cg_snap.specs.declared.limits.Limits.{Limits}
@@ -23,36 +22,42 @@ module _ {E : Type 0} (Taken Closed : List ℕ → List E → Type 0) (Unstopped
   PulledBy events.OutOfMemory =
       (used < length piece) × Unstopped (p ++ take used piece) × Unstopped (p ++ take (used + 1) piece) × Closed (p ++ take used piece) es
 
-module _ (was now : SnapshotDecoder) (profile : Profile) (limits : Limits) (p : List ℕ) (es : List EntryData) (piece : List ℕ) (used : ℕ)
-    (h : HasTaken was profile limits p es) (same_profile : profile_of now ≡ profile_of was) (same_limits : limits_of now ≡ limits_of was) where
-  taken : (q : List ℕ) (fs : List EntryData) → stop_of now ≡ None → Stands now q fs → HasTaken now profile limits q fs
+module _ {R Part : Type 0} {stream : Profile → Stream R Part} {profile_of : R → Profile} (was now : Decoder R) (profile : Profile) (limits : Limits) (p : List ℕ) (es : List Part) (piece : List ℕ) (used : ℕ)
+    (h : HasPulled stream profile_of was profile limits p es) (same_profile : profile_of now.records ≡ profile_of was.records) (same_limits : now.meter.limits ≡ was.meter.limits) where
+  taken : (q : List ℕ) (fs : List Part) → now.stop ≡ None → StandsFor (stream (profile_of now.records)) now q fs → HasPulled stream profile_of now profile limits q fs
   taken q fs n s = record { stands = s; stop = n; profile_is = same_profile ∙ h.profile_is; limits_is = same_limits ∙ h.limits_is }
 
-  of_form : (P : Profile → Limits → Type 0) → P (profile_of now) (limits_of now) → P profile limits
-  of_form P x = subst (λ (l : Limits). P profile l) (same_limits ∙ h.limits_is) (subst (λ (q : Profile). P q (limits_of now)) (same_profile ∙ h.profile_is) x)
+  of_form : (P : Profile → Limits → Type 0) → P (profile_of now.records) now.meter.limits → P profile limits
+  of_form P x = subst (λ (l : Limits). P profile l) (same_limits ∙ h.limits_is) (subst (λ (q : Profile). P q now.meter.limits) (same_profile ∙ h.profile_is) x)
 
-  byte_stop : (bytes : List ℕ) (s : Stop) → SnapStopOf (profile_of now) (limits_of now) bytes s → IsByteStop s
+  abbrev IsUnstopped : Profile → Limits → List ℕ → Type 0
+  IsUnstopped q l = IsStreamUnstopped (stream q).language (stream q).breaks (stream q).many l
+
+  abbrev IsStopOf : Profile → Limits → List ℕ → Stop → Type 0
+  IsStopOf q l = StreamStopOf (stream q).language (stream q).breaks (stream q).many l
+
+  byte_stop : (bytes : List ℕ) (s : Stop) → IsStopOf (profile_of now.records) now.meter.limits bytes s → IsByteStop s
   byte_stop bytes (stops.Refused at why) x = tt
   byte_stop bytes (stops.TooLong at) x = tt
   byte_stop bytes (stops.TooMany at) x = tt
   byte_stop bytes (stops.TooMuch at) x = tt
   byte_stop bytes (stops.Cut at) x = absurd x.stops
 
-  abbrev pub PulledIs : Event EntryData → Type 0
-  PulledIs = PulledBy (λ q fs. HasTaken now profile limits q fs) (λ q fs. Closed profile q fs) (IsSnapUnstopped profile limits) (SnapStopOf profile limits) p es piece used
+  abbrev pub PulledIs : Event Part → Type 0
+  PulledIs = PulledBy (HasPulled stream profile_of now profile limits) (stream profile).closes (IsUnstopped profile limits) (IsStopOf profile limits) p es piece used
 
-  pub pulled_is : (what : Event EntryData) → WhatIs now p es piece used what → PulledIs what
+  pub pulled_is : (what : Event Part) → WhatCame (stream (profile_of now.records)) now p es piece used what → PulledIs what
   pulled_is events.NeedMore w = taken (p ++ take used piece) es w.0 w.2
-  pulled_is (events.Given e) w = (w.1, taken (p ++ take used piece) (es ++ e ∷ []) w.0 w.3, of_form (λ q l. Closed q (p ++ take (used - 1) piece) es) w.2)
+  pulled_is (events.Given e) w = (w.1, taken (p ++ take used piece) (es ++ e ∷ []) w.0 w.3, of_form (λ q l. (stream q).closes (p ++ take (used - 1) piece) es) w.2)
   pulled_is (events.Stopped stop) w = (
     byte_stop (p ++ piece) stop w.2,
-    of_form (λ q l. SnapStopOf q l (p ++ piece) stop) w.2,
+    of_form (λ q l. IsStopOf q l (p ++ piece) stop) w.2,
     w.4,
-    of_form (λ q l. Closed q (p ++ take used piece) es) w.3.closed,
+    of_form (λ q l. (stream q).closes (p ++ take used piece) es) w.3.closed,
   )
   pulled_is events.OutOfMemory w = (
     w.1,
-    of_form (λ q l. IsSnapUnstopped q l (p ++ take used piece)) w.3.unstopped,
-    of_form (λ q l. IsSnapUnstopped q l (p ++ take (used + 1) piece)) w.2,
-    of_form (λ q l. Closed q (p ++ take used piece) es) w.3.closed,
+    of_form (λ q l. IsUnstopped q l (p ++ take used piece)) w.3.unstopped,
+    of_form (λ q l. IsUnstopped q l (p ++ take (used + 1) piece)) w.2,
+    of_form (λ q l. (stream q).closes (p ++ take used piece) es) w.3.closed,
   )

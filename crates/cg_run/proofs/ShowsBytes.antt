@@ -1,12 +1,11 @@
 -- How bytes are shown one part after another, and records.
-use Rattle.std.proofs.Common.{◌≡◌, ◌≢◌, ℕ, zero, suc, ◌+◌, ◌<◌, Bool, true, false, List, [], ◌∷◌, ◌++◌, length, take, drop, get_or, refl, sym, ap, subst, ◌∙◌, inl, inr, append_assoc, append-nil, eqb, eq-eqb, arith, take-append-drop, if◌then◌else◌}
+use Rattle.std.proofs.Common.{◌≡◌, ◌≢◌, ℕ, zero, suc, ◌+◌, ◌<◌, false, List, [], ◌∷◌, ◌++◌, length, take, drop, get_or, refl, sym, ap, subst, ◌∙◌, inl, inr, append_assoc, append-nil, eqb, eq-eqb, arith, take-append-drop}
 use Rattle.std.proofs.Math.Seq.{drop-append-add, drop-append_seam, take-add, take-append-add}
 use Rattle.std.proofs.lemmas.Bool.Decides.{nat_tests}
 use Rattle.std.proofs.lemmas.List.{take_all, take_more, length-drop, get_or-drop}
 use Rattle.std.specs.List.{AllByRecursion}
 use Rattle.memchr.specs.Find.{Nowhere, Passes, is_byte}
 use Rattle.cg_text.specs.Texts.{Lacks}
-use Rattle.cg_text.specs.TextsLaws.{lacks_both}
 use Rattle.cg_print.specs.Headed.{shown}
 use Rattle.cg_snap.specs.Begun.{IsRecordEnd}
 use Rattle.cg_snap.specs.SnapLaws.{record_then}

@@ -1,36 +1,21 @@
--- What holds of a decoder that took some bytes.
+-- What holds of a decoder that took some bytes, whatever stream it is of.
 use Rattle.std.proofs.Common.{◌≡◌, ℕ, ◌≤◌, List, length, subst, ap, arith}
-use Rattle.cg_value.specs.Entry.{EntryData, ItemData}
 use Rattle.cg_value.specs.declared.profile.Profile.{Profile}
-use Rattle.cg_snap.specs.Closed.{Closed}
-use Rattle.cg_snap.specs.Decode.{HasTaken, HasTakenPlan}
-use Rattle.cg_snap.specs.Decoder.{SnapshotDecoder, offset_of, profile_of}
-use Rattle.cg_snap.specs.Plan.{ClosedPlan}
-use Rattle.cg_snap.specs.PlanDecoder.{PlanDecoder, plan_offset_of, plan_profile_of}
-use Rattle.cg_snap.specs.PlanStop.{IsPlanUnstopped}
-use Rattle.cg_snap.specs.SnapStop.{IsSnapUnstopped}
+use Rattle.cg_snap.specs.Course.{Stream}
+use Rattle.cg_snap.specs.Pulled.{HasPulled}
+use Rattle.cg_snap.specs.StreamStop.{IsStreamUnstopped}
+use Rattle.cg_snap.specs.declared.decoder.Decoder.{Decoder}
 use Rattle.cg_snap.specs.declared.limits.Limits.{Limits}
 
-module _ (d : SnapshotDecoder) (profile : Profile) (limits : Limits) (p : List ℕ) (es : List EntryData) (h : HasTaken d profile limits p es) where
-  pub taken_closed : Closed profile p es
-  taken_closed = subst (λ (q : Profile). Closed q p es) h.profile_is h.stands.closed
+module _ {R Part : Type 0} {stream : Profile → Stream R Part} {profile_of : R → Profile} (d : Decoder R) (profile : Profile) (limits : Limits) (p : List ℕ) (es : List Part)
+    (h : HasPulled stream profile_of d profile limits p es) where
+  pub taken_closed : (stream profile).closes p es
+  taken_closed = subst (λ (q : Profile). (stream q).closes p es) h.profile_is h.stands.closed
 
-  pub taken_unstopped : IsSnapUnstopped profile limits p
+  pub taken_unstopped : IsStreamUnstopped (stream profile).language (stream profile).breaks (stream profile).many limits p
   taken_unstopped =
-      subst (λ (q : Profile). IsSnapUnstopped q limits p) h.profile_is
-      (subst (λ (l : Limits). IsSnapUnstopped (profile_of d) l p) h.limits_is h.stands.unstopped)
+      subst (λ (q : Profile). IsStreamUnstopped (stream q).language (stream q).breaks (stream q).many limits p) h.profile_is
+      (subst (λ (l : Limits). let s = stream (profile_of d.records) in IsStreamUnstopped s.language s.breaks s.many l p) h.limits_is h.stands.unstopped)
 
-  pub taken_counted : (offset_of d ≡ length p) × (length p ≤ limits.max_stream)
+  pub taken_counted : (d.meter.offset ≡ length p) × (length p ≤ limits.max_stream)
   taken_counted = (h.stands.counted.offset, omega (arith, h.stands.counted.within, ap (λ (l : Limits). l.max_stream) h.limits_is))
-
-module _ (d : PlanDecoder) (profile : Profile) (limits : Limits) (p : List ℕ) (items : List ItemData) (h : HasTakenPlan d profile limits p items) where
-  pub plan_closed : ClosedPlan profile p items
-  plan_closed = subst (λ (q : Profile). ClosedPlan q p items) h.profile_is h.stands.closed
-
-  pub plan_unstopped : IsPlanUnstopped profile limits p
-  plan_unstopped =
-      subst (λ (q : Profile). IsPlanUnstopped q limits p) h.profile_is
-      (subst (λ (l : Limits). IsPlanUnstopped (plan_profile_of d) l p) h.limits_is h.stands.unstopped)
-
-  pub plan_counted : (plan_offset_of d ≡ length p) × (length p ≤ limits.max_stream)
-  plan_counted = (h.stands.counted.offset, omega (arith, h.stands.counted.within, ap (λ (l : Limits). l.max_stream) h.limits_is))

@@ -1,4 +1,3 @@
-use Rattle.std.proofs.Common.{map, string_bytes}
 use Rattle.cg_run.proofs.WordsTold.{answer_says, unread_says}
 use Rattle.cg_run.proofs.program.asked.Goals as goal
 

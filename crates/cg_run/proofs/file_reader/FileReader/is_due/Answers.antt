@@ -1,4 +1,4 @@
-use Rattle.std.proofs.Common.{◌≡◌, ◌∙◌, true, ap, arith, drop, length, length-drop, sym, subst}
+use Rattle.std.proofs.Common.{◌≡◌, ◌∙◌, true, ap, arith, length, length-drop, sym, subst}
 use Rattle.cg_value.specs.Files.{KindFile}
 use Rattle.cg_run.specs.FileReader.{lines_alone}
 use Rattle.cg_run.proofs.LetGo.{kept_since}

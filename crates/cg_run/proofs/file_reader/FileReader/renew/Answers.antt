@@ -1,4 +1,4 @@
-use Rattle.std.proofs.Common.{◌≡◌, [], ap, arith, length, sym, append-nil, subst}
+use Rattle.std.proofs.Common.{[], ap, arith, length, sym, append-nil, subst}
 use Rattle.cg_line.specs.Reads.{Reads}
 use Rattle.cg_run.proofs.file_reader.FileReader.renew.Goals as goal
 

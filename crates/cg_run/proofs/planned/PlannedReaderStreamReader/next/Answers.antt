@@ -2,9 +2,9 @@ use Rattle.cg_snap.specs.Decode.{HasTakenPlan}
 use Rattle.cg_snap.specs.Plan.{ClosedPlan}
 use Rattle.cg_snap.specs.PlanStop.{IsPlanUnstopped, PlanStopOf}
 use Rattle.cg_run.specs.Stream.{item_part}
-use Rattle.cg_run.specs.Taken.{plan_closed, plan_unstopped}
+use Rattle.cg_run.specs.Taken.{taken_closed, taken_unstopped}
 use Rattle.cg_run.proofs.Finds.{appended_is}
-use Rattle.cg_run.proofs.Planning.{pulled_is}
+use Rattle.cg_run.proofs.Pulled.{pulled_is}
 use Rattle.cg_run.proofs.planned.PlannedReaderStreamReader.next.Goals as goal
 
 pub returns-clause-found : goal.returns-clause-found
@@ -14,7 +14,7 @@ returns-clause-found c form p parts h =
     let used = c.next-pulled.result.used in
     let what = c.next-pulled.result.what in
     appended_is item_part (λ q items. HasTakenPlan now (form.0) (form.1) q items) (λ q items. ClosedPlan (form.0) q items) (IsPlanUnstopped (form.0) (form.1)) (PlanStopOf (form.0) (form.1))
-    (plan_closed now (form.0) (form.1)) (plan_unstopped now (form.0) (form.1)) p (h.0) parts h.2 piece used c.args.out.now.items c.append_found.new.out.items
+    (taken_closed now (form.0) (form.1)) (taken_unstopped now (form.0) (form.1)) p (h.0) parts h.2 piece used c.args.out.now.items c.append_found.new.out.items
     what c.append_found.result
     (pulled_is c.args.self.now.decoder now (form.0) (form.1) p (h.0) piece used h.1 c.next-pulled.ensures.profile c.next-pulled.ensures.limits
     what (c.next-pulled.ensures.pulled p (h.0) h.1.stop h.1.stands)) c.append_found.ensures
