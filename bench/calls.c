@@ -18,7 +18,7 @@ static const char stat_text[] =
     "workingset_restore_file 0\nworkingset_nodereclaim 0\npgscan 0\npgsteal 0\npgfault 100\npgmajfault 1\n";
 
 static uint8_t out[4096];
-static size_t used;
+static size_t used, taken, path_len;
 static uint64_t at, number;
 
 static uint32_t setting(void) {
@@ -39,6 +39,11 @@ static uint32_t anon(void) {
 
 static uint32_t json(void) {
     return cgfile_json(1, BYTES("a/cpu.max"), BYTES("max 100000\n"), out, sizeof out, &used, &at);
+}
+
+static uint32_t first(void) {
+    return cgfile_first(1, BYTES("a/cpu.max\0max 100000\nb/cpu.weight\0"), false, true, out, sizeof out, &used, &taken,
+                        &path_len, &at);
 }
 
 static uint32_t kind(void) { return cgfile_kind(1, BYTES("memory.max"), false, out, sizeof out, &used); }
@@ -73,6 +78,7 @@ int main(void) {
     measure("cgfile_number, memory.current", current);
     measure("cgfile_number, memory.stat", anon);
     measure("cgfile_json, cpu.max", json);
+    measure("cgfile_first, cpu.max as JSON", first);
     measure("cgfile_kind, memory.max", kind);
     return 0;
 }

@@ -59,6 +59,16 @@ enum cgfile_status {
     CGFILE_BAD_PATH = 9,
     /* The file has no line, as an empty cgroup.procs. */
     CGFILE_NO_LINES = 10,
+    /* No entry is whole yet: more bytes are wanted. */
+    CGFILE_MORE = 11,
+    /* The stream has ended. */
+    CGFILE_END = 12,
+    /* With the byte at *at its record has more than 1048576 bytes. */
+    CGFILE_TOO_LONG = 13,
+    /* With the record that the NUL at *at begins the entry has more than 1000000 records. */
+    CGFILE_TOO_MANY = 14,
+    /* The byte at *at is the 1073741825th of those that the call was lent. */
+    CGFILE_TOO_MUCH = 15,
 };
 
 /*
@@ -127,6 +137,36 @@ bool cgfile_known(const uint8_t *name, size_t name_len);
  */
 uint32_t cgfile_kind(uint32_t profile, const uint8_t *name, size_t name_len, bool is_written, uint8_t *out,
                      size_t out_len, size_t *used);
+
+/*
+ * The entry with which a stream begins, a snapshot as `grep -rZ '' DIR` prints one: for each line of each file a record of
+ * the file's path, a NUL and the line. The caller keeps the bytes from the start of an entry on, hands them over, and drops
+ * the first *taken of them once the entry was told. is_end says that no byte comes after these.
+ *
+ * With is_json, the answer is the line of JSON of the entry, else the canonical text of its file, as cgfile_file() gives
+ * it. Its path is the first *path_len of the bytes. Its records are the first *taken, as the canonical text has them.
+ *
+ * CGFILE_DONE: the first *taken bytes are the snapshot of one entry; behind them a record of another path has begun, whose
+ *     NUL came and was taken, or nothing is, at the end. The answer lies at out.
+ * CGFILE_NO_ROOM: the same, but that the answer has *used bytes. *taken and *path_len are told.
+ * CGFILE_MORE: no entry is closed by the bytes, and none of them stops the stream. Read on, and call again with what there
+ *     was and what came. Only where is_end is false.
+ * CGFILE_END: there are no bytes. Only where is_end is true.
+ * CGFILE_CUT: no byte stops the stream, and it ends within an entry. Only where is_end is true.
+ * CGFILE_REFUSED, CGFILE_TOO_LONG, CGFILE_TOO_MANY, CGFILE_TOO_MUCH: the byte at *at is the first that stops the stream.
+ * CGFILE_NO_MEMORY: memory was refused at a byte that nothing stops, or for the answer to an entry. CGFILE_NO_PROFILE.
+ *     No other.
+ *
+ * Places are counted from the start of the entry: add what was dropped. Taking the first entry of what is left again and
+ * again gives what the program gives of the whole stream: where the end is told, the entries are all those of the snapshot
+ * that the stream is; until then they are the first of each snapshot that it may become; and where what is left is no
+ * snapshot, the stream is none.
+ *
+ * Each call reads the present entry anew. So where more is wanted, let the bytes grow by as many as there are, and the
+ * whole takes time in proportion to the stream.
+ */
+uint32_t cgfile_first(uint32_t profile, const uint8_t *bytes, size_t bytes_len, bool is_end, bool is_json, uint8_t *out,
+                      size_t out_len, size_t *used, size_t *taken, size_t *path_len, uint64_t *at);
 
 #ifdef __cplusplus
 }

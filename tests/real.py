@@ -7,7 +7,7 @@ import sys
 
 library = ctypes.CDLL(os.path.abspath(sys.argv[1]))
 program, folder = sys.argv[2], sys.argv[3]
-DONE, REFUSED, CUT, NO_FORM, NO_ROOM = 0, 1, 2, 3, 4
+DONE, REFUSED, CUT, NO_FORM, NO_ROOM, MORE, END = 0, 1, 2, 3, 4, 11, 12
 
 u32, u64, size = ctypes.c_uint32, ctypes.c_uint64, ctypes.c_size_t
 
@@ -51,5 +51,43 @@ for file in sorted(os.listdir(folder)):
         if record:
             runs += 1
             wrong += differ(f"{file} as JSON, profile {profile}", text_of(library.cgfile_json, profile, b"a/" + name.encode(), text), run(profile, ["json"], record))
+
+
+def first(data, is_end, is_json, profile):
+    """The first entry: its path, its text and how many bytes it has; or a status alone."""
+    used, taken, path_len, at, room = size(), size(), size(), u64(), 16
+    while True:
+        out = ctypes.create_string_buffer(room)
+        status = library.cgfile_first(u32(profile), data, size(len(data)), ctypes.c_bool(is_end), ctypes.c_bool(is_json), out, size(room),
+                                      *map(ctypes.byref, (used, taken, path_len, at)))
+        if status != NO_ROOM:
+            break
+        room = used.value
+    return (data[: path_len.value], out.raw[: used.value], taken.value) if status == DONE else status
+
+
+def stream(text, piece, is_json, profile):
+    """All entries of a snapshot that comes in pieces."""
+    data, start, given = b"", 0, []
+    while True:
+        came = text[start : start + piece]
+        data, start = data + came, start + len(came)
+        while isinstance(entry := first(data, not came, is_json, profile), tuple):
+            given.append(entry[:2])
+            data = data[entry[2] :]
+        if entry != MORE:
+            return given if entry == END else entry
+
+
+for file in sorted(it for it in os.listdir(folder) if it.endswith(".snap")):
+    with open(os.path.join(folder, file), "rb") as it:
+        text = it.read()
+    for profile in (1, 2):
+        for piece in (997, 65536):
+            runs += 2
+            lines = b"".join(line for _, line in stream(text, piece, True, profile))
+            wrong += differ(f"{file} as JSON, pieces of {piece}", lines, run(profile, ["json"], text))
+            shown = b"".join(path + b": " + line + b"\n" for path, told in stream(text, piece, False, profile) for line in told.split(b"\n")[:-1])
+            wrong += differ(f"{file}, pieces of {piece}", shown, run(profile, ["show"], text))
 print(f"{runs} runs on real files, {wrong} differ")
 sys.exit(wrong != 0)

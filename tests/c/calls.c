@@ -147,6 +147,34 @@ static void lines(void) {
     TELLS(json(0, "a/cpu.max", BYTES("max 100000\n"), sizeof out), CGFILE_NO_PROFILE, UNSET);
 }
 
+static uint32_t first(const uint8_t *bytes, size_t len, bool is_end, bool is_json, size_t room) {
+    return cgfile_first(1, bytes, len, is_end, is_json, out, room, &used, &taken, &path_len, &at);
+}
+
+#define FIRST(call, text, took, path) (GIVES(call, text), ROW(taken == (took) && path_len == (path)))
+
+static void streams(void) {
+    FIRST(first(BYTES("a/cpu.max\0max 100000\nb/cpu.weight\0"), false, false, sizeof out), "max 100000\n", 21, 9);
+    FIRST(first(BYTES("a/cpu.max\0max 100000\n"), true, false, 11), "max 100000\n", 21, 9);
+    FIRST(first(BYTES("a/cpu.max\0max 100000\nb/cpu.weight\00010001\n"), true, true, sizeof out),
+          "{\"kind\":\"cpu_max\",\"path\":\"a/cpu.max\",\"value\":{\"period\":100000,\"quota\":\"max\"}}\n", 21, 9);
+    FIRST(first(BYTES("a/memory.stat\0anon 1\na/memory.stat\0file 2\n"), true, false, sizeof out), "anon 1\nfile 2\n",
+          42, 13);
+    LACKS(first(BYTES("a/cpu.max\0max 100000\n"), true, false, 10), 11);
+    ROW(taken == 21 && path_len == 9);
+    TELLS(first(BYTES("a/cpu.max\0max 100000\n"), false, false, sizeof out), CGFILE_MORE, UNSET);
+    TELLS(first(BYTES("a/cpu.max\0max 100000\nb/cpu.weight"), false, false, sizeof out), CGFILE_MORE, UNSET);
+    TELLS(first(BYTES(""), false, false, sizeof out), CGFILE_MORE, UNSET);
+    TELLS(first(BYTES(""), true, false, sizeof out), CGFILE_END, UNSET);
+    TELLS(first(BYTES("a/cpu.max\0max 100000"), true, false, sizeof out), CGFILE_CUT, 20);
+    TELLS(first(BYTES("a/cpu.max"), true, false, sizeof out), CGFILE_CUT, 9);
+    TELLS(first(BYTES("a/cpu.weight\00010001\n"), false, false, sizeof out), CGFILE_REFUSED, 17);
+    TELLS(first(BYTES("a/cpu.max\0max 100000\nb/\0"), false, false, sizeof out), CGFILE_REFUSED, 23);
+    TELLS(first(BYTES("\n"), false, false, sizeof out), CGFILE_REFUSED, 0);
+    begin();
+    ROW(cgfile_first(3, BYTES(""), true, false, out, sizeof out, &used, &taken, &path_len, &at) == CGFILE_NO_PROFILE);
+}
+
 static void kinds(void) {
     GIVES(kind(1, "memory.max", false, 5), "limit");
     GIVES(kind(1, "memory.max", true, sizeof out), "size_limit");
@@ -172,6 +200,7 @@ int main(void) {
     files();
     numbers();
     lines();
+    streams();
     kinds();
     printf("%d rows, %d differ\n", rows, wrong);
     return wrong != 0;

@@ -41,7 +41,7 @@ void __wrap_free(void *block) {
 }
 
 static uint8_t out[4096];
-static size_t used;
+static size_t used, taken, path_len;
 static uint64_t at, number;
 
 static uint32_t setting(void) {
@@ -59,6 +59,11 @@ static uint32_t numbers(void) {
 
 static uint32_t json(void) {
     return cgfile_json(1, BYTES("a/cgroup.controllers"), BYTES("cpu io memory\n"), out, sizeof out, &used, &at);
+}
+
+static uint32_t first(void) {
+    return cgfile_first(1, BYTES("a/memory.stat\0anon 1\na/memory.stat\0file 2\na/cpu.max\0"), false, true, out, sizeof out,
+                        &used, &taken, &path_len, &at);
 }
 
 static int tried(const char *name, uint32_t (*call)(void)) {
@@ -85,5 +90,5 @@ static int tried(const char *name, uint32_t (*call)(void)) {
 
 int main(void) {
     return tried("cgfile_setting", setting) | tried("cgfile_file", file) | tried("cgfile_number", numbers)
-           | tried("cgfile_json", json);
+           | tried("cgfile_json", json) | tried("cgfile_first", first);
 }

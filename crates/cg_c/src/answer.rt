@@ -26,6 +26,16 @@ pub(crate) const MAX: u32 = 8;
 pub(crate) const BAD_PATH: u32 = 9;
 /// The file has no line.
 pub(crate) const NO_LINES: u32 = 10;
+/// No entry is whole yet.
+pub(crate) const MORE: u32 = 11;
+/// The stream has ended.
+pub(crate) const END: u32 = 12;
+/// A record is longer than 1048576 bytes.
+pub(crate) const TOO_LONG: u32 = 13;
+/// An entry has more than 1000000 records.
+pub(crate) const TOO_MANY: u32 = 14;
+/// A stream is longer than 1073741824 bytes.
+pub(crate) const TOO_MUCH: u32 = 15;
 
 /// The profile of a number.
 pub(crate) fn profile_of(number: u32) -> Option<Profile>

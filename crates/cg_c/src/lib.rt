@@ -1,9 +1,10 @@
-//! What C calls: settings, files, their kinds and numbers, as bytes and numbers that the caller lends. No call keeps
-//! anything. Where a call answers anything but done, the buffer is as it was.
+//! What C calls: settings, files, their kinds and numbers, and streams, as bytes and numbers that the caller lends. No
+//! call keeps anything. Where a call answers anything but done, the buffer is as it was.
 #![tactic(auto)]
 
 mod answer;
 pub mod file;
+pub mod first;
 pub mod json;
 pub mod kind;
 pub mod number;
