@@ -3,7 +3,7 @@
  * entry that is being read. Where it is refused or cut, the place is told on standard error, and the status is 1.
  *
  *     cc -o limits limits.c $(pkg-config --cflags --libs cgfile)
- *     grep -rZ '' /sys/fs/cgroup 2> /dev/null | ./limits
+ *     LC_ALL=C grep -rZ '' /sys/fs/cgroup 2> /dev/null | ./limits
  */
 #include <cgfile.h>
 

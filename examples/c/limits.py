@@ -1,6 +1,6 @@
 """Each group's memory limits, from a snapshot on standard input: limits.c in Python.
 
-    grep -rZ '' /sys/fs/cgroup 2> /dev/null | python3 limits.py [LIBRARY]
+    LC_ALL=C grep -rZ '' /sys/fs/cgroup 2> /dev/null | python3 limits.py [LIBRARY]
 """
 import ctypes
 import sys

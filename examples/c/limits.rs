@@ -1,7 +1,7 @@
 //! Each group's memory limits, from a snapshot on standard input: limits.c in Rust.
 //!
 //!     rustc --edition 2024 limits.rs -l cgfile
-//!     grep -rZ '' /sys/fs/cgroup 2> /dev/null | ./limits
+//!     LC_ALL=C grep -rZ '' /sys/fs/cgroup 2> /dev/null | ./limits
 use std::io::{self, Read, Write};
 use std::process::ExitCode;
 
