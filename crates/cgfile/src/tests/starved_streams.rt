@@ -7,8 +7,8 @@ use crate::tests::starved::{Blocks, hog, is_printed};
 use cg_json::{line, view};
 use cg_line::{UpgradeFault, upgrade};
 use cg_snap::{
-    EncodeFault, Event, Limits, PlanDecoder, PlanPulled, Progress, Stop, StreamFault, Why, decode_plan,
-    encode_plan, encode_snapshot,
+    EncodeFault, Event, Limits, PlanDecoder, PlanPulled, Progress, Stop, StreamFault, Why,
+    decode_plan, encode_plan, encode_snapshot,
 };
 use cg_text::{Items, Key, Limit, OutOfMemory};
 use cg_tree::{Finding, Rule, findings};
