@@ -1,5 +1,5 @@
-//! What a container manager and a monitor do with the library, a function for each of its main calls. README shows these
-//! functions; the gate runs them and compares what they print.
+//! What a container manager and a monitor do with the library, a function for each of its main calls. README shows
+//! these functions; the gate runs them and compares what they print.
 #![tactic(auto)]
 
 use anyhow::Result;
