@@ -164,10 +164,10 @@ device_targets_settled s v h =
 set_settled : (s : SetFile) (v : Value) → set.ghosts.means s [] v → set.ghosts.size s ≤ held_of_whole v
 set_settled s v h =
     let q = s.text.token in
-    let list = q.first.list in
+    let list = q.first.list.list in
     turned_settled set_value _ (λ x. length x.0 + 0) held_of_whole h.0 v h.2
     (sequence_settled list_text.ghosts.means byte.ghosts.means q.in_second q.first q.second (length list.ranges.items) 0 length (λ _. 0)
-    (λ all k. ranges_settled list.ranges.items list.most list.low (number_rest list.number) all k) (λ u k. zero_least 0) h.0.0 h.0.1 h.1)
+    (λ all k. ranges_settled list.strict list.ranges.items list.most list.low (number_rest list.number) all k) (λ u k. zero_least 0) h.0.0 h.0.1 h.1)
     (line_held (length h.0.0) 0 refl)
 
 why_settled : (s : WhyText) (v : Option ReasonValue) → why.ghosts.means s [] v → why.ghosts.size s ≤ maybe_size (λ (x : ReasonValue). length x.1 + 1) v

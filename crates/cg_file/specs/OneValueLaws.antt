@@ -9,7 +9,8 @@ use Rattle.cg_text.specs.KeywordLaws.{keyword_bytes}
 use Rattle.cg_text.specs.Limit.{IsLimit}
 use Rattle.cg_text.specs.List.{IsStrictList}
 use Rattle.cg_text.specs.ListFacts.{heads, tails, not_nil}
-use Rattle.cg_text.specs.ListLaws.{list_new, list_one}
+use Rattle.cg_text.specs.ListLaws.{list_one}
+use Rattle.cg_text.specs.ListTextLaws.{list_new}
 use Rattle.cg_text.specs.RawLaws.{reason_one}
 use Rattle.cg_text.specs.Raw.{IsReason}
 use Rattle.cg_text.specs.Signed.{IsSigned}
@@ -164,8 +165,8 @@ clamp_one line (AtClamp a) MaxClamp h k = absurd (max_not_hundredths Read 10000 
 clamp_one line (AtClamp a) (AtClamp b) h k = ap AtClamp ((hundredths_startable 10000).one line a b h k)
 
 set_one : (most : ℕ) → HasOneText (λ line set. IsStrictList most set line)
-set_one most = one_as (list_new most (λ x n. IsDecimal 0 most n x) (λ x n. (λ h. h, λ h. h)) [] refl)
-    (list_one most (λ x n. IsDecimal 0 most n x) (λ x n h. number_digits 0 most Start x n h) (λ x m n h k. one_decimal 0 most x m n h k) [] None (λ e n h. h.2))
+set_one most = one_as (list_new true most (λ x n. IsDecimal 0 most n x) (λ x n. (λ h. h, λ h. h)) [] refl)
+    (list_one true most (λ x n. IsDecimal 0 most n x) (λ x n h. number_digits 0 most Start x n h) (λ x m n h k. one_decimal 0 most x m n h k) [] None (λ e n h. h.2))
 
 -- ---- Words
 

@@ -1,10 +1,8 @@
 -- What holds of a token after a fixed text.
-use Rattle.std.proofs.Common.{◌≡◌, ℕ, ◌↔◌, inl, inr, Bool, true, false, ◌&&◌, List, [], ◌∷◌, ◌++◌, drop, refl, sym, ◌∙◌, ap, IsTrue, Ok, Err}
-use Rattle.std.specs.Prelude.{OnErr}
-use Rattle.std.specs.declared.result.Result.{Result}
+use Rattle.std.proofs.Common.{◌≡◌, ℕ, ◌↔◌, inl, inr, Bool, true, false, ◌&&◌, List, [], ◌∷◌, ◌++◌, drop, refl, sym, ◌∙◌, ap, IsTrue}
 use Rattle.cg_text.specs.Keyword.{text_of}
 use Rattle.cg_text.specs.Scan.{FollowsRun}
-use Rattle.cg_text.specs.Token.{IfTaken, IfRefused, UnlessTaken, Follows, NoneBegins, Same, Begins, Ends, Completes, HasOneValue, HoldsBytes}
+use Rattle.cg_text.specs.Token.{Follows, NoneBegins, Same, Begins, Ends, Completes, HasOneValue, HoldsBytes}
 use Rattle.cg_text.specs.declared.keyword.KeywordText.{KeywordText}
 use Rattle.cg_join.specs.ApartLaws.{fixed_spells}
 use Rattle.cg_join.specs.ByteLaws.{sequence_bytes}
@@ -96,24 +94,3 @@ module _ {T W : Type 0} (M : T → List ℕ → W → Type 0) (label : KeywordTe
         | inr b ↦ absurd (not_ended b.0.0 b.0.1)
       ],
     )
-
--- What follows from what a step promises, whatever it answered.
-module _ {E P Q : Type 0} where
-  pub if_err_as : (r : Result Bool E) → (P → Q) → OnErr r P → OnErr r Q
-  if_err_as (Ok b) f h = h
-  if_err_as (Err e) f h = f h
-
-  pub if_taken_as : (r : Result Bool E) → (P → Q) → IfTaken r P → IfTaken r Q
-  if_taken_as (Ok true) f h = f h
-  if_taken_as (Ok false) f h = h
-  if_taken_as (Err e) f h = h
-
-  pub if_refused_as : (r : Result Bool E) → (P → Q) → IfRefused r P → IfRefused r Q
-  if_refused_as (Ok true) f h = h
-  if_refused_as (Ok false) f h = f h
-  if_refused_as (Err e) f h = h
-
-  pub unless_taken_as : (r : Result Bool E) → (P → Q) → UnlessTaken r P → UnlessTaken r Q
-  unless_taken_as (Ok true) f h = h
-  unless_taken_as (Ok false) f h = f h
-  unless_taken_as (Err e) f h = f h

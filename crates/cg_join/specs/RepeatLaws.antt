@@ -10,7 +10,7 @@ use Rattle.cg_index.specs.declared.keyed.Refused.{Refused}
 use Rattle.cg_join.specs.Distinct.{LacksValue}
 use Rattle.cg_text.specs.Token.{HasOneText, told}
 use Rattle.cg_join.specs.SequenceLaws.{cuts}
-use Rattle.cg_join.specs.Repeat.{Stops, IsList, IsListAfter, AreJoined, items_size, out_size}
+use Rattle.cg_join.specs.Repeat.{Stops, IsList, IsListAfter, items_size, out_size}
 
 pub not_nil : (b : ℕ) (front back : List ℕ) → [] ≡ front ++ b ∷ back → ⊥
 not_nil b [] back e = cc

@@ -80,9 +80,9 @@ sum_most : (all items first more : ℕ) → all ≡ first + more → items ≤ f
 sum_most all items first more e h k = omega (arith, e, h, k)
 
 -- Of a list of ranges in order.
-pub ranges_settled : (items : List (ℕ × ℕ)) (most : ℕ) (low : Option ℕ) (P : List ℕ → ℕ → Type 0) (all : List (ℕ × ℕ)) → IsListRest items most low P [] all → length items ≤ length all
-ranges_settled items most low P all h = elim h.2 [
-  | inl k ↦ sum_most (length all) (length items) (length (front items)) (length h.0) (ap length h.1 ∙ length-append (front items) h.0) (front_most items) (some_ranges true most low P h.0 k)
+pub ranges_settled : (strict : Bool) (items : List (ℕ × ℕ)) (most : ℕ) (low : Option ℕ) (P : List ℕ → ℕ → Type 0) (all : List (ℕ × ℕ)) → IsListRest strict items most low P [] all → length items ≤ length all
+ranges_settled strict items most low P all h = elim h.2 [
+  | inl k ↦ sum_most (length all) (length items) (length (front items)) (length h.0) (ap length h.1 ∙ length-append (front items) h.0) (front_most items) (some_ranges strict most low P h.0 k)
   | inr k ↦ none_settled (length items) (length all) k.0
 ]
 

@@ -1,2 +1,3 @@
 pub mod Inserted
 pub mod Joined
+pub mod Lists

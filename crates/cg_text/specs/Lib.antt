@@ -11,6 +11,7 @@ pub mod DecimalState
 pub mod Device
 pub mod Distinct
 pub mod FixedLaws
+pub mod GivenRanges
 pub mod Hundredths
 pub mod HundredthsLaws
 pub mod HundredthsState
@@ -27,8 +28,8 @@ pub mod List
 pub mod ListFacts
 pub mod ListLaws
 pub mod ListState
+pub mod ListTextLaws
 pub mod LooseLaws
-pub mod LooseSound
 pub mod LooseState
 pub mod Mark
 pub mod MarkLaws

@@ -1,16 +1,11 @@
 -- What is left of a list of ranges in any order.
-use Rattle.std.specs.Prelude.{ℕ, ◌≤◌, ◌⊎◌, ◌↔◌, false, Option, List}
+use Rattle.std.specs.Prelude.{ℕ, ◌↔◌, List}
 use Rattle.cg_text.specs.Numbers.{IsSet, Has}
-use Rattle.cg_text.specs.RangesState.{front, ListRest, begin_of}
 
--- The set has the numbers of these ranges and of those to come.
-abbrev pub Adds : List (ℕ × ℕ) → List (ℕ × ℕ) → List (ℕ × ℕ) → Type 0
-Adds xs rs all = IsSet all × ((n : ℕ) → Has all n ↔ (Has xs n ⊎ Has rs n))
+-- The set has the numbers of the ranges.
+abbrev pub Joins : List (ℕ × ℕ) → List (ℕ × ℕ) → Type 0
+Joins rs set = IsSet set × ((n : ℕ) → Has set n ↔ Has rs n)
 
--- The last of the ranges so far is not yet known.
-abbrev pub IsLooseRest : List (ℕ × ℕ) → ℕ → Option ℕ → (List ℕ → ℕ → Type 0) → List ℕ → List (ℕ × ℕ) → Type 0
-IsLooseRest items most low P rest all = ListRest false items most low P (λ rs. Adds (front items) rs all) rest
-
--- A number that ends the last range makes a set.
-abbrev pub IsSound : ℕ → Option ℕ → (List ℕ → ℕ → Type 0) → Type 0
-IsSound most low P = (rest : List ℕ) (n : ℕ) → P rest n → (n ≤ most) × (begin_of low n ≤ n)
+-- R tells the ranges of a rest.
+abbrev pub IsLooseRest : (List ℕ → List (ℕ × ℕ) → Type 0) → List ℕ → List (ℕ × ℕ) → Type 0
+IsLooseRest R rest set = (rs : List (ℕ × ℕ)) × R rest rs × Joins rs set

@@ -4,10 +4,9 @@ use Rattle.cg_text.specs.Token.{AreBytes}
 use Rattle.cg_text.specs.TokenLaws.{bytes_append}
 use Rattle.cg_text.specs.Decimal.{AreDigits, IsDecimal}
 use Rattle.cg_text.specs.DecimalLaws.{number_digits, digits_bytes, IsDecimalRest_completes, IsDecimalRest_one}
-use Rattle.cg_text.specs.Numbers.{IsSet}
 use Rattle.cg_text.specs.RangesState.{front, Cut, after_dash_from, after_comma_from, LowRest, AfterRange, RangesRest, ListRest, begin_of, Begun, number_rest, IsListByte}
-use Rattle.cg_text.specs.declared.list.ListByte.{ListByte}
-use Rattle.cg_text.specs.declared.list.ListByte.TheVariants.{Digit, Dash, Comma, Refused}
+use Rattle.cg_text.specs.declared.ranges.ListByte.{ListByte}
+use Rattle.cg_text.specs.declared.ranges.ListByte.TheVariants.{Digit, Dash, Comma, Refused}
 use Rattle.cg_text.specs.declared.decimal.DecimalText.{DecimalText}
 use Rattle.cg_text.specs.declared.decimal.Progress.TheVariants.{Start}
 
@@ -375,10 +374,6 @@ decimal_from lo most n text h le = (le, h.1, h.2)
 pub decimal_any : (lo most n : ℕ) (text : List ℕ) → IsDecimal lo most n text → IsDecimal 0 most n text
 decimal_any lo most n text h = (omega arith, h.1, h.2)
 
--- A number needs a digit.
-pub fresh_new : (lo most : ℕ) (P : List ℕ → ℕ → Type 0) → ((x : List ℕ) (n : ℕ) → P x n ↔ IsDecimal lo most n x) → (n : ℕ) → P [] n → ⊥
-fresh_new lo most P f n h = absurd (((f [] n).0 h).2)
-
 -- A number takes digits alone.
 pub digit_byte : (old new : DecimalText) (byte : ℕ) → ((x : List ℕ) (n : ℕ) → number_rest new x n ↔ number_rest old (byte ∷ x) n) → 48 ≤ byte
 digit_byte old new byte f =
@@ -430,10 +425,6 @@ some_of (suc n) b e f = omega arith
 
 pub nothing : (n : ℕ) (b : Bool) → b ≡ nat_eq n 0 → b ≡ true → n ≡ 0
 nothing n b e f = eqb-true n 0 (sym e ∙ f)
-
-pub nil_set : (xs : List (ℕ × ℕ)) → length xs ≡ 0 → IsSet xs
-nil_set [] e = tt
-nil_set (x ∷ xs) e = absurd (omega (arith, e))
 
 -- A rest holds bytes.
 pub cut_bytes : (P N : List ℕ → Type 0) → ((x : List ℕ) → P x → AreBytes x) → ((x : List ℕ) → N x → AreBytes x) → (text : List ℕ) → Cut P N text → AreBytes text

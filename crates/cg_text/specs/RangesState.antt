@@ -3,8 +3,8 @@ use Rattle.std.specs.Prelude.{◌≡◌, ℕ, ◌+◌, ◌≤◌, ◌⊎◌, ◌
 use Rattle.cg_text.specs.Decimal.{IsDecimal}
 use Rattle.cg_text.specs.DecimalState.{IsDecimalRest}
 use Rattle.cg_text.specs.declared.decimal.DecimalText.{DecimalText}
-use Rattle.cg_text.specs.declared.list.ListByte.{ListByte}
-use Rattle.cg_text.specs.declared.list.ListByte.TheVariants.{Digit, Dash, Comma, Refused}
+use Rattle.cg_text.specs.declared.ranges.ListByte.{ListByte}
+use Rattle.cg_text.specs.declared.ranges.ListByte.TheVariants.{Digit, Dash, Comma, Refused}
 
 -- All but the last.
 abbrev pub front : {X : Type 0} → List X → List X

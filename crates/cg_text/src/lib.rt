@@ -16,6 +16,7 @@ pub mod mark;
 pub mod memory;
 pub mod numbers;
 pub mod pairs;
+mod ranges;
 pub mod raw;
 pub mod reason;
 pub mod signed;

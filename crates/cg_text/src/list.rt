@@ -1,134 +1,21 @@
 //! Lists of numbers and ranges.
-ghost use Rattle.std.specs.Prelude.{◌≡◌, ℕ, ◌+◌, ◌≤◌, ◌<◌, ◌||◌, true, List, [], ◌++◌, ◌∷◌, length, nat_eq, OnOk, OnErr, vec_len, vec_capacity};
+ghost use Rattle.std.specs.Prelude.{◌≡◌, true, length};
 ghost use Rattle.cg_text.specs.Token.{Spells};
 ghost use Rattle.cg_text.specs.List.{IsStrictList};
-ghost use Rattle.cg_text.specs.ListState.{IsListRest, IsSound};
-ghost use Rattle.cg_text.specs.RangesState.{front, IsListByte, after_comma_from, after_dash_from, number_rest};
-ghost use Rattle.cg_text.specs.DecimalState.{decimal_ends};
-ghost use Rattle.cg_text.specs.ListLaws.{IsSound_prop};
+ghost use Rattle.cg_text.specs.GivenRanges.{GivesOnly, only_sets_prop};
+ghost use Rattle.cg_text.specs.Numbers.{IsSet};
 
-use crate::decimal::DecimalText;
-use crate::memory::{OutOfMemory, make_room};
+use crate::memory::OutOfMemory;
 use crate::numbers::NumberSet;
+use crate::ranges::RangesText;
 use crate::token::Token;
 use std::alloc::Global;
 
 /// The maximal ranges of a set in order, with commas between: `a` or `a-b`. The empty set is the empty text.
 #[derive(Drop)]
 pub struct StrictListText {
-    most: u64,
-    /// The ranges so far, and a place for the present one.
-    ranges: Vec<(u32, u32)>,
-    /// Where the present range begins, once its dash was taken.
-    low: Option<u32>,
-    number: DecimalText,
-    ghost small: { most ≤ 4294967295 },
-    ghost sound: { IsSound ranges.items most low (number_rest number) } by { IsSound_prop ranges.items most low (number_rest number) },
-    ghost fresh: { length ranges.items ≡ 0 → (n : ℕ) → number_rest number [] n → ⊥ },
-}
-
-/// What a byte does.
-#[derive(Clone, Copy, Drop)]
-pub(crate) enum ListByte {
-    Digit(DecimalText),
-    Comma(u64, DecimalText),
-    Dash(u64, DecimalText),
-    Refused,
-}
-
-/// The least number after one and a comma.
-fn after_comma_from(strict: bool, end: u64) -> u64
-    requires { end ≤ 4294967295 }
-    ensures { result ≡ after_comma_from strict end }
-{
-    if strict { end + 2 } else { 0 }
-}
-
-/// The least number after one and a dash.
-fn after_dash_from(strict: bool, end: u64) -> u64
-    requires { end ≤ 4294967295 }
-    ensures { result ≡ after_dash_from strict end }
-{
-    if strict { end + 1 } else { end }
-}
-
-/// What the byte does to a list with this number at hand. In a strict list ranges come in order, at least 2 apart, and a pair's ends differ.
-pub(crate) fn list_byte(
-    strict: bool,
-    most: u64,
-    low: Option<u32>,
-    number: DecimalText,
-    byte: u8,
-) -> ListByte
-    requires small { most ≤ 4294967295 }
-    requires within { (rest : List ℕ) (n : ℕ) → number_rest number rest n → n ≤ most }
-    ensures turn { IsListByte strict most low number byte result }
-{
-    let mut next = number;
-    match next.step(byte) {
-        Ok(true) => return ListByte::Digit(next),
-        Ok(false) => {}
-        Err(_) => unreachable!(),
-    }
-    if !number.can_end() {
-        return ListByte::Refused;
-    }
-    let end = number.take();
-    if byte == b',' {
-        return match DecimalText::new(after_comma_from(strict, end), most) {
-            Some(next) => ListByte::Comma(end, next),
-            None => ListByte::Refused,
-        };
-    }
-    if byte != b'-' {
-        return ListByte::Refused;
-    }
-    match low {
-        Some(_) => ListByte::Refused,
-        None => match DecimalText::new(after_dash_from(strict, end), most) {
-            Some(next) => ListByte::Dash(end, next),
-            None => ListByte::Refused,
-        },
-    }
-}
-
-/// Sets the last range.
-pub(crate) fn set_last(ranges: &mut Vec<(u32, u32)>, begin: u32, end: u32)
-    requires { 0 < length ranges.old.items }
-    ensures items { ranges.new.items ≡ front ranges.old.items ++ (begin, end) ∷ [] }
-    ensures room { vec_len ranges.old < vec_capacity ranges.old → vec_len ranges.new < vec_capacity ranges.new }
-{
-    let last = ranges.len() - 1;
-    ranges[last] = (begin, end);
-}
-
-/// Sets the last range, and begins another.
-pub(crate) fn close(ranges: &mut Vec<(u32, u32)>, begin: u32, end: u32) -> Result<(), OutOfMemory>
-    requires { 0 < length ranges.old.items }
-    ensures closed { OnOk result (ranges.new.items ≡ (front ranges.old.items ++ (begin, end) ∷ []) ++ (0, 0) ∷ []) }
-    ensures same { OnErr result (ranges.new.items ≡ ranges.old.items) }
-{
-    match make_room(ranges) {
-        Ok(()) => {}
-        Err(_) => return Err(OutOfMemory),
-    }
-    set_last(ranges, begin, end);
-    ranges.push_reserved((0, 0));
-    Ok(())
-}
-
-/// Begins the first range, where there is none.
-pub(crate) fn open(ranges: &mut Vec<(u32, u32)>) -> Result<(), OutOfMemory>
-    ensures opened { OnOk result ((front ranges.new.items ≡ front ranges.old.items) × (0 < length ranges.new.items) × (length ranges.new.items ≤ length ranges.old.items + 1)) }
-    ensures same { OnErr result (ranges.new.items ≡ ranges.old.items) }
-{
-    if !ranges.is_empty() {
-        return Ok(());
-    }
-    match ranges.push((0, 0)) {
-        Ok(()) => Ok(()),
-        Err(_) => Err(OutOfMemory),
-    }
+    list: RangesText,
+    ghost sound: { GivesOnly IsSet list } by { only_sets_prop list },
 }
 
 impl StrictListText {
@@ -137,14 +24,8 @@ impl StrictListText {
         ensures spells { Spells ⟦<StrictListText as Token>⟧.means result (λ rest set. IsStrictList most set rest) }
         ensures size { ⟦<StrictListText as Token>⟧.size result ≡ 0 }
     {
-        match DecimalText::new(0, u64::from(most)) {
-            Some(number) => StrictListText {
-                most: u64::from(most),
-                ranges: Vec::new(alloc),
-                low: None,
-                number,
-            },
-            None => unreachable!(),
+        StrictListText {
+            list: RangesText::new(alloc, true, most),
         }
     }
 }
@@ -152,94 +33,38 @@ impl StrictListText {
 impl Token for StrictListText {
     type Out = NumberSet;
 
-    ghost use Rattle.cg_text.specs.RangesLaws.{true_not_false, rest_bytes};
-    ghost use Rattle.cg_text.specs.DecimalLaws.{IsDecimalRest_completes, IsDecimalRest_one, decimal_ends_is, number_digits};
-    ghost use Rattle.cg_text.specs.ListLaws.{list_completes, list_one, list_ends};
+    ghost means = { λ s. ⟦<RangesText as Token>⟧.means s.list };
 
-    ghost means = { λ s rest all. IsListRest s.ranges.items s.most s.low (number_rest s.number) rest all };
-
-    ghost size = { λ s. length s.ranges.items };
+    ghost size = { λ s. ⟦<RangesText as Token>⟧.size s.list };
 
     ghost value_size = { length };
 
-    ghost ends = { λ s. nat_eq (length s.ranges.items) 0 || decimal_ends s.number.lo s.number.hi s.number.progress };
+    ghost ends = { λ s. ⟦<RangesText as Token>⟧.ends s.list };
 
-    ghost grows = { true };
+    ghost grows = { ⟦<RangesText as Token>⟧.grows };
 
     fn step(&mut self, byte: u8) -> Result<bool, OutOfMemory> {
-        match list_byte(true, self.most, self.low, self.number, byte) {
-            ListByte::Digit(number) => match open(&mut self.ranges) {
-                Ok(()) => {
-                    self.number = number;
-                    Ok(true)
-                }
-                Err(e) => Err(e),
-            },
-            ListByte::Comma(end, number) => {
-                let begin = match self.low {
-                    Some(low) => low,
-                    None => end as u32,
-                };
-                match close(&mut self.ranges, begin, end as u32) {
-                    Ok(()) => {
-                        self.low = None;
-                        self.number = number;
-                        Ok(true)
-                    }
-                    Err(e) => Err(e),
-                }
-            }
-            ListByte::Dash(end, number) => {
-                self.low = Some(end as u32);
-                self.number = number;
-                Ok(true)
-            }
-            ListByte::Refused => Ok(false),
-        }
+        self.list.step(byte)
     }
 
     fn run(&mut self, bytes: &[u8]) -> usize {
-        let mut number = self.number;
-        let count = number.run(bytes);
-        if count == 0 {
-            return 0;
-        }
-        match open(&mut self.ranges) {
-            Ok(()) => {
-                self.number = number;
-                count
-            }
-            Err(_) => 0,
-        }
+        self.list.run(bytes)
     }
 
     fn allows(&self, byte: u8) -> bool {
-        match list_byte(true, self.most, self.low, self.number, byte) {
-            ListByte::Refused => false,
-            _ => true,
-        }
+        self.list.allows(byte)
     }
 
     fn can_end(&self) -> bool {
-        let empty = self.ranges.is_empty();
-        let ended = self.number.can_end();
-        empty | ended
+        self.list.can_end()
     }
 
     fn held(&self) -> u64 {
-        self.ranges.len() as u64
+        self.list.held()
     }
 
     fn take(self) -> NumberSet {
-        let mut ranges = self.ranges;
-        if !ranges.is_empty() {
-            let end = self.number.take() as u32;
-            let begin = match self.low {
-                Some(low) => low,
-                None => end,
-            };
-            set_last(&mut ranges, begin, end);
-        }
+        let ranges = self.list.take().into_vec();
         NumberSet { ranges }
     }
 
@@ -247,13 +72,13 @@ impl Token for StrictListText {
         value.ranges.len() as u64
     }
 
-    ghost completes = { λ s. list_completes s.ranges.items s.most s.low (number_rest s.number) (IsDecimalRest_completes s.number.lo s.number.hi s.number.progress s.number.range s.number.live) };
+    ghost completes = { λ s. ⟦<RangesText as Token>⟧.completes s.list };
 
-    ghost no_size = { λ e _. absurd (true_not_false e) };
+    ghost no_size = { λ e s. ⟦<RangesText as Token>⟧.no_size e s.list };
 
-    ghost ends_is = { λ s. list_ends s.ranges.items s.most s.low (number_rest s.number) (decimal_ends s.number.lo s.number.hi s.number.progress) (decimal_ends_is s.number.lo s.number.hi s.number.progress) };
+    ghost ends_is = { λ s. ⟦<RangesText as Token>⟧.ends_is s.list };
 
-    ghost one_value = { λ s. list_one s.most (number_rest s.number) (number_digits s.number.lo s.number.hi s.number.progress) (IsDecimalRest_one s.number.lo s.number.hi s.number.progress) s.ranges.items s.low s.fresh };
+    ghost one_value = { λ s. ⟦<RangesText as Token>⟧.one_value s.list };
 
-    ghost holds_bytes = { λ s rest all h. rest_bytes true s.ranges.items s.most s.low (number_rest s.number) (number_digits s.number.lo s.number.hi s.number.progress) (λ rs. all ≡ front s.ranges.items ++ rs) rest h };
+    ghost holds_bytes = { λ s. ⟦<RangesText as Token>⟧.holds_bytes s.list };
 }

@@ -1,5 +1,5 @@
 -- A text has one setting, kind by kind.
-use Rattle.std.proofs.Common.{◌≡◌, ℕ, ◌≤◌, inl, inr, Bool, ℤ, pos, negsuc, List, [], ◌∷◌, ◌+◌, Option, None, refl, sym, ◌∙◌, ap, arith}
+use Rattle.std.proofs.Common.{◌≡◌, ℕ, ◌≤◌, inl, inr, Bool, false, ℤ, pos, negsuc, List, [], ◌∷◌, ◌+◌, Option, None, refl, sym, ◌∙◌, ap, arith}
 use Rattle.cg_text.specs.Clamp.{IsClamp}
 use Rattle.cg_text.specs.Decimal.{IsDecimal, IsNumeral}
 use Rattle.cg_text.specs.DecimalLaws.{IsNumeral_one, number_digits}
@@ -11,7 +11,10 @@ use Rattle.cg_text.specs.Limit.{IsLimit}
 use Rattle.cg_text.specs.LimitPairsLaws.{limits_new, limits_one, no_limits}
 use Rattle.cg_text.specs.List.{IsLooseList}
 use Rattle.cg_text.specs.ListFacts.{push_one, tails}
-use Rattle.cg_text.specs.LooseLaws.{list_new, list_one}
+use Rattle.cg_text.specs.ListLaws.{list_one}
+use Rattle.cg_text.specs.ListState.{IsListRest}
+use Rattle.cg_text.specs.ListTextLaws.{list_new}
+use Rattle.cg_text.specs.LooseLaws.{loose_is, loose_one}
 use Rattle.cg_text.specs.Signed.{IsSigned}
 use Rattle.cg_text.specs.Size.{HasSize, IsSize}
 use Rattle.cg_text.specs.SizeLaws as sizes
@@ -159,8 +162,10 @@ target_one : HasOneText (λ line x. IsTargetWrite x line)
 target_one = one_as target_is (turned_one both_of device_target_proper.one_text)
 
 set_one : (most : ℕ) → HasOneText (λ line set. IsLooseList most set line)
-set_one most = one_as (list_new most (λ x n. IsDecimal 0 most n x) (λ x n. (λ h. h, λ h. h)) [] refl)
-    (list_one most (λ x n. IsDecimal 0 most n x) (λ x n h. number_digits 0 most Start x n h) (λ x m n h k. one_decimal 0 most x m n h k) [] None (λ e n h. h.2))
+set_one most =
+    let ranges = IsListRest false [] most None (λ x n. IsDecimal 0 most n x) in
+    one_as (loose_is ranges most (list_new false most (λ x n. IsDecimal 0 most n x) (λ x n. (λ h. h, λ h. h)) [] refl))
+    (loose_one ranges (list_one false most (λ x n. IsDecimal 0 most n x) (λ x n h. number_digits 0 most Start x n h) (λ x m n h k. one_decimal 0 most x m n h k) [] None (λ e n h. h.2)))
 
 role_one : HasOneText (λ line role. IsRole role line)
 role_one = one_as role_is (turned_one role_of (either_one member_no_root (fixed_one (text_of word.Member)) (either_one root_not_isolated (fixed_one (text_of word.Root)) (fixed_one (text_of word.Isolated)))))

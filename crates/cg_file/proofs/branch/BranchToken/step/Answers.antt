@@ -1,5 +1,5 @@
+use Rattle.cg_text.specs.TokenLaws.{if_err_as}
 use Rattle.cg_join.specs.declared.choice.Either.TheVariants.{Left, Right}
-use Rattle.cg_join.specs.LabelLaws.{if_err_as}
 use Rattle.std.proofs.Common.{refl}
 use Rattle.cg_file.specs.BranchLaws.{first_begun}
 use Rattle.cg_file.proofs.branch.BranchToken.step.Goals as goal

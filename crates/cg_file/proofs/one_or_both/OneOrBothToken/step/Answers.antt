@@ -1,5 +1,5 @@
-use Rattle.cg_join.specs.LabelLaws.{if_err_as}
 use Rattle.std.proofs.Common.{◌≡◌, true, false, [], refl, Some, None, sym, ◌∙◌}
+use Rattle.cg_text.specs.TokenLaws.{if_err_as}
 use Rattle.cg_join.specs.SequenceLaws.{apart_after}
 use Rattle.cg_file.specs.OneOrBothLaws.{first_taken, second_alone, second_after, start_refused, first_refused, start_goes, first_goes, later_goes}
 use Rattle.cg_file.specs.declared.one_or_both.PartsTaken.TheVariants.{First}

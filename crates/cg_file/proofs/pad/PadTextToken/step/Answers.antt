@@ -1,5 +1,5 @@
 use Rattle.std.proofs.Common.{true, refl}
-use Rattle.cg_join.specs.LabelLaws.{if_err_as}
+use Rattle.cg_text.specs.TokenLaws.{if_err_as}
 use Rattle.cg_file.specs.PadLaws.{second_space, other_byte, other_begins, known_begins}
 use Rattle.cg_file.proofs.pad.PadTextToken.step.Goals as goal
 

@@ -1,5 +1,5 @@
+use Rattle.cg_text.specs.TokenLaws.{if_err_as}
 use Rattle.cg_join.specs.LinesLaws.{lacks_same}
-use Rattle.cg_join.specs.LabelLaws.{if_err_as}
 use Rattle.std.proofs.Common.{◌≡◌, true, [], ◌∷◌, ◌++◌, map, ◌∙◌, ap, sym}
 use Rattle.cg_join.specs.Keyed.{IsKeyed}
 use Rattle.cg_join.specs.KeyedLaws.{distinct_last, keyed_alike, popped, distinct_added, distinct_first}

@@ -1,5 +1,6 @@
 use Rattle.std.proofs.Common.{sym, ◌∙◌}
-use Rattle.cg_join.specs.LabelLaws.{if_taken_as, if_refused_as, unless_taken_as, label_follows, label_refuses, label_same, if_err_as, token_begins, label_begins}
+use Rattle.cg_text.specs.TokenLaws.{if_taken_as, if_refused_as, unless_taken_as, if_err_as}
+use Rattle.cg_join.specs.LabelLaws.{label_follows, label_refuses, label_same, token_begins, label_begins}
 use Rattle.cg_join.proofs.label.LabelTextToken.step.Goals as goal
 
 pub returns-else-can_end-clause-taken : goal.returns-else-can_end-clause-taken

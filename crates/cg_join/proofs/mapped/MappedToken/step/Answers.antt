@@ -1,5 +1,5 @@
-use Rattle.cg_join.specs.LabelLaws.{if_err_as}
 use Rattle.std.proofs.Common.{refl}
+use Rattle.cg_text.specs.TokenLaws.{if_err_as}
 use Rattle.cg_join.proofs.mapped.MappedToken.step.Goals as goal
 
 pub returns-clause-last : goal.returns-clause-last

@@ -1,5 +1,5 @@
-use Rattle.cg_join.specs.LabelLaws.{if_err_as}
 use Rattle.std.proofs.Common.{◌≡◌, true, false, not, [], ◌∷◌, ◌++◌, map, refl, sym, ◌∙◌, ap, arith}
+use Rattle.cg_text.specs.TokenLaws.{if_err_as}
 use Rattle.cg_join.specs.RepeatLaws.{size_pushed}
 use Rattle.cg_join.specs.Distinct.{any_value}
 use Rattle.cg_join.specs.DistinctLaws.{lacks_value}

@@ -1,16 +1,11 @@
-use Rattle.std.proofs.Common.{◌<◌, ◌≤◌, length, take, length-take, arith}
-use Rattle.cg_text.specs.RangesState.{number_rest}
-use Rattle.cg_text.specs.RangesLaws.{run_digits}
-use Rattle.cg_text.specs.LooseLaws.{list_digits}
+use Rattle.std.proofs.Common.{◌++◌, take}
 use Rattle.cg_text.proofs.loose.LooseListTextToken.run.Goals as goal
 
-pub returns-in-Ok-clause-follows : goal.returns-in-Ok-clause-follows
-returns-in-Ok-clause-follows c =
-    let s = c.args.self.now in
-    let n = c.run-count.result in
-    let run = take n c.args.bytes.now in
-    let f = c.run-count.ensures.follows in
-    let o = c.in-Ok.ensures.opened in
-    let within : n ≤ length c.args.bytes.now = c.run-count.ensures.within in
-    let many : 0 < length run = omega (arith, length-take n c.args.bytes.now, within, c.if-count-eq0.false) in
-    list_digits s.most (number_rest s.number) (number_rest c.run-count.new.self) run many (run_digits s.number c.run-count.new.self run f) f s.ranges.items c.open.new.ranges.items s.low o.0 o.1
+pub invariant_of-self : goal.invariant_of-self
+invariant_of-self c =
+    record { sound = λ rest all h. c.args.self.now.sound (take c.run.result c.args.bytes.now ++ rest) all ((c.run.ensures.follows rest all).0 h) }
+
+pub returns-clause-follows : goal.returns-clause-follows
+returns-clause-follows c =
+    let f = c.run.ensures.follows in
+    λ rest set. (λ h. (h.0, (f rest h.0).0 h.1, h.2), λ h. (h.0, (f rest h.0).1 h.1, h.2))

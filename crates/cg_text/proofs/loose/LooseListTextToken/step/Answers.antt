@@ -1,91 +1,28 @@
-use Rattle.std.proofs.Common.{◌≡◌, false, ◌∷◌, [], ◌++◌, arith, ap, sym, ◌∙◌, inl, inr}
-use Rattle.cg_text.specs.DecimalLaws.{number_digits, IsDecimalRest_completes}
-use Rattle.cg_text.specs.RangesState.{number_rest, begin_of, front}
-use Rattle.cg_text.specs.RangesLaws.{rest_begun, digit_byte, fresh_new, number_one, some_length, begin_some, begin_none, front_push}
-use Rattle.cg_text.specs.LooseState.{Adds}
-use Rattle.cg_text.specs.ListLaws.{closed_length}
-use Rattle.cg_text.specs.LooseLaws.{list_digit, list_comma, list_dash, sound_comma, begun_list, more_ranges}
+use Rattle.std.proofs.Common.{◌∷◌}
+use Rattle.cg_text.specs.GivenRanges.{Gives}
+use Rattle.cg_text.specs.LooseLaws.{loose_completes}
+use Rattle.cg_text.specs.Numbers.{AreRanges}
+use Rattle.cg_text.specs.TokenLaws.{if_taken_as, if_refused_as, unless_taken_as, if_err_as}
+use Rattle.cg_text.proofs.Lists.{given_after}
 use Rattle.cg_text.proofs.loose.LooseListTextToken.step.Goals as goal
-use Rattle.cg_text.proofs.loose.LooseListTextToken.step.Goals.{in-Some, in-None}
 
-pub returns-in-Ok-clause-taken : goal.returns-in-Ok-clause-taken
-returns-in-Ok-clause-taken c =
+pub invariant_of-self : goal.invariant_of-self
+invariant_of-self c =
     let s = c.args.self.now in
-    let t = c.in-Digit.ensures.turn in
-    let o = c.in-Ok.ensures.opened in
-    list_digit s.most c.args.byte (number_rest s.number) (number_rest c.in-Digit.number) (digit_byte s.number c.in-Digit.number c.args.byte t) t s.ranges.items c.open.new.ranges.items s.low o.0 o.1
+    record { sound = given_after AreRanges s.list c.step.new.self c.args.byte c.step.result c.step.ensures.taken c.step.ensures.same s.sound }
 
-pub returns-in-Dash-clause-taken : goal.returns-in-Dash-clause-taken
-returns-in-Dash-clause-taken c =
-    let s = c.args.self.now in
-    let t = c.in-Dash.ensures.turn in
-    λ rest all. rw (t.0, t.4) (list_dash s.most c.in-Dash.end (number_rest s.number) t.1 (number_one s.number c.in-Dash.end t.1) (number_digits s.number.lo s.number.hi s.number.progress)
-    (number_rest c.in-Dash.number) t.3 s.ranges.items s.fresh rest all)
+pub returns-clause-taken : goal.returns-clause-taken
+returns-clause-taken c =
+    if_taken_as c.step.result (λ f rest set. (λ h. (h.0, (f rest h.0).0 h.1, h.2), λ h. (h.0, (f rest h.0).1 h.1, h.2))) c.step.ensures.taken
 
-pub returns-in-Refused-clause-refused : goal.returns-in-Refused-clause-refused
-returns-in-Refused-clause-refused c =
-    let s = c.args.self.now in
-    λ rest all h. c.in-Refused.ensures.turn (rest_begun false s.ranges.items s.most s.low (number_rest s.number) c.args.byte (λ rs. Adds (front s.ranges.items) rs all) rest h)
+pub returns-clause-refused : goal.returns-clause-refused
+returns-clause-refused c = if_refused_as c.step.result (λ f rest set h. f rest h.0 h.1) c.step.ensures.refused
 
-pub returns-in-Ok-close-clause-taken : goal.returns-in-Ok-close-clause-taken
-returns-in-Ok-close-clause-taken c =
-    let s = c.args.self.now in
-    let t = c.in-Comma.ensures.turn in
-    let b : c.match-self.begin ≡ begin_of s.low c.in-Comma.end =
-    elim c.match-self.branch [
-      | in-Some w ↦ w.begin-is
-          ∙ sym (begin_some s.low w.in-Some.low c.in-Comma.end w.in-Some.is)
-      | in-None w ↦ w.begin-is
-          ∙ sym (begin_none s.low c.in-Comma.end w.in-None.is)
-    ] in
-    let e : c.close.new.ranges.items
-    ≡ (front s.ranges.items ++ (begin_of s.low c.in-Comma.end, c.in-Comma.end) ∷ []) ++ (0, 0) ∷ [] =
-    c.in-Ok-close.ensures.closed ∙ ap
-    (λ z. (front s.ranges.items ++ (z, c.in-Comma.end) ∷ []) ++ (0, 0) ∷ []) b in
-    λ rest all. rw t.0 (list_comma s.most c.in-Comma.end (number_rest s.number) t.1 (number_one s.number c.in-Comma.end t.1) (number_digits s.number.lo s.number.hi s.number.progress)
-    (number_rest c.in-Comma.number) t.3 s.ranges.items c.close.new.ranges.items s.low e rest all)
+pub returns-clause-same : goal.returns-clause-same
+returns-clause-same c =
+    unless_taken_as c.step.result (λ f rest set. (λ h. (h.0, (f rest h.0).0 h.1, h.2), λ h. (h.0, (f rest h.0).1 h.1, h.2))) c.step.ensures.same
 
-pub invariant_of-self-in-Ok-close : goal.invariant_of-self-in-Ok-close
-invariant_of-self-in-Ok-close c =
+pub returns-clause-last : goal.returns-clause-last
+returns-clause-last c =
     let s = c.args.self.now in
-    let t = c.in-Comma.ensures.turn in
-    let b : c.match-self.begin ≡ begin_of s.low c.in-Comma.end =
-    elim c.match-self.branch [
-      | in-Some w ↦ w.begin-is
-          ∙ sym (begin_some s.low w.in-Some.low c.in-Comma.end w.in-Some.is)
-      | in-None w ↦ w.begin-is
-          ∙ sym (begin_none s.low c.in-Comma.end w.in-None.is)
-    ] in
-    let e : c.close.new.ranges.items
-    ≡ (front s.ranges.items ++ (begin_of s.low c.in-Comma.end, c.in-Comma.end) ∷ []) ++ (0, 0) ∷ [] =
-    c.in-Ok-close.ensures.closed ∙ ap
-    (λ z. (front s.ranges.items ++ (z, c.in-Comma.end) ∷ []) ++ (0, 0) ∷ []) b in
-    let done : front c.close.new.ranges.items
-    ≡ front s.ranges.items ++ (begin_of s.low c.in-Comma.end, c.in-Comma.end) ∷ [] =
-    ap front e ∙ front_push (front s.ranges.items ++ (begin_of s.low c.in-Comma.end, c.in-Comma.end) ∷ []) (0, 0) in
-    record {
-      small = s.small;
-      ordered = rw done (more_ranges (front s.ranges.items) (begin_of s.low c.in-Comma.end) c.in-Comma.end s.ordered (s.sound [] c.in-Comma.end t.1).1);
-      sound = sound_comma s.most (number_rest c.in-Comma.number) t.3;
-      fresh = λ e. fresh_new 0 s.most (number_rest c.in-Comma.number) t.3;
-    }
-
-pub returns-in-Ok-close-clause-size : goal.returns-in-Ok-close-clause-size
-returns-in-Ok-close-clause-size c =
-    let s = c.args.self.now in
-    let t = c.in-Comma.ensures.turn in
-    omega (arith, closed_length s.ranges.items c.close.new.ranges.items (c.match-self.begin, c.in-Comma.end) (0, 0) (some_length s.ranges.items (λ e. s.fresh e c.in-Comma.end t.1)) c.in-Ok-close.ensures.closed)
-
-pub returns-in-Err-clause-last : goal.returns-in-Err-clause-last
-returns-in-Err-clause-last c =
-    let s = c.args.self.now in
-    let t = c.in-Digit.ensures.turn in
-    let n = c.in-Digit.number in
-    let k = IsDecimalRest_completes n.lo n.hi n.progress n.range n.live in
-    begun_list s.ranges.items s.most s.low (number_rest s.number) c.args.byte s.ordered s.sound (inl (k.0, k.1, (t k.0 k.1).0 k.2))
-
-pub returns-in-Err-close-clause-last : goal.returns-in-Err-close-clause-last
-returns-in-Err-close-clause-last c =
-    let s = c.args.self.now in
-    let t = c.in-Comma.ensures.turn in
-    begun_list s.ranges.items s.most s.low (number_rest s.number) c.args.byte s.ordered s.sound (inr (inl (t.0, c.in-Comma.end, t.1, t.2)))
+    if_err_as c.step.result (λ b. loose_completes (λ rest. Gives s.list (c.args.byte ∷ rest)) (λ rest. s.sound (c.args.byte ∷ rest)) b) c.step.ensures.last
