@@ -22,4 +22,4 @@ pub line_cut : (bytes : List ℕ) (end : ℕ) → end < length bytes → get_or 
 line_cut bytes end inside newline = take_more bytes end 0 inside ∙ ap (λ b. take end bytes ++ b ∷ []) newline
 
 pub line_front : (bytes : List ℕ) (end : ℕ) → end < length bytes → get_or bytes end 0 ≡ 10 → Nowhere (Passes (is_byte 10) bytes) 0 end → IsLineFront bytes (end + 1)
-line_front bytes end inside newline none = (take end bytes, line_cut bytes end inside newline, plain_searched bytes end none)
+line_front bytes end inside newline none = (take end bytes, line_cut bytes end inside newline, plain_searched 10 bytes end none)

@@ -6,7 +6,7 @@ ghost use Rattle.cg_text.specs.Token.{Spells};
 ghost use Rattle.cg_value.specs.Files.{KindText};
 ghost use Rattle.cg_value.specs.declared.kind.ReadForm.TheVariants.{Raw as RawForm};
 
-use cg_text::{OutOfMemory, Token};
+use cg_text::{OutOfMemory, Token, count_before};
 use cg_value::{RawLines, Value, are_whole_lines};
 use memchr::memchr;
 use std::alloc::Global;
@@ -100,17 +100,12 @@ impl Token for RawFile {
         if byte == 0 {
             return Ok(false);
         }
-        match self.text.push(byte) {
-            Ok(()) => Ok(true),
-            Err(_) => Err(OutOfMemory),
-        }
+        self.text.push(byte)?;
+        Ok(true)
     }
 
     fn run(&mut self, bytes: &[u8]) -> usize {
-        let count = match memchr(0, bytes) {
-            Some(place) => place,
-            None => bytes.len(),
-        };
+        let count = count_before(0, bytes);
         let (run, _) = bytes.split_at(count);
         match self.text.extend_from_slice(run) {
             Ok(()) => count,

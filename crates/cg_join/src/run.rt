@@ -3,12 +3,10 @@ ghost use Rattle.std.specs.Prelude.{◌≡◌, ◌≤◌, ◌<◌, ◌+◌, IsTr
 ghost use Rattle.cg_text.specs.Scan.{FollowsRun};
 ghost use Rattle.cg_text.specs.Texts.{Lacks};
 
-use cg_text::Token;
-use memchr::memchr;
+use cg_text::{Token, count_before};
 
 /// Takes bytes from the front of `bytes` at once, and the one after them by `step`. Answers how many it took, and
-/// whether
-/// `step` took one.
+/// whether `step` took one.
 fn run_and_step<T: Token>(token: &mut T, bytes: &[u8]) -> (usize, bool)
     ensures within { result.0 ≤ length bytes.now }
     ensures some { IsTrue result.1 → 0 < result.0 }
@@ -46,17 +44,6 @@ pub fn run_parts<T: Token>(token: &mut T, bytes: &[u8]) -> usize
     }
 }
 
-/// How many bytes in front are no newlines.
-fn count_plain(bytes: &[u8]) -> usize
-    ensures within { result ≤ length bytes.now }
-    ensures plain { Lacks 10 (take result bytes.now) }
-{
-    match memchr(b'\n', bytes) {
-        Some(place) => place,
-        None => bytes.len(),
-    }
-}
-
 /// Takes bytes from the front of `bytes` until a newline, or a byte that is refused or for which memory is. Answers how
 /// many it took.
 pub fn run_line<T: Token>(token: &mut T, bytes: &[u8]) -> usize
@@ -66,6 +53,6 @@ pub fn run_line<T: Token>(token: &mut T, bytes: &[u8]) -> usize
     ensures size { T.size token.new ≤ T.size token.old + result }
     ensures same_size { result ≡ 0 → T.size token.new ≡ T.size token.old }
 {
-    let (line, _) = bytes.split_at(count_plain(bytes));
+    let (line, _) = bytes.split_at(count_before(b'\n', bytes));
     run_parts(token, line)
 }

@@ -1,28 +1,16 @@
 -- What holds of the bytes that a raw line takes at once.
-use Rattle.std.proofs.Common.{◌≡◌, ◌≢◌, ℕ, zero, suc, ◌<◌, ◌≤◌, ◌↔◌, List, [], ◌∷◌, ◌++◌, length, take, get_or, refl, sym, ap, ◌∙◌, append_assoc, arith}
-use Rattle.std.proofs.lemmas.List.{get_or-take}
-use Rattle.memchr.specs.Find.{Nowhere, Passes, is_byte}
+use Rattle.std.proofs.Common.{ℕ, zero, suc, ◌<◌, ◌↔◌, List, [], ◌∷◌, ◌++◌, take, get_or, sym, ◌∙◌, append_assoc, arith}
 use Rattle.cg_text.specs.Raw.{IsRawLine}
 use Rattle.cg_text.specs.RawLaws.{raw_append}
 use Rattle.cg_text.specs.RawState.{IsRawRest}
+use Rattle.cg_text.specs.Texts.{Lacks}
 
--- Where no byte in front of a place is 0 or a newline, those bytes are of a raw line.
-pub raw_front : (bytes : List ℕ) (n : ℕ) → ((i : ℕ) → get_or bytes i 0 < 256) → ((i : ℕ) → i < n → i < length bytes → (get_or bytes i 0 ≢ 0) × (get_or bytes i 0 ≢ 10)) → IsRawLine (take n bytes)
-raw_front [] zero small none = tt
-raw_front [] (suc n) small none = tt
-raw_front (c ∷ cs) zero small none = tt
-raw_front (c ∷ cs) (suc n) small none =
-    let first = none 0 (omega arith) (omega arith) in
-    (omega (arith, first.0), small 0, first.1, raw_front cs n (λ i. small (suc i)) (λ i h k. none (suc i) (omega (arith, h)) (omega (arith, k))))
-
--- The same where no newline stands in front of a place, and no NUL in front of one of these bytes.
-pub raw_searched : (bytes line : List ℕ) (end n : ℕ) → ((i : ℕ) → get_or bytes i 0 < 256) → Nowhere (Passes (is_byte 10) bytes) 0 end → line ≡ take end bytes →
-    Nowhere (Passes (is_byte 0) line) 0 n → n ≤ end → IsRawLine (take n bytes)
-raw_searched bytes line end n small plain cut none few = raw_front bytes n small (λ i low high. (
-  λ e. (let near : get_or line i 0 ≡ get_or bytes i 0 = ap (λ (t : List ℕ). get_or t i 0) cut ∙ get_or-take end bytes i 0 (omega (arith, low, few)) in
-      none i (omega arith) low (rw (near ∙ e) refl)),
-  λ e. plain i (omega arith) (omega (arith, low, few)) (rw e refl),
-))
+-- Bytes without a NUL and a newline are of a raw line.
+pub raw_lacking : (bytes : List ℕ) (n : ℕ) → ((i : ℕ) → get_or bytes i 0 < 256) → Lacks 0 (take n bytes) → Lacks 10 (take n bytes) → IsRawLine (take n bytes)
+raw_lacking [] zero small no_nul plain = tt
+raw_lacking [] (suc n) small no_nul plain = tt
+raw_lacking (c ∷ cs) zero small no_nul plain = tt
+raw_lacking (c ∷ cs) (suc n) small no_nul plain = (omega (arith, no_nul.0), small 0, plain.0, raw_lacking cs n (λ i. small (suc i)) no_nul.1 plain.1)
 
 raw_rest : (xs ys : List ℕ) → IsRawLine (xs ++ ys) → IsRawLine ys
 raw_rest [] ys h = h

@@ -3,6 +3,7 @@
 
 pub mod byte;
 pub mod bytes;
+pub mod count;
 pub mod decimal;
 mod digit;
 pub mod fixed;
@@ -28,6 +29,7 @@ pub mod word;
 
 pub use byte::ByteText;
 pub use bytes::ByteSet;
+pub use count::count_before;
 pub use decimal::DecimalText;
 pub use fixed::FixedText;
 pub use hundredths::{Form, HundredthsText};

@@ -4,10 +4,10 @@ ghost use Rattle.cg_text.specs.Raw.{IsRawLine};
 ghost use Rattle.cg_text.specs.RawState.{IsRawByte, IsRawRest};
 ghost use Rattle.cg_text.specs.Token.{Spells};
 
+use crate::count::count_before;
 use crate::items::Items;
 use crate::memory::OutOfMemory;
 use crate::token::Token;
-use memchr::memchr;
 use std::alloc::Global;
 
 /// Any bytes 1 to 255 but newlines, also none.
@@ -28,15 +28,8 @@ fn raw_length(bytes: &[u8]) -> usize
     ensures within { result ≤ length bytes.now }
     ensures raw { IsRawLine (take result bytes.now) }
 {
-    let end = match memchr(b'\n', bytes) {
-        Some(end) => end,
-        None => bytes.len(),
-    };
-    let (line, _) = bytes.split_at(end);
-    match memchr(0, line) {
-        Some(nul) => nul,
-        None => line.len(),
-    }
+    let (line, _) = bytes.split_at(count_before(b'\n', bytes));
+    count_before(0, line)
 }
 
 impl RawText {
@@ -71,10 +64,8 @@ impl Token for RawText {
         if !is_raw_byte(byte) {
             return Ok(false);
         }
-        match self.bytes.push(byte) {
-            Ok(()) => Ok(true),
-            Err(_) => Err(OutOfMemory),
-        }
+        self.bytes.push(byte)?;
+        Ok(true)
     }
 
     fn run(&mut self, bytes: &[u8]) -> usize {

@@ -6,6 +6,7 @@ use Rattle.std.proofs.Math.Seq.{drop-cons, take-length}
 use Rattle.std.proofs.lemmas.List.{append_cancel_left, take-append-drop, take_all}
 use Rattle.std.specs.List.{AllByRecursion, AllZip, onto_first}
 use Rattle.memchr.specs.Find.{Nowhere, Passes, is_byte}
+use Rattle.cg_text.specs.PlainLaws.{plain_searched}
 use Rattle.cg_text.specs.Raw.{IsRawLine}
 use Rattle.cg_text.specs.Texts.{Lacks}
 use Rattle.cg_text.specs.Token.{AreBytes}
@@ -191,16 +192,14 @@ lines_no_nul ls h = raw_lines_bytes ls h.lines h.spelled
 
 -- ---- Searches
 
+pub no_nul_lacking : (bytes : List ℕ) (n : ℕ) → ((i : ℕ) → get_or bytes i 0 < 256) → Lacks 0 (take n bytes) → HasNoNul (take n bytes)
+no_nul_lacking [] zero small h = tt
+no_nul_lacking [] (suc n) small h = tt
+no_nul_lacking (c ∷ cs) zero small h = tt
+no_nul_lacking (c ∷ cs) (suc n) small h = (omega (arith, h.0), small 0, no_nul_lacking cs n (λ i. small (suc i)) h.1)
+
 pub no_nul_searched : (bytes : List ℕ) (n : ℕ) → ((i : ℕ) → get_or bytes i 0 < 256) → Nowhere (Passes (is_byte 0) bytes) 0 n → HasNoNul (take n bytes)
-no_nul_searched bytes n small none = at bytes n small (λ i h k e. none i (omega arith) h (rw e refl))
-  where
-    at : (xs : List ℕ) (m : ℕ) → ((i : ℕ) → get_or xs i 0 < 256) → ((i : ℕ) → i < m → i < length xs → get_or xs i 0 ≢ 0) → HasNoNul (take m xs)
-    at [] zero s f = tt
-    at [] (suc m) s f = tt
-    at (c ∷ cs) zero s f = tt
-    at (c ∷ cs) (suc m) s f =
-        let first : c ≢ 0 = f 0 (omega arith) (omega arith) in
-        (omega (arith, first), s 0, at cs m (λ i. s (suc i)) (λ i h k. f (suc i) (omega (arith, h)) (omega (arith, k))))
+no_nul_searched bytes n small none = no_nul_lacking bytes n small (plain_searched 0 bytes n none)
 
 -- A search for NUL tells whether there is one.
 pub no_nul_all : (bytes : List ℕ) → ((i : ℕ) → get_or bytes i 0 < 256) → Nowhere (Passes (is_byte 0) bytes) 0 (length bytes) → HasNoNul bytes
