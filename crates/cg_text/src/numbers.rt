@@ -70,10 +70,8 @@ fn insert_into(ranges: &mut Vec<(u32, u32)>, first: u32, last: u32) -> Result<()
     let start = count_below(ranges.as_slice(), first);
     let end = count_up_to(ranges.as_slice(), last);
     if start == end {
-        return match ranges.insert(start, (first, last)) {
-            Ok(()) => Ok(()),
-            Err(_) => Err(OutOfMemory),
-        };
+        ranges.insert(start, (first, last))?;
+        return Ok(());
     }
     let low = first.min(ranges[start].0);
     let high = last.max(ranges[end - 1].1);

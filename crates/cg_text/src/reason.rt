@@ -50,10 +50,8 @@ impl Token for ReasonText {
         if !is_raw_byte(byte) {
             return Ok(false);
         }
-        match self.bytes.push(byte) {
-            Ok(()) => Ok(true),
-            Err(_) => Err(OutOfMemory),
-        }
+        self.bytes.push(byte)?;
+        Ok(true)
     }
 
     fn allows(&self, byte: u8) -> bool {

@@ -32,7 +32,8 @@ fn may_stand(controller: bool, first: bool, byte: u8) -> bool
 impl WordText {
     /// A token of words, or of a controller's words.
     pub fn new(alloc: Global, controller: bool) -> WordText
-        ensures spells { Spells ⟦<WordText as Token>⟧.means result (λ rest word. (word ≡ rest) × IsWordText controller rest) }
+        ensures spells { Spells ⟦<WordText as Token>⟧.means result
+            (λ rest word. (word ≡ rest) × IsWordText controller rest) }
         ensures size { ⟦<WordText as Token>⟧.size result ≡ 0 }
     {
         WordText {
@@ -76,10 +77,8 @@ impl Token for WordText {
         if !may_stand(self.controller, self.bytes.is_empty(), byte) {
             return Ok(false);
         }
-        match self.bytes.push(byte) {
-            Ok(()) => Ok(true),
-            Err(_) => Err(OutOfMemory),
-        }
+        self.bytes.push(byte)?;
+        Ok(true)
     }
 
     fn run(&mut self, bytes: &[u8]) -> usize {

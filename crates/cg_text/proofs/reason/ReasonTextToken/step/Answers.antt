@@ -1,5 +1,6 @@
 use Rattle.std.proofs.Common.{◌≡◌, true}
 use Rattle.cg_text.specs.RawLaws.{raw_pushed, reason_byte_of, reason_begins}
+use Rattle.cg_text.specs.TokenLaws.{err_holds}
 use Rattle.cg_text.proofs.reason.ReasonTextToken.step.Goals as goal
 
 pub returns-then-not-is_raw_byte-clause-refused : goal.returns-then-not-is_raw_byte-clause-refused
@@ -15,7 +16,7 @@ invariant_of-self c =
     let s = c.args.self.now in
     record { raw = raw_pushed _ s.bytes.items _ c.args.byte c.push.ensures.items s.raw (c.is_raw_byte.ensures.0 c.if-not-is_raw_byte.false) }
 
-pub returns-in-Err-clause-last : goal.returns-in-Err-clause-last
-returns-in-Err-clause-last c =
+pub returns-in_err-push-clause-last : goal.returns-in_err-push-clause-last
+returns-in_err-push-clause-last c =
     let s = c.args.self.now in
-    reason_begins s.bytes.items c.args.byte s.raw (c.is_raw_byte.ensures.0 c.if-not-is_raw_byte.false)
+    err_holds c.from_residual.result (reason_begins s.bytes.items c.args.byte s.raw (c.is_raw_byte.ensures.0 c.if-not-is_raw_byte.false))
