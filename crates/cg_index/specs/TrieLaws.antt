@@ -64,15 +64,6 @@ none_leads (suc (suc zero)) = refl
 none_leads (suc (suc (suc zero))) = refl
 none_leads (suc (suc (suc (suc d)))) = refl
 
--- A trie of no keys.
-pub no_trie : IsTrie [] []
-no_trie = record {
-  count = refl;
-  four = λ p h. absurd (omega (arith, h));
-  rising = λ p digit h some. absurd (omega (arith, h));
-  met = λ k h. absurd (omega (arith, h));
-}
-
 module _ {trie keys : List (List ℕ)} (is : IsTrie trie keys) (key : List ℕ) (at : Opening) (ends : IsEnd trie keys (mark_of key) (end.Open at)) where
   abbrev n : ℕ
   n = length trie

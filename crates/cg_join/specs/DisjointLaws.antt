@@ -21,15 +21,6 @@ front_of (x ∷ xs) (y ∷ ys) rest e =
     let more : is_front xs ys ≡ true = front_of xs ys rest (cc) in
     cc
 
-one_front : (xs ys r s : List ℕ) → xs ++ r ≡ ys ++ s → (is_front xs ys ≡ true) ⊎ (is_front ys xs ≡ true)
-one_front [] ys r s e = inl refl
-one_front (x ∷ xs) [] r s e = inr refl
-one_front (x ∷ xs) (y ∷ ys) r s e =
-    let t : x ≡ y = cc in
-    let same : nat_eq x y ≡ true = eq-eqb x y t in
-    let back : nat_eq y x ≡ true = eq-eqb y x (sym t) in
-    elim (one_front xs ys r s (cc)) [ inl h ↦ inl (cc) | inr h ↦ inr (cc) ]
-
 not_both : (b : Bool) → b ≡ true → b ≡ false → ⊥
 not_both b e f = cc
 

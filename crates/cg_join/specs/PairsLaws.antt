@@ -198,15 +198,6 @@ module _ {V X : Type 0} (word : X → V) where
   pub word_twice : (f : V → Bool) (ps qs : List X) (p : X) → any_value f (map word ps) ≡ true → ((v : V) → f v ≡ true → v ≡ word p) → AreDistinct (map word (ps ++ p ∷ qs)) → ⊥
   word_twice f ps qs p there same d = twice f (map word ps) (map word qs) (word p) there same (rw (map-append word ps (p ∷ qs)) at d)
 
-  -- The first words, without those that follow.
-  front_lacks : (v : V) (ps qs : List X) → LacksValue v (map word (ps ++ qs)) → LacksValue v (map word ps)
-  front_lacks v [] qs h = tt
-  front_lacks v (p ∷ ps) qs h = (h.0, front_lacks v ps qs h.1)
-
-  pub words_front : (ps qs : List X) → AreDistinct (map word (ps ++ qs)) → AreDistinct (map word ps)
-  words_front [] qs h = tt
-  words_front (p ∷ ps) qs h = (front_lacks (word p) ps qs h.0, words_front ps qs h.1)
-
 -- Whether the text may end.
 abbrev pub ends_at : Stage → Bool → Bool
 ends_at Before e = true

@@ -244,12 +244,6 @@ told_item f g vs i v places total size more h is before one sum =
     ap (sum_by f) (take_more (map g vs) i (g v) within ∙ ap (λ x. take i (map g vs) ++ x ∷ []) read) ∙ sum_by_push f (take i (map g vs)) (g v) in
     omega (arith, before, one, sum, grown)
 
--- Lists of texts by a relation that holds alike.
-pub list_as : {V : Type 0} {P Q : List ℕ → V → Type 0} (separator : ℕ) → ((text : List ℕ) (v : V) → P text v → Q text v) → (text : List ℕ) (vs : List V) → AreJoined P separator text vs → AreJoined Q separator text vs
-list_as separator f text [] h = h
-list_as separator f text (v ∷ []) h = f text v h
-list_as separator f text (v ∷ w ∷ vs) h = (h.0, h.1, h.2, f h.0 v h.3, list_as separator f h.1 (w ∷ vs) h.4)
-
 -- An item that was added is new, and it alone adds to the size.
 pub added_new : {U T : Type 0} (r : Result U (Refused T)) (key : List ℕ) (keys : List (List ℕ)) → is_repeated r ≡ is_among key keys → is_ok r ≡ true → LacksValue key keys
 added_new (Ok u) key keys repeated ok = not_among key keys (sym repeated)

@@ -28,11 +28,6 @@ pub above_append : (xs ys : List ℕ) → AreAboveSpace xs → AreAboveSpace ys 
 above_append [] ys h k = k
 above_append (x ∷ xs) ys h k = (h.0, above_append xs ys h.1 k)
 
--- A byte inside is above the space.
-pub above_inside : (b : ℕ) (front more : List ℕ) → AreAboveSpace (front ++ b ∷ more) → 32 < b
-above_inside b [] more h = h.0
-above_inside b (x ∷ front) more h = above_inside b front more h.1
-
 -- No byte up to the space is there.
 pub above_lacks_byte : (b : ℕ) (text : List ℕ) → b ≤ 32 → AreAboveSpace text → Lacks b text
 above_lacks_byte b [] low h = tt
