@@ -84,7 +84,10 @@ impl<T> Cell<T> {
 impl<T: PartialEq> PartialEq for Cell<T> {
     ghost eq = { λ a b. T.eq a.item b.item };
 
-    ghost laws = { record { symm = λ a b. T.laws.symm a.item b.item; trans = λ a b c. T.laws.trans a.item b.item c.item } };
+    ghost laws = { record {
+      symm = λ a b. T.laws.symm a.item b.item;
+      trans = λ a b c. T.laws.trans a.item b.item c.item;
+    } };
 
     fn eq(&self, other: &Cell<T>) -> bool {
         self.item == other.item

@@ -93,9 +93,13 @@ impl<T: HasKey> Model for KeyedBuilder<T> {
 
     ghost Value = { Collected T };
 
-    ghost view = { λ s. record { items = map item_of s.cells.items; has_room = nat_lt (vec_len s.cells) (vec_capacity s.cells) } };
+    ghost view = { λ s. record {
+      items = map item_of s.cells.items;
+      has_room = nat_lt (vec_len s.cells) (vec_capacity s.cells);
+    } };
 
-    ghost invariant = { λ s. IsKeyed (map T.key_of (map item_of s.cells.items)) (map places_of s.cells.items) (map fork_of s.cells.items) s.root };
+    ghost invariant = { λ s. IsKeyed (map T.key_of (map item_of s.cells.items)) (map places_of s.cells.items)
+        (map fork_of s.cells.items) s.root };
 }
 
 impl<T: HasKey> KeyedBuilder<T> {

@@ -99,7 +99,8 @@ fn new_seat<T: HasKey>(cells: &[Cell<T>], root: Link, key: &Key) -> Seat
 #[inline(always)]
 pub(crate) fn insert<T: HasKey>(cells: &mut Vec<Cell<T>>, root: Link, seat: Seat, item: T) -> Link
     requires room { vec_len cells.old < vec_capacity cells.old }
-    requires seat { IsSeat (tree_of cells.old.items root) (map T.key_of (map item_of cells.old.items)) (T.key_of item) seat }
+    requires seat { IsSeat (tree_of cells.old.items root) (map T.key_of (map item_of cells.old.items))
+        (T.key_of item) seat }
     ensures items { map item_of cells.new.items ≡ map item_of cells.old.items ++ item ∷ [] }
     ensures tree { Indexes (tree_of cells.new.items result) (map T.key_of (map item_of cells.new.items)) }
 {
@@ -129,13 +130,14 @@ pub(crate) fn plant<T: HasKey>(cells: &mut Vec<Cell<T>>) -> Link
     root
 }
 
-/// Adds an item with a new key, and its fork to the tree, which is made where there is none. It returns the tree's root, and
-/// takes no memory.
+/// Adds an item with a new key, and its fork to the tree, which is made where there is none. It returns the tree's
+/// root, and takes no memory.
 pub(crate) fn push<T: HasKey>(cells: &mut Vec<Cell<T>>, root: Option<Link>, item: T) -> Link
     requires room { vec_len cells.old < vec_capacity cells.old }
     requires distinct { AreDistinct (map T.key_of (map item_of cells.old.items)) }
     requires new { LacksValue (T.key_of item) (map T.key_of (map item_of cells.old.items)) }
-    requires tree { IfSome root (λ r. Indexes (tree_of cells.old.items r) (map T.key_of (map item_of cells.old.items))) }
+    requires tree { IfSome root
+        (λ r. Indexes (tree_of cells.old.items r) (map T.key_of (map item_of cells.old.items))) }
     ensures items { map item_of cells.new.items ≡ map item_of cells.old.items ++ item ∷ [] }
     ensures tree { Indexes (tree_of cells.new.items result) (map T.key_of (map item_of cells.new.items)) }
 {

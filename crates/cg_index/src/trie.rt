@@ -58,7 +58,8 @@ pub(crate) fn walk<T: HasKey>(cells: &[Cell<T>], mark: u32) -> End
 pub(crate) fn insert<T: HasKey>(cells: &mut Vec<Cell<T>>, at: Opening, item: T)
     requires room { vec_len cells.old < vec_capacity cells.old }
     requires trie { IsTrie (map places_of cells.old.items) (map T.key_of (map item_of cells.old.items)) }
-    requires opening { IsEnd (map places_of cells.old.items) (map T.key_of (map item_of cells.old.items)) (mark_of (T.key_of item)) (end.Open at) }
+    requires opening { IsEnd (map places_of cells.old.items) (map T.key_of (map item_of cells.old.items))
+        (mark_of (T.key_of item)) (end.Open at) }
     ensures items { map item_of cells.new.items ≡ map item_of cells.old.items ++ item ∷ [] }
     ensures trie { IsTrie (map places_of cells.new.items) (map T.key_of (map item_of cells.new.items)) }
 {

@@ -48,7 +48,8 @@ fn reaches(lo: u64, hi: u64, n: u128) -> bool
 pub(crate) fn after(lo: u64, hi: u64, progress: Progress, byte: u8) -> Option<Progress>
     requires range { lo ≤ hi }
     requires live { IsTrue (is_open lo hi progress) }
-    ensures follows { MatchOption result (NoneBegins (IsDecimalRest lo hi) progress byte) (Follows (IsDecimalRest lo hi) progress byte) }
+    ensures follows { MatchOption result (NoneBegins (IsDecimalRest lo hi) progress byte)
+        (Follows (IsDecimalRest lo hi) progress byte) }
     ensures live { MatchOption result ⊤ (λ new. IsTrue (is_open lo hi new)) }
 {
     if !byte.is_ascii_digit() {
@@ -72,7 +73,8 @@ pub(crate) fn after(lo: u64, hi: u64, progress: Progress, byte: u8) -> Option<Pr
     }
 }
 
-/// Takes digits in front of `bytes` while any digit after those of `n` gives a number up to `hi`: the number, and how many.
+/// Takes digits in front of `bytes` while any digit after those of `n` gives a number up to `hi`. Returns the number,
+/// and how many it took.
 #[inline(always)]
 fn take_digits(hi: u64, n: u64, bytes: &[u8]) -> (u64, usize)
     requires { n ≤ hi }
@@ -115,7 +117,8 @@ fn after_digits(lo: u64, hi: u64, progress: Progress, bytes: &[u8]) -> (Progress
     }
 }
 
-/// The state after the digits of a number, and how many: all in front of `bytes`, if they are a number of the range, or none.
+/// The state after the digits of a number, and how many these are: all in front of `bytes`, if they are a number of the
+/// range, or none.
 #[inline(always)]
 fn begun_digits(lo: u64, hi: u64, bytes: &[u8]) -> (Progress, usize)
     requires range { lo ≤ hi }
@@ -156,7 +159,8 @@ pub(crate) fn number_in_front(lo: u64, hi: u64, bytes: &[u8]) -> Option<(u64, us
 impl DecimalText {
     /// A token of the numbers from `lo` to `hi`, unless there are none.
     pub fn new(lo: u64, hi: u64) -> Option<DecimalText>
-        ensures { MatchOption result (hi < lo) (λ token. (lo ≤ hi) × Spells ⟦<DecimalText as Token>⟧.means token (λ rest n. IsDecimal lo hi n rest)) }
+        ensures { MatchOption result (hi < lo)
+            (λ token. (lo ≤ hi) × Spells ⟦<DecimalText as Token>⟧.means token (λ rest n. IsDecimal lo hi n rest)) }
     {
         if lo <= hi {
             Some(DecimalText {

@@ -56,7 +56,8 @@ pub struct HundredthsText {
 fn with_digit(count: u64, unit: u64, most: u64, byte: u8) -> Option<u64>
     requires within { count ≤ most }
     requires unit { unit ≤ 10 }
-    ensures { MatchOption result (IsDigit byte → most < count + unit * (byte - 48)) (λ new. IsDigit byte × (new ≡ count + unit * (byte - 48)) × (new ≤ most)) }
+    ensures { MatchOption result (IsDigit byte → most < count + unit * (byte - 48))
+        (λ new. IsDigit byte × (new ≡ count + unit * (byte - 48)) × (new ≤ most)) }
 {
     if !byte.is_ascii_digit() {
         return None;
@@ -96,7 +97,8 @@ fn whole_part(most: u64, progress: Progress) -> u64
 #[inline(always)]
 fn after(form: Form, most: u64, part: Part, byte: u8) -> Option<Part>
     requires { IsWithin most part }
-    ensures follows { MatchOption result (NoneBegins (HundredthsRest form most) part byte) (Follows (HundredthsRest form most) part byte) }
+    ensures follows { MatchOption result (NoneBegins (HundredthsRest form most) part byte)
+        (Follows (HundredthsRest form most) part byte) }
     ensures within { MatchOption result ⊤ (λ new. IsWithin most new) }
 {
     match part {

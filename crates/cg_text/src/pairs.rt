@@ -48,7 +48,8 @@ enum PairPart {
     InLimit(LimitKey, LimitPart),
 }
 
-/// One to four of `rbps=`, `wbps=`, `riops=` and `wiops=`, each with a limit of at least 1, with single spaces between, no key twice.
+/// One to four of `rbps=`, `wbps=`, `riops=` and `wiops=`, each with a limit of at least 1, with single spaces between,
+/// no key twice.
 #[derive(Clone, Copy, Drop)]
 pub struct LimitPairsText {
     given: LimitPairs,
@@ -144,7 +145,8 @@ fn goes_on(given: LimitPairs, like: LimitKey, at: usize, byte: u8, key: LimitKey
 /// A key that goes on with the byte.
 fn next_key(given: LimitPairs, like: LimitKey, at: usize, byte: u8) -> Option<LimitKey>
     requires { at < length (key_start like) }
-    ensures { MatchOption result ((key : LimitKey) → GoesOn given like at byte key → ⊥) (λ key. GoesOn given like at byte key) }
+    ensures { MatchOption result ((key : LimitKey) → GoesOn given like at byte key → ⊥)
+        (λ key. GoesOn given like at byte key) }
 {
     if goes_on(given, like, at, byte, LimitKey::Rbps) {
         return Some(LimitKey::Rbps);
@@ -163,7 +165,8 @@ fn next_key(given: LimitPairs, like: LimitKey, at: usize, byte: u8) -> Option<Li
 
 /// What a digit does to a limit that is a number.
 fn number_after(number: DecimalText, byte: u8) -> Option<LimitPart>
-    ensures { MatchOption result (NoneBegins LimitRest (LimitPart.Number number) byte) (Follows LimitRest (LimitPart.Number number) byte) }
+    ensures { MatchOption result (NoneBegins LimitRest (LimitPart.Number number) byte)
+        (Follows LimitRest (LimitPart.Number number) byte) }
 {
     let mut next = number;
     match next.step(byte) {
@@ -228,7 +231,9 @@ fn key_after(
     byte: u8,
 ) -> Option<(LimitPairs, PairPart)>
     requires { IsTrue (is_live given (PairPart.InKey like at)) }
-    ensures { MatchOption result ((rest : List ℕ) (v : LimitPairs) → LimitsRest given (PairPart.InKey like at) (byte ∷ rest) v → ⊥) (λ new. IsNextPart given (PairPart.InKey like at) byte new.0 new.1) }
+    ensures { MatchOption result
+        ((rest : List ℕ) (v : LimitPairs) → LimitsRest given (PairPart.InKey like at) (byte ∷ rest) v → ⊥)
+        (λ new. IsNextPart given (PairPart.InKey like at) byte new.0 new.1) }
 {
     match next_key(given, like, at, byte) {
         Some(key) => {
@@ -245,7 +250,9 @@ fn key_after(
 /// What a space does to a limit: it ends it, where a key is left.
 fn close(given: LimitPairs, key: LimitKey, part: LimitPart) -> Option<(LimitPairs, PairPart)>
     requires { IsTrue (is_live given (PairPart.InLimit key part)) }
-    ensures { MatchOption result ((rest : List ℕ) (v : LimitPairs) → LimitsRest given (PairPart.InLimit key part) (32 ∷ rest) v → ⊥) (λ new. IsNextPart given (PairPart.InLimit key part) 32 new.0 new.1) }
+    ensures { MatchOption result
+        ((rest : List ℕ) (v : LimitPairs) → LimitsRest given (PairPart.InLimit key part) (32 ∷ rest) v → ⊥)
+        (λ new. IsNextPart given (PairPart.InLimit key part) 32 new.0 new.1) }
 {
     if !limit_ends(part) {
         return None;
@@ -261,7 +268,8 @@ fn close(given: LimitPairs, key: LimitKey, part: LimitPart) -> Option<(LimitPair
 /// What the byte does.
 fn after(given: LimitPairs, part: PairPart, byte: u8) -> Option<(LimitPairs, PairPart)>
     requires { IsTrue (is_live given part) }
-    ensures { MatchOption result ((rest : List ℕ) (v : LimitPairs) → LimitsRest given part (byte ∷ rest) v → ⊥) (λ new. IsNextPart given part byte new.0 new.1) }
+    ensures { MatchOption result ((rest : List ℕ) (v : LimitPairs) → LimitsRest given part (byte ∷ rest) v → ⊥)
+        (λ new. IsNextPart given part byte new.0 new.1) }
 {
     match part {
         PairPart::InKey(like, at) => key_after(given, like, at, byte),
@@ -332,9 +340,10 @@ fn pair_in_front(given: LimitPairs, bytes: &[u8]) -> Option<((LimitKey, Limit), 
     }
 }
 
-/// The limits with those of the pairs in front of `bytes`, and how long these are. It may find none where there are some.
+/// The limits with those of the pairs in front of `bytes`, and how long these are. It may find none where some are.
 fn pairs_in_front(given: LimitPairs, bytes: &[u8]) -> Option<(LimitPairs, usize)>
-    ensures { IfSome result (λ r. (r.1 ≤ length bytes.now) × LimitsRest given (KeyPart FirstKey 0) (take r.1 bytes.now) r.0) }
+    ensures { IfSome result
+        (λ r. (r.1 ≤ length bytes.now) × LimitsRest given (KeyPart FirstKey 0) (take r.1 bytes.now) r.0) }
 {
     let (pair, count) = match pair_in_front(given, bytes) {
         Some(found) => found,

@@ -30,7 +30,8 @@ pub struct SignedText {
 
 /// The numbers at 0 or above.
 fn plain(lo: i64, hi: i64) -> Option<DecimalText>
-    ensures { MatchOption result (LacksPlain lo hi) (λ token. Spells number_rest token (λ rest n. IsSigned lo hi (pos n) rest)) }
+    ensures { MatchOption result (LacksPlain lo hi)
+        (λ token. Spells number_rest token (λ rest n. IsSigned lo hi (pos n) rest)) }
 {
     if hi < 0 {
         return None;
@@ -41,7 +42,8 @@ fn plain(lo: i64, hi: i64) -> Option<DecimalText>
 
 /// The numbers below 0, without their minus signs.
 fn magnitude(lo: i64, hi: i64) -> Option<DecimalText>
-    ensures { MatchOption result (LacksNegative lo hi) (λ token. Spells number_rest token (λ rest n. IsMagnitude lo hi n rest)) }
+    ensures { MatchOption result (LacksNegative lo hi)
+        (λ token. Spells number_rest token (λ rest n. IsMagnitude lo hi n rest)) }
 {
     if 0 <= lo {
         return None;
@@ -83,7 +85,8 @@ fn after(taken: Taken, byte: u8) -> Option<Taken>
 impl SignedText {
     /// A token of the numbers from `lo` to `hi`, unless there are none.
     pub fn new(lo: i64, hi: i64) -> Option<SignedText>
-        ensures { MatchOption result (hi <ℤ lo) (λ token. (lo ≤ℤ hi) × Spells ⟦<SignedText as Token>⟧.means token (λ rest z. IsSigned lo hi z rest)) }
+        ensures { MatchOption result (hi <ℤ lo)
+            (λ token. (lo ≤ℤ hi) × Spells ⟦<SignedText as Token>⟧.means token (λ rest z. IsSigned lo hi z rest)) }
     {
         if lo <= hi {
             Some(SignedText {

@@ -43,7 +43,8 @@ fn factor(suffix: u8) -> Option<u64>
 
 /// The size that a suffix ends, where there is one.
 fn ended(number: DecimalText, suffix: u8) -> Option<u64>
-    ensures { MatchOption result ((size : ℕ) → EndsSize (number_rest number) suffix size → ⊥) (λ size. EndsSize (number_rest number) suffix size) }
+    ensures { MatchOption result ((size : ℕ) → EndsSize (number_rest number) suffix size → ⊥)
+        (λ size. EndsSize (number_rest number) suffix size) }
 {
     match factor(suffix) {
         Some(factor) => {

@@ -39,8 +39,8 @@ pub trait Token: Drop + Sized {
     /// A rest holds bytes.
     ghost holds_bytes: { (s : Self) → HoldsBytes means s };
 
-    /// Takes the byte, or refuses it. A token that refuses, or is refused memory, is unchanged. Memory is wanted last: only
-    /// for a byte with which some rest begins.
+    /// Takes the byte, or refuses it. A token that refuses, or is refused memory, is unchanged. Memory is wanted last:
+    /// only for a byte with which some rest begins.
     fn step(&mut self, byte: u8) -> Result<bool, OutOfMemory>
         ensures taken { IfTaken result (Follows means self.old byte self.new) }
         ensures refused { IfRefused result (NoneBegins means self.old byte) }
@@ -50,8 +50,8 @@ pub trait Token: Drop + Sized {
         ensures memory { OnErr result (IsTrue grows) }
         ensures last { OnErr result (Begins means self.old byte) };
 
-    /// Takes bytes from the front of `bytes` as `step` would take them one after another, and answers how many. It may leave
-    /// some that `step` would take.
+    /// Takes bytes from the front of `bytes` as `step` would take them one after another, and answers how many. It may
+    /// leave some that `step` would take.
     fn run(&mut self, bytes: &[u8]) -> usize
         ensures within { result ≤ length bytes.now }
         ensures follows { FollowsRun means self.old (take result bytes.now) self.new }
@@ -68,8 +68,8 @@ pub trait Token: Drop + Sized {
         bytes.len()
     }
 
-    /// The value of a rest with which `bytes` begins, and the rest's length. It may find none where there is one, and a longer
-    /// one may be there too.
+    /// The value of a rest with which `bytes` begins, and the rest's length. It may find none where there is one, and a
+    /// longer one may be there too.
     fn whole(&self, _bytes: &[u8]) -> Option<(Self::Out, usize)>
         ensures front { IfSome result (IsFront means self.now _bytes.now) }
         ensures size { IfSome result (λ r. value_size r.0 ≤ size self.now + r.1) }
@@ -85,7 +85,8 @@ pub trait Token: Drop + Sized {
     fn can_end(&self) -> bool
         ensures { result ≡ ends self.now };
 
-    /// The sum of the lengths of its vectors. The bytes of a short key, which lie in the key itself, count as a vector's do.
+    /// The sum of the lengths of its vectors. The bytes of a short key, which lie in the key itself, count as a
+    /// vector's do.
     fn held(&self) -> u64
         ensures { result ≡ told (size self.now) };
 

@@ -162,13 +162,19 @@ impl Token for TriggerText {
         0
     }
 
-    ghost completes = { λ s. times_complete s.stall (number_rest s.number) s.within (IsDecimalRest_completes s.number.lo s.number.hi s.number.progress s.number.range s.number.live) };
+    ghost completes = { λ s. times_complete s.stall (number_rest s.number) s.within
+        (IsDecimalRest_completes s.number.lo s.number.hi s.number.progress s.number.range s.number.live) };
 
     ghost no_size = { λ _ _. refl };
 
-    ghost ends_is = { λ s. times_end_is s.stall (number_rest s.number) (decimal_ends s.number.lo s.number.hi s.number.progress) (decimal_ends_is s.number.lo s.number.hi s.number.progress) };
+    ghost ends_is = { λ s. times_end_is s.stall (number_rest s.number)
+        (decimal_ends s.number.lo s.number.hi s.number.progress)
+        (decimal_ends_is s.number.lo s.number.hi s.number.progress) };
 
-    ghost one_value = { λ s. times_one s.stall (number_rest s.number) (number_digits s.number.lo s.number.hi s.number.progress) (IsDecimalRest_one s.number.lo s.number.hi s.number.progress) };
+    ghost one_value = { λ s. times_one s.stall (number_rest s.number)
+        (number_digits s.number.lo s.number.hi s.number.progress)
+        (IsDecimalRest_one s.number.lo s.number.hi s.number.progress) };
 
-    ghost holds_bytes = { λ s. times_bytes s.stall (number_rest s.number) (number_digits s.number.lo s.number.hi s.number.progress) };
+    ghost holds_bytes = { λ s. times_bytes s.stall (number_rest s.number)
+        (number_digits s.number.lo s.number.hi s.number.progress) };
 }
