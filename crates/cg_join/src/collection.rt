@@ -62,14 +62,16 @@ pub trait Collection<V: Token>: Drop {
         requires room { has_room self.old }
         requires new { LacksValue key (map key_of (pairs_of self.old)) }
         ensures pairs { pairs_of self.new ≡ pairs_of self.old ++ paired key value ∷ [] }
-        ensures size { size self.new ≤ size self.old + (1 + (⟦<WordText as Token>⟧.value_size key + V.value_size value)) };
+        ensures size { size self.new
+            ≤ size self.old + (1 + (⟦<WordText as Token>⟧.value_size key + V.value_size value)) };
 
     /// Adds a pair, unless a pair has its key or no memory is left for it. Answers whether it did.
     fn add(&mut self, key: Key, value: V::Out) -> bool
         ensures added { IsTrue result → pairs_of self.new ≡ pairs_of self.old ++ paired key value ∷ [] }
         ensures new { IsTrue result → LacksValue key (map key_of (pairs_of self.old)) }
         ensures left { IsFalse result → pairs_of self.new ≡ pairs_of self.old }
-        ensures size { size self.new ≤ size self.old + (1 + (⟦<WordText as Token>⟧.value_size key + V.value_size value)) }
+        ensures size { size self.new
+            ≤ size self.old + (1 + (⟦<WordText as Token>⟧.value_size key + V.value_size value)) }
         ensures same_size { IsFalse result → size self.new ≡ size self.old };
 
     /// The sum of the lengths of its vectors.

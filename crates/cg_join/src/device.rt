@@ -53,7 +53,8 @@ impl Token for DeviceText {
 
     ghost grows = { false };
 
-    ghost completes = { λ s. device_completes (⟦<Parts as Token>⟧.means s.parts) (⟦<Parts as Token>⟧.completes s.parts) };
+    ghost completes = { λ s. device_completes (⟦<Parts as Token>⟧.means s.parts)
+        (⟦<Parts as Token>⟧.completes s.parts) };
 
     ghost no_size = { λ _ _. refl };
 

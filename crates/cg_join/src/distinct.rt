@@ -73,7 +73,8 @@ impl Token for DistinctWords {
     ghost means = { λ s rest all. IsDistinctAfter s.items.items (⟦<WordText as Token>⟧.means s.current)
         (SpellsWord s.start.controller) s.separator rest all };
 
-    ghost size = { λ s. items_size ⟦<WordText as Token>⟧.value_size s.items.items + ⟦<WordText as Token>⟧.size s.current };
+    ghost size = { λ s. items_size ⟦<WordText as Token>⟧.value_size s.items.items
+        + ⟦<WordText as Token>⟧.size s.current };
 
     ghost value_size = { out_size ⟦<WordText as Token>⟧.value_size };
 

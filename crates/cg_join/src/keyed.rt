@@ -53,7 +53,8 @@ pub struct KeyedLines<V: Token, B: Follow<V>, C: Collection<V>> {
     ghost new_key: { IsFalse (is_begun stage) → ⟦<WordText as Token>⟧.size key ≡ 0 },
     ghost new_value: { IsFalse (is_marked stage) → V.size value ≡ 0 },
     ghost kept: { length ended.items ≡ kept_keys (is_marked stage) },
-    ghost distinct: { AreDistinct (map C.key_of (C.pairs_of pairs) ++ ended.items) } by { AreDistinct_prop (map C.key_of (C.pairs_of pairs) ++ ended.items) },
+    ghost distinct: { AreDistinct (map C.key_of (C.pairs_of pairs) ++ ended.items) } by
+        { AreDistinct_prop (map C.key_of (C.pairs_of pairs) ++ ended.items) },
 }
 
 impl<V: Token, B: Follow<V>, C: Collection<V>> KeyedLines<V, B, C> {
@@ -103,7 +104,8 @@ impl<V: Token, B: Follow<V>, C: Collection<V>> KeyedLines<V, B, C> {
     /// Takes the mark after a key.
     fn end_key(&mut self) -> Result<bool, OutOfMemory>
         requires { IsFalse (is_marked self.old.stage) }
-        ensures taken { IfTaken result (Follows ⟦<KeyedLines<V, B, C> as Token>⟧.means self.old self.old.mark self.new) }
+        ensures taken { IfTaken result
+            (Follows ⟦<KeyedLines<V, B, C> as Token>⟧.means self.old self.old.mark self.new) }
         ensures refused { IfRefused result (NoneBegins ⟦<KeyedLines<V, B, C> as Token>⟧.means self.old self.old.mark) }
         ensures same { UnlessTaken result (Same ⟦<KeyedLines<V, B, C> as Token>⟧.means self.old self.new) }
         ensures same_size { UnlessTaken result (⟦<KeyedLines<V, B, C> as Token>⟧.size self.new ≡
@@ -279,7 +281,8 @@ impl<V: Token, B: Follow<V>, C: Collection<V>> KeyedLines<V, B, C> {
     fn read_line(&self, line: &[u8]) -> Option<(Key, V::Out)>
         ensures pair { IfSome result (IsPairOf (⟦<WordText as Token>⟧.means self.now.key) (V.means self.now.value)
             self.now.mark line.now) }
-        ensures size { IfSome result (λ r. ⟦<WordText as Token>⟧.value_size r.0 + (1 + V.value_size r.1) ≤ ⟦<WordText as Token>⟧.size self.now.key + (V.size self.now.value + length line.now)) }
+        ensures size { IfSome result (λ r. ⟦<WordText as Token>⟧.value_size r.0 + (1 + V.value_size r.1)
+            ≤ ⟦<WordText as Token>⟧.size self.now.key + (V.size self.now.value + length line.now)) }
     {
         let (key, count) = match self.key.whole(line) {
             Some(found) => found,

@@ -86,7 +86,8 @@ impl<V: Token, B: Start<V> + Copy, F: Pairing<V>> Start<DistinctPairs<V, B, F>>
         s.separator F.paired F.whole s.lacks s.stops (one_word s.words.controller) (B.one_text s.values) };
 
     ghost text_bytes = { λ s. joined_bytes F.word_of F.value_of (SpellsWord s.words.controller) (B.texts s.values)
-        s.mark s.separator s.small_mark s.small_separator (word_text_bytes s.words.controller) (B.text_bytes s.values) };
+        s.mark s.separator s.small_mark s.small_separator (word_text_bytes s.words.controller)
+        (B.text_bytes s.values) };
 }
 
 impl<V: Token, B: Start<V> + Copy, F: Pairing<V>> Follow<DistinctPairs<V, B, F>>

@@ -91,7 +91,8 @@ impl<T: Token, S: Start<T>> Token for Repeat<T, S> {
     ghost use Rattle.cg_join.specs.ByteLaws.{list_bytes};
     ghost use Rattle.cg_join.specs.RepeatLaws.{list_completes, list_ends, list_after_one, true_not_false};
 
-    ghost means = { λ s rest all. IsListAfter s.items.items (T.means s.current) (S.texts s.start) s.separator rest all };
+    ghost means = { λ s rest all. IsListAfter s.items.items (T.means s.current) (S.texts s.start)
+        s.separator rest all };
 
     ghost size = { λ s. items_size T.value_size s.items.items + T.size s.current };
 
