@@ -80,16 +80,12 @@ impl Token for DeviceText {
 
     #[inline(always)]
     fn whole(&self, bytes: &[u8]) -> Option<(Device, usize)> {
-        match self.parts.whole(bytes) {
-            Some((numbers, count)) => {
-                let device = Device {
-                    major: numbers.0 as u32,
-                    minor: numbers.1.1 as u32,
-                };
-                Some((device, count))
-            }
-            None => None,
-        }
+        let (numbers, count) = self.parts.whole(bytes)?;
+        let device = Device {
+            major: numbers.0 as u32,
+            minor: numbers.1.1 as u32,
+        };
+        Some((device, count))
     }
 
     fn allows(&self, byte: u8) -> bool {

@@ -53,8 +53,7 @@ pub struct KeyedLines<V: Token, B: Follow<V>, C: Collection<V>> {
     ghost new_key: { IsFalse (is_begun stage) → ⟦<WordText as Token>⟧.size key ≡ 0 },
     ghost new_value: { IsFalse (is_marked stage) → V.size value ≡ 0 },
     ghost kept: { length ended.items ≡ kept_keys (is_marked stage) },
-    ghost distinct: { AreDistinct (map C.key_of (C.pairs_of pairs) ++ ended.items) } by
-        { AreDistinct_prop (map C.key_of (C.pairs_of pairs) ++ ended.items) },
+    ghost distinct: { AreDistinct (map C.key_of (C.pairs_of pairs) ++ ended.items) } by { AreDistinct_prop (map C.key_of (C.pairs_of pairs) ++ ended.items) },
 }
 
 impl<V: Token, B: Follow<V>, C: Collection<V>> KeyedLines<V, B, C> {
@@ -117,10 +116,7 @@ impl<V: Token, B: Follow<V>, C: Collection<V>> KeyedLines<V, B, C> {
         if !self.is_new_key() {
             return Ok(false);
         }
-        match make_room(&mut self.ended) {
-            Ok(()) => {}
-            Err(e) => return Err(e),
-        }
+        make_room(&mut self.ended)?;
         let key = renew(&mut self.key, &self.keys);
         put(&mut self.ended, key);
         self.stage = Stage::InValue;
@@ -146,10 +142,7 @@ impl<V: Token, B: Follow<V>, C: Collection<V>> KeyedLines<V, B, C> {
         if !self.is_new_key() {
             return Ok(false);
         }
-        match self.pairs.reserve() {
-            Ok(()) => {}
-            Err(e) => return Err(e),
-        }
+        self.pairs.reserve()?;
         let key = renew(&mut self.key, &self.keys);
         self.pairs.push(key, value);
         self.value = self.values.start();
@@ -220,10 +213,7 @@ impl<V: Token, B: Follow<V>, C: Collection<V>> KeyedLines<V, B, C> {
         if !self.value.can_end() {
             return Ok(false);
         }
-        match self.pairs.reserve() {
-            Ok(()) => {}
-            Err(e) => return Err(e),
-        }
+        self.pairs.reserve()?;
         let value = renew(&mut self.value, &self.values);
         match self.ended.pop() {
             Some(key) => self.pairs.push(key, value),
@@ -284,10 +274,7 @@ impl<V: Token, B: Follow<V>, C: Collection<V>> KeyedLines<V, B, C> {
         ensures size { IfSome result (λ r. ⟦<WordText as Token>⟧.value_size r.0 + (1 + V.value_size r.1)
             ≤ ⟦<WordText as Token>⟧.size self.now.key + (V.size self.now.value + length line.now)) }
     {
-        let (key, count) = match self.key.whole(line) {
-            Some(found) => found,
-            None => return None,
-        };
+        let (key, count) = self.key.whole(line)?;
         if count == line.len() || line[count] != self.mark {
             return None;
         }

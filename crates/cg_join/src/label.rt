@@ -54,15 +54,10 @@ impl<T: Token> Token for LabelText<T> {
 
     #[inline(always)]
     fn whole(&self, bytes: &[u8]) -> Option<(((), T::Out), usize)> {
-        let count = match self.label.whole(bytes) {
-            Some((_, count)) => count,
-            None => return None,
-        };
+        let (_, count) = self.label.whole(bytes)?;
         let (_, rest) = bytes.split_at(count);
-        match self.token.whole(rest) {
-            Some((value, more)) => Some((((), value), count + more)),
-            None => None,
-        }
+        let (value, more) = self.token.whole(rest)?;
+        Some((((), value), count + more))
     }
 
     fn allows(&self, byte: u8) -> bool {
