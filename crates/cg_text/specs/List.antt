@@ -1,4 +1,5 @@
--- Lists of numbers and ranges (cpuset(7), "List format").
+-- Lists of numbers and ranges (cpuset(7) of man-pages 6.03, "List format":
+-- https://man7.org/linux/man-pages/man7/cpuset.7.html).
 use Rattle.std.specs.Prelude.{◌≡◌, ℕ, ◌≤◌, ◌<◌, ◌⊎◌, ◌↔◌, List, [], ◌∷◌, ◌++◌}
 use Rattle.cg_text.specs.Decimal.{IsDecimal}
 use Rattle.cg_text.specs.Numbers.{IsSet, Has}

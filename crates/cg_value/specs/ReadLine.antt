@@ -1,4 +1,6 @@
 -- The lines of the files that are read, kind by kind (cgroup-v2.rst, "Interface Files", at the names given here; psi.rst).
+-- The documents are those of Linux 6.1.192: https://www.kernel.org/doc/html/v6.1/admin-guide/cgroup-v2.html and
+-- https://www.kernel.org/doc/html/v6.1/accounting/psi.html.
 use Rattle.std.specs.Prelude.{◌≡◌, ℕ, Bool, true, false, List, [], ◌∷◌, ◌++◌, Option, Some, None, All, map, codes, ◌⊎◌}
 use Rattle.std.specs.List.{AllZip}
 use Rattle.cg_text.specs.Amount.{IsAmount}

@@ -1,6 +1,7 @@
 -- The file table: what each interface file holds when it is read, and what one write of it holds (cgroup-v2.rst, "Core
 -- Interface Files", "CPU", "Memory", "IO", "PID" and "Cpuset"). The bounds of cpu.weight as it is read include 0, which
--- kernels print where a group is idle.
+-- kernels print where a group is idle. The document is that of Linux 6.1.192:
+-- https://www.kernel.org/doc/html/v6.1/admin-guide/cgroup-v2.html.
 use Rattle.std.specs.Prelude.{ℕ, pos, negsuc, List, [], ◌∷◌, Option, Some, None, codes, if◌then◌else◌}
 use Rattle.std.specs.Str.{bytes_eq}
 use Rattle.cg_value.specs.Kind.{any_u64}

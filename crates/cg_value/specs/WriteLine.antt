@@ -1,4 +1,6 @@
 -- The lines that are written, kind by kind (cgroup-v2.rst, "Interface Files", at the names given here; psi.rst).
+-- The documents are those of Linux 6.1.192: https://www.kernel.org/doc/html/v6.1/admin-guide/cgroup-v2.html and
+-- https://www.kernel.org/doc/html/v6.1/accounting/psi.html.
 use Rattle.std.specs.Prelude.{◌≡◌, ◌≢◌, ℕ, Bool, true, false, List, [], ◌∷◌, ◌++◌, Option, Some, None, All, codes, ◌⊎◌}
 use Rattle.cg_text.specs.Clamp.{IsClamp}
 use Rattle.cg_text.specs.Decimal.{IsDecimal}

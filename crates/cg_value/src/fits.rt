@@ -13,7 +13,7 @@ use cg_index::KeyedItems;
 use cg_text::{Items, Key, NumberSet};
 
 /// Whether it is a controller's name, which begins with neither sign.
-fn is_controller(word: &Key) -> bool
+pub(crate) fn is_controller(word: &Key) -> bool
     ensures { IsTrue result ↔ IsControllerWord word.now }
 {
     let first = word.bytes()[0];

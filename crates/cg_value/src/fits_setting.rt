@@ -8,41 +8,36 @@ ghost use Rattle.cg_value.specs.Kind.{any_u64};
 ghost use Rattle.cg_value.specs.Settings.{FitsWrite};
 ghost use Rattle.cg_value.specs.Within.{IsWithin, IsLimitWithin, IsGivenWithin, IsClampWithin, IsDeviceWithin, IsQuotaWithin, IsGivenLimitWithin, NoneGiven, AreLimitsWithin, AreTimesWithin, AreRangesWithin};
 
+use crate::fits::is_controller;
 use crate::kind::{WriteForm as Form, WriteKind};
 use crate::setting::{Setting, Toggle};
-use cg_text::{Clamp, Device, Key, Limit, LimitPairs, NumberSet};
-
-/// Whether the number lies from `lo` to `hi`.
-fn is_within(number: u64, lo: u64, hi: u64) -> bool
-    ensures { IsTrue result ↔ IsWithin lo hi number }
-{
-    lo <= number && number <= hi
-}
+use crate::spelled::is_within;
+use cg_text::{Clamp, Device, Limit, LimitPairs, NumberSet};
 
 /// Whether the signed number lies from `lo` to `hi`.
-fn is_signed_within(number: i64, lo: i64, hi: i64) -> bool
+fn is_signed_within(lo: i64, hi: i64, number: i64) -> bool
     ensures { IsTrue result ↔ ((lo ≤ℤ number) × (number ≤ℤ hi)) }
 {
     lo <= number && number <= hi
 }
 
 /// Whether the number isn't given, or lies from `lo` to `hi`.
-fn is_given_within(number: Option<u64>, lo: u64, hi: u64) -> bool
+fn is_given_within(lo: u64, hi: u64, number: Option<u64>) -> bool
     ensures { IsTrue result ↔ IsGivenWithin lo hi number }
 {
     match number {
-        Some(number) => is_within(number, lo, hi),
+        Some(number) => is_within(lo, hi, number),
         None => true,
     }
 }
 
 /// Whether the limit is `max`, or lies from `lo` to `hi`.
-fn limit_is_within(limit: Limit, lo: u64, hi: u64) -> bool
+fn limit_is_within(lo: u64, hi: u64, limit: Limit) -> bool
     ensures { IsTrue result ↔ IsLimitWithin lo hi limit }
 {
     match limit {
         Limit::Max => true,
-        Limit::At(number) => is_within(number, lo, hi),
+        Limit::At(number) => is_within(lo, hi, number),
     }
 }
 
@@ -63,16 +58,6 @@ fn device_fits(device: Device) -> bool
     device.major <= 4095 && device.minor <= 1048575
 }
 
-/// Whether the word begins with no sign.
-fn is_controller(name: &Key) -> bool
-    ensures { IsTrue result ↔ IsControllerWord name.now }
-{
-    match name.bytes().first() {
-        Some(byte) => *byte != b'+' && *byte != b'-',
-        None => false,
-    }
-}
-
 /// Whether there are toggles, all of controllers.
 fn toggles_fit(toggles: &[Toggle]) -> bool
     ensures { IsTrue result ↔ ((toggles.now ≢ []) × All (λ t. IsControllerWord t.name) toggles.now) }
@@ -89,14 +74,14 @@ fn toggles_fit(toggles: &[Toggle]) -> bool
 fn quota_fits(quota: Limit, period: Option<u64>) -> bool
     ensures { IsTrue result ↔ IsQuotaWithin quota period }
 {
-    limit_is_within(quota, 1000, u64::MAX) && is_given_within(period, 1000, 1000000)
+    limit_is_within(1000, u64::MAX, quota) && is_given_within(1000, 1000000, period)
 }
 
 /// Whether the size is any of 64 bits, and the swappiness isn't given or at most 200.
 fn reclaim_fits(size: u64, swappiness: Option<u64>) -> bool
     ensures { IsTrue result ↔ (IsWithin 0 any_u64 size × IsGivenWithin 0 200 swappiness) }
 {
-    is_within(size, 0, u64::MAX) && is_given_within(swappiness, 0, 200)
+    is_within(0, u64::MAX, size) && is_given_within(0, 200, swappiness)
 }
 
 /// Whether the limit isn't given, is `max`, or at least 1.
@@ -104,7 +89,7 @@ fn given_limit_fits(limit: Option<Limit>) -> bool
     ensures { IsTrue result ↔ IsGivenLimitWithin limit }
 {
     match limit {
-        Some(limit) => limit_is_within(limit, 1, u64::MAX),
+        Some(limit) => limit_is_within(1, u64::MAX, limit),
         None => true,
     }
 }
@@ -135,14 +120,14 @@ fn limits_fit(device: Device, limits: LimitPairs) -> bool
 fn weight_fits(device: Device, weight: Option<u64>) -> bool
     ensures { IsTrue result ↔ (IsDeviceWithin device × IsGivenWithin 1 10000 weight) }
 {
-    device_fits(device) && is_given_within(weight, 1, 10000)
+    device_fits(device) && is_given_within(1, 10000, weight)
 }
 
 /// Whether the device may be written, with any target of 64 bits.
 fn target_fits(device: Device, target: u64) -> bool
     ensures { IsTrue result ↔ (IsDeviceWithin device × IsWithin 0 any_u64 target) }
 {
-    device_fits(device) && is_within(target, 0, u64::MAX)
+    device_fits(device) && is_within(0, u64::MAX, target)
 }
 
 /// Whether the numbers are at most `most`.
@@ -182,10 +167,10 @@ impl Setting {
         ensures { IsTrue result ↔ FitsWrite kind self.now }
     {
         match (kind.form(), self) {
-            (Form::Number { lo, hi }, Setting::Number(number)) => is_within(*number, lo, hi),
-            (Form::Signed { lo, hi }, Setting::Signed(number)) => is_signed_within(*number, lo, hi),
-            (Form::Limit { lo, hi }, Setting::Limit(limit)) => limit_is_within(*limit, lo, hi),
-            (Form::SizeLimit, Setting::Limit(limit)) => limit_is_within(*limit, 0, u64::MAX),
+            (Form::Number { lo, hi }, Setting::Number(number)) => is_within(lo, hi, *number),
+            (Form::Signed { lo, hi }, Setting::Signed(number)) => is_signed_within(lo, hi, *number),
+            (Form::Limit { lo, hi }, Setting::Limit(limit)) => limit_is_within(lo, hi, *limit),
+            (Form::SizeLimit, Setting::Limit(limit)) => limit_is_within(0, u64::MAX, *limit),
             (Form::Clamp, Setting::Clamp(clamp)) => clamp_fits(*clamp),
             (Form::Mode, Setting::Threaded) => true,
             (Form::Controllers, Setting::Controllers(toggles)) => toggles_fit(toggles.as_slice()),
@@ -195,7 +180,7 @@ impl Setting {
                 *swappiness,
             ),
             (Form::DeviceLimits, _) => self.fits_device_limits(),
-            (Form::DeviceWeight, Setting::DefaultWeight(weight)) => is_within(*weight, 1, 10000),
+            (Form::DeviceWeight, Setting::DefaultWeight(weight)) => is_within(1, 10000, *weight),
             (Form::DeviceWeight, Setting::DeviceWeight { device, weight }) => weight_fits(
                 *device, *weight,
             ),

@@ -15,6 +15,7 @@ ghost use Rattle.cg_value.specs.Kind.{any_u64};
 ghost use Rattle.cg_value.specs.Lines.{IsKey};
 ghost use Rattle.cg_value.specs.ReadLine.{AreAverages, IsFlatLine, IsLimitLine, IsNestedLine, IsNestedPair, IsStatLine, IsStatPair, IsTargetLine, IsWeightLine};
 ghost use Rattle.cg_value.specs.SpelledLaws.{HasText, HasLines};
+ghost use Rattle.cg_value.specs.Within.{IsWithin};
 
 use crate::flat::FlatPair;
 use crate::value::{
@@ -47,10 +48,11 @@ impl<T: Spelled> Spelled for Cell<T> {
     }
 }
 
-/// Whether the number lies in the range.
+/// Whether the number lies from `lo` to `hi`. Then some text spells it.
 #[tactic(auto, using(crate::specs::SpelledLaws::decimal_text))]
 pub(crate) fn is_within(lo: u64, hi: u64, number: u64) -> bool
-    ensures { IsTrue result ↔ HasText (IsDecimal lo hi number) }
+    ensures range { IsTrue result ↔ IsWithin lo hi number }
+    ensures text { IsTrue result ↔ HasText (IsDecimal lo hi number) }
 {
     lo <= number && number <= hi
 }

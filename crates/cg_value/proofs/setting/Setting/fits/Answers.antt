@@ -7,7 +7,7 @@ pub returns-in-Number-Number : goal.returns-in-Number-Number
 returns-in-Number-Number c =
     let arm = c.in-Number-Number in
     let fit = number_fits arm.lo arm.hi arm.number in
-    rw (arm.is-1, ← c.form.ensures.form, arm.is-0) (λ e. fit.0 (c.is_within.ensures.0 e), λ h. c.is_within.ensures.1 (fit.1 h))
+    rw (arm.is-1, ← c.form.ensures.form, arm.is-0) (λ e. fit.0 (c.is_within.ensures.range.0 e), λ h. c.is_within.ensures.range.1 (fit.1 h))
 
 pub returns-in-Signed-Signed : goal.returns-in-Signed-Signed
 returns-in-Signed-Signed c =
@@ -53,7 +53,7 @@ pub returns-in-DeviceWeight-DefaultWeight : goal.returns-in-DeviceWeight-Default
 returns-in-DeviceWeight-DefaultWeight c =
     let arm = c.in-DeviceWeight-DefaultWeight in
     let fit = default_fits arm.weight in
-    rw (arm.is-1, ← c.form.ensures.form, arm.is-0) (λ e. fit.0 (c.is_within-in-DeviceWeight-DefaultWeight.ensures.0 e), λ h. c.is_within-in-DeviceWeight-DefaultWeight.ensures.1 (fit.1 h))
+    rw (arm.is-1, ← c.form.ensures.form, arm.is-0) (λ e. fit.0 (c.is_within-in-DeviceWeight-DefaultWeight.ensures.range.0 e), λ h. c.is_within-in-DeviceWeight-DefaultWeight.ensures.range.1 (fit.1 h))
 
 pub returns-in-DeviceWeight-DeviceWeight : goal.returns-in-DeviceWeight-DeviceWeight
 returns-in-DeviceWeight-DeviceWeight c =
