@@ -193,7 +193,8 @@ pub struct DeviceLimitsFile {
 impl DeviceLimitsFile {
     /// The text of a file of any number of devices and their limits.
     pub fn new(alloc: Global) -> DeviceLimitsFile
-        ensures spells { Spells ⟦<DeviceLimitsFile as Token>⟧.means result (λ text v. KindText DeviceLimitsForm v text) }
+        ensures spells { Spells ⟦<DeviceLimitsFile as Token>⟧.means result
+            (λ text v. KindText DeviceLimitsForm v text) }
         ensures size { ⟦<DeviceLimitsFile as Token>⟧.size result ≡ 0 }
     {
         DeviceLimitsFile {

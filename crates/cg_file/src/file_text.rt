@@ -138,7 +138,8 @@ impl FileText {
     fn take_line(&mut self, line: &[u8]) -> bool
         ensures taken { IsTrue result → FollowsRun ⟦<FileText as Token>⟧.means self.old (line.now ++ 10 ∷ []) self.new }
         ensures left { IsFalse result → Same ⟦<FileText as Token>⟧.means self.old self.new }
-        ensures size { ⟦<FileText as Token>⟧.size self.new ≤ ⟦<FileText as Token>⟧.size self.old + (length line.now + 1) }
+        ensures size { ⟦<FileText as Token>⟧.size self.new
+            ≤ ⟦<FileText as Token>⟧.size self.old + (length line.now + 1) }
         ensures same_size { IsFalse result → ⟦<FileText as Token>⟧.size self.new ≡ ⟦<FileText as Token>⟧.size self.old }
     {
         match self {

@@ -77,7 +77,8 @@ pub fn print_item(alloc: Global, item: &PlanItem) -> Result<Vec<u8>, OutOfMemory
 
 /// Adds the records of an entry. After `OutOfMemory` the bytes are as before.
 pub fn append_entry(out: &mut Vec<u8>, entry: &Entry) -> Result<(), OutOfMemory>
-    ensures added { OnOk result (out.new.items ≡ out.old.items ++ records entry.now.path (print_lines entry.now.value)) }
+    ensures added { OnOk result
+        (out.new.items ≡ out.old.items ++ records entry.now.path (print_lines entry.now.value)) }
     ensures kept { OnErr result (out.new.items ≡ out.old.items) }
 {
     let text = print_entry(*out.allocator(), entry)?;

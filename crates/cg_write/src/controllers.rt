@@ -58,7 +58,8 @@ pub struct ControllersWrite {
 impl ControllersWrite {
     /// The text of a write of controllers, each with `+` or `-` before it (cgroup-v2.rst, cgroup.subtree_control).
     pub fn new(alloc: Global) -> ControllersWrite
-        ensures spells { Spells ⟦<ControllersWrite as Token>⟧.means result (λ text s. WriteText ControllersForm s text) }
+        ensures spells { Spells ⟦<ControllersWrite as Token>⟧.means result
+            (λ text s. WriteText ControllersForm s text) }
         ensures size { ⟦<ControllersWrite as Token>⟧.size result ≡ 0 }
     {
         ControllersWrite {
