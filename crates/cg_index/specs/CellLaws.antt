@@ -12,7 +12,7 @@ use Rattle.cg_index.specs.Cells.{item_of, places_in, places_of, fork_of, no_link
 use Rattle.cg_index.specs.Keyed.{IsLastChanged}
 use Rattle.cg_index.specs.KeyedLaws.{last_changed}
 use Rattle.cg_index.specs.PlaceLaws.{lacks_at, keys_read}
-use Rattle.cg_index.specs.Tree.{Indexes, IsSeat, fork_at, key_at, no_fork, turned, led_from, led_forks, led_root}
+use Rattle.cg_index.specs.Tree.{Indexes, IsInsertionPoint, fork_at, key_at, no_fork, turned, led_from, led_forks, led_root}
 use Rattle.cg_index.specs.Trie.{next, places_at, HasMark, IsEnd, IsTrie, linked}
 use Rattle.cg_index.specs.TrieLaws.{IsTrie-linked}
 use Rattle.cg_index.specs.declared.trie.End.TheVariants as end
@@ -20,7 +20,7 @@ use Rattle.cg_index.specs.declared.trie.Opening.{Opening}
 use Rattle.cg_index.specs.declared.cell.Cell.{Cell}
 use Rattle.cg_index.specs.declared.fork.Fork.{Fork}
 use Rattle.cg_index.specs.declared.fork.Link.{Link}
-use Rattle.cg_index.specs.declared.fork.Seat.{Seat}
+use Rattle.cg_index.specs.declared.fork.InsertionPoint.{InsertionPoint}
 
 taken_less : {X : Type 0} (f n : ℕ) (xs : List X) → f < length (take n xs) → f < n
 taken_less f n xs h = elim (cases_lt n (length xs)) [
@@ -103,25 +103,25 @@ module _ {T : Type 0} where
       map-set fork_of cells i new
       ∙ ap (set (map fork_of cells) i) (new_is ∙ ap (λ (x : Fork). turned x digit l) (sym (fork_there cells i cell fork there is read)))
 
-  -- The tree where a seat has been taken.
-  pub seated : (key : T → List ℕ) (old new : List (Cell T)) (root : Link) (item : T) (seat : Seat) → IsSeat (tree_of old root) (map key (map item_of old)) (key item) seat →
-      map item_of new ≡ map item_of old ++ item ∷ [] → map fork_of new ≡ led_forks (map fork_of old) seat ++ seat.fork ∷ [] →
-      Indexes (tree_of new (led_root root seat)) (map key (map item_of new))
-  seated key old new root item seat is items forks = record {
+  -- The tree where a point has been taken.
+  pub inserted_at : (key : T → List ℕ) (old new : List (Cell T)) (root : Link) (item : T) (point : InsertionPoint) → IsInsertionPoint (tree_of old root) (map key (map item_of old)) (key item) point →
+      map item_of new ≡ map item_of old ++ item ∷ [] → map fork_of new ≡ led_forks (map fork_of old) point ++ point.fork ∷ [] →
+      Indexes (tree_of new (led_root root point)) (map key (map item_of new))
+  inserted_at key old new root item point is items forks = record {
     sound = rw forks is.tree;
     tree = rw (forks, items, map-append) is.of;
   }
 
   -- A key goes into the tree of those before it.
-  pub planted : (key : T → List ℕ) (old new : List (Cell T)) (i : ℕ) (root : Link) (item : T) (seat : Seat) (cell : Cell T) → i < length old → cell ≡ get_or old i cell → item ≡ cell.item →
-      IsSeat (tree_of (take i old) root) (map key (map item_of (take i old))) (key item) seat →
-      map item_of new ≡ map item_of old → map fork_of new ≡ set (led_forks (map fork_of old) seat) i seat.fork →
-      Indexes (tree_of (take (i + 1) new) (led_root root seat)) (map key (map item_of (take (i + 1) new)))
-  planted key old new i root item seat cell within there is_item is items forks =
-      seated key (take i old) (take (i + 1) new) root item seat is
+  pub built : (key : T → List ℕ) (old new : List (Cell T)) (i : ℕ) (root : Link) (item : T) (point : InsertionPoint) (cell : Cell T) → i < length old → cell ≡ get_or old i cell → item ≡ cell.item →
+      IsInsertionPoint (tree_of (take i old) root) (map key (map item_of (take i old))) (key item) point →
+      map item_of new ≡ map item_of old → map fork_of new ≡ set (led_forks (map fork_of old) point) i point.fork →
+      Indexes (tree_of (take (i + 1) new) (led_root root point)) (map key (map item_of (take (i + 1) new)))
+  built key old new i root item point cell within there is_item is items forks =
+      inserted_at key (take i old) (take (i + 1) new) root item point is
       (sym (take-map item_of (i + 1) new) ∙ ap (take (i + 1)) items ∙ take-map item_of (i + 1) old ∙ map_more item_of old i cell within ∙ ap (λ v. map item_of (take i old) ++ v ∷ []) (ap item_of (sym there) ∙ sym is_item))
-      (sym (take-map fork_of (i + 1) new) ∙ ap (take (i + 1)) forks ∙ take_more_set (led_forks (map fork_of old) seat) i seat.fork (omega (arith, within, length_led (map fork_of old) seat.from seat.digit seat.link, length-map old fork_of))
-      ∙ ap (λ v. v ++ seat.fork ∷ []) (take_led (map fork_of old) seat.from seat.digit seat.link i (rw take-map (is.within)) ∙ ap (λ v. led_forks v seat) (take-map fork_of i old)))
+      (sym (take-map fork_of (i + 1) new) ∙ ap (take (i + 1)) forks ∙ take_more_set (led_forks (map fork_of old) point) i point.fork (omega (arith, within, length_led (map fork_of old) point.from point.digit point.link, length-map old fork_of))
+      ∙ ap (λ v. v ++ point.fork ∷ []) (take_led (map fork_of old) point.from point.digit point.link i (rw take-map (is.within)) ∙ ap (λ v. led_forks v point) (take-map fork_of i old)))
 
   -- The last of the items gets a part where it lies.
   pub last_part : {W : Type 0} (changed : T → W → T) (part : W) (cells : List (Cell T)) (n : ℕ) (cell new : Cell T) → n ≡ length cells → 0 < length (map item_of cells) →

@@ -11,7 +11,7 @@ use Rattle.cg_index.specs.declared.fork.Fork.{Fork}
 use Rattle.cg_index.specs.declared.fork.Edge.{Edge}
 use Rattle.cg_index.specs.declared.fork.Link.{Link}
 use Rattle.cg_index.specs.declared.fork.Link.TheVariants as link
-use Rattle.cg_index.specs.Tree.{at, child, way, turned, fork_at, no_fork, key_at, IsBelow, IsTree, stop, Leads, IsOf, IsStep, IsFrom, IsTurn, IsEdge, IsParting, IsRedirected, led_from, root_from, Indexed, Indexes, IsNear, IsSeat}
+use Rattle.cg_index.specs.Tree.{at, child, way, turned, fork_at, no_fork, key_at, IsBelow, IsTree, stop, Leads, IsOf, IsStep, IsFrom, IsTurn, IsEdge, IsParting, IsRedirected, led_from, root_from, Indexed, Indexes, IsNear, IsInsertionPoint}
 use Rattle.cg_index.specs.TreeLaws.{IsGrown, IsFirst, IsFound, StandsFor, side_cases, nearest_within, above, IsTree-grown, IsOf-grown}
 
 -- The fork that is added is the last.
@@ -232,7 +232,7 @@ first_of fork key = record {
   agree = λ f j k p some h m w r s less. absurd (omega (arith, some, h));
 }
 
--- Seats.
+-- Points.
 
 redirected_at : (forks : List Fork) (root : Link) (key : List ℕ) (from : Option ℕ) (digit : Bool) (l : Link) → IsTurn forks key from digit →
     IsRedirected forks root key from l (led_from forks from digit l) (root_from root from l)
@@ -243,12 +243,12 @@ from_within : (forks : List Fork) (root : Link) (key : List ℕ) (position : ℕ
 from_within forks root key position None to from = tt
 from_within forks root key position (Some f) to from = from.within
 
--- The seat that the edge gives.
-pub edge_seat : (view : Indexed) (keys : List (List ℕ)) (key near : List ℕ) (position : Position) (edge : Edge) (n : ℕ) (fork : Fork) →
+-- The point that the edge gives.
+pub edge_point : (view : Indexed) (keys : List (List ℕ)) (key near : List ℕ) (position : Position) (edge : Edge) (n : ℕ) (fork : Fork) →
     Indexes view keys → IsNear view keys key near → n ≡ length view.forks → 0 < length view.forks →
     IsFirst key near (number position) → IsEdge view.forks view.root key (number position) edge → IsParting fork key position (link.Key n) edge.to →
-    position.digit < 8 → position.byte < 2 ^ 64 → IsSeat view keys key (record { fork = fork; from = edge.from; digit = edge.digit; link = link.Fork n })
-edge_seat view keys key near position edge n fork of is_near count some first along parting digit byte =
+    position.digit < 8 → position.byte < 2 ^ 64 → IsInsertionPoint view keys key (record { fork = fork; from = edge.from; digit = edge.digit; link = link.Fork n })
+edge_point view keys key near position edge n fork of is_near count some first along parting digit byte =
     let inserted : IsInserted view.forks view.root key near position edge n (led_from view.forks edge.from edge.digit (link.Fork n)) (root_from view.root edge.from (link.Fork n)) fork = record {
       count = count;
       some = some;
@@ -272,10 +272,10 @@ first_tree = record {
   bytes = λ f h. let same : f ≡ 0 = omega (arith, h) in rw same (omega arith);
 }
 
--- The seat of the first key.
-pub first_seat : (view : Indexed) (keys : List (List ℕ)) (key : List ℕ) (fork : Fork) → Indexes view keys → length view.forks ≡ 0 → fork ≡ no_fork →
-    IsSeat view keys key (record { fork = fork; from = None; digit = false; link = link.Key 0 })
-first_seat view keys key fork of none is =
+-- The point of the first key.
+pub first_point : (view : Indexed) (keys : List (List ℕ)) (key : List ℕ) (fork : Fork) → Indexes view keys → length view.forks ≡ 0 → fork ≡ no_fork →
+    IsInsertionPoint view keys key (record { fork = fork; from = None; digit = false; link = link.Key 0 })
+first_point view keys key fork of none is =
     let no_forks = nil_from_length view.forks none in
     let no_keys = nil_from_length keys (sym of.tree.count ∙ none) in
     rw is (record {

@@ -4,7 +4,7 @@ use Rattle.cg_index.specs.Position.{number, side}
 use Rattle.cg_index.specs.declared.position.Position.{Position}
 use Rattle.cg_index.specs.declared.fork.Fork.{Fork}
 use Rattle.cg_index.specs.declared.fork.Edge.{Edge}
-use Rattle.cg_index.specs.declared.fork.Seat.{Seat}
+use Rattle.cg_index.specs.declared.fork.InsertionPoint.{InsertionPoint}
 use Rattle.cg_index.specs.declared.fork.Link.{Link}
 use Rattle.cg_index.specs.declared.fork.Link.TheVariants as link
 
@@ -62,21 +62,21 @@ abbrev pub IsRedirected : List Fork → Link → List ℕ → Option ℕ → Lin
 IsRedirected old root key None link new top = (new ≡ old) × (top ≡ link)
 IsRedirected old root key (Some f) link new top = (new ≡ slice_set old f (turned (fork_at old f) (side key (at old f)) link)) × (top ≡ root)
 
--- The forks where the step that the seat names goes on at the seat's link.
+-- The forks where the step that the point names goes on at the point's link.
 abbrev pub led_from : List Fork → Option ℕ → Bool → Link → List Fork
 led_from forks None digit link = forks
 led_from forks (Some f) digit link = slice_set forks f (turned (fork_at forks f) digit link)
 
-abbrev pub led_forks : List Fork → Seat → List Fork
-led_forks forks seat = led_from forks seat.from seat.digit seat.link
+abbrev pub led_forks : List Fork → InsertionPoint → List Fork
+led_forks forks point = led_from forks point.from point.digit point.link
 
 -- Where a walk then begins.
 abbrev pub root_from : Link → Option ℕ → Link → Link
 root_from root None link = link
 root_from root (Some f) link = root
 
-abbrev pub led_root : Link → Seat → Link
-led_root root seat = root_from root seat.from seat.link
+abbrev pub led_root : Link → InsertionPoint → Link
+led_root root point = root_from root point.from point.link
 
 -- A way over forks leads from the first link to the second.
 pub data Reaches (forks : List Fork) : Link → Link → Type 0 where
@@ -148,8 +148,8 @@ pub record IsEdge (forks : List Fork) (root : Link) (key : List ℕ) (position :
   pub behind : IsBelow forks position edge.to
   pub leads : (k : ℕ) → Leads forks key root k → Leads forks key edge.to k
 
--- The seat is one of the key in the tree of these keys: where it is taken, the tree is one of these keys and this one.
-pub record IsSeat (index : Indexed) (keys : List (List ℕ)) (key : List ℕ) (seat : Seat) : Type 0 where
-  pub within : IfSome seat.from (λ f. f < length index.forks)
-  pub tree : IsTree (led_forks index.forks seat ++ seat.fork ∷ []) (led_root index.root seat)
-  pub of : IsOf (led_forks index.forks seat ++ seat.fork ∷ []) (led_root index.root seat) (keys ++ key ∷ [])
+-- The point is one of the key in the tree of these keys: where it is taken, the tree is one of these keys and this one.
+pub record IsInsertionPoint (index : Indexed) (keys : List (List ℕ)) (key : List ℕ) (point : InsertionPoint) : Type 0 where
+  pub within : IfSome point.from (λ f. f < length index.forks)
+  pub tree : IsTree (led_forks index.forks point ++ point.fork ∷ []) (led_root index.root point)
+  pub of : IsOf (led_forks index.forks point ++ point.fork ∷ []) (led_root index.root point) (keys ++ key ∷ [])

@@ -56,7 +56,7 @@ impl Fork {
     }
 
     /// Where a key with this digit goes on.
-    pub(crate) fn toward(self, digit: bool) -> Link
+    pub(crate) fn child_at(self, digit: bool) -> Link
         ensures { result ≡ way self digit }
     {
         if digit { self.one } else { self.zero }
@@ -94,7 +94,7 @@ pub(crate) struct Edge {
 
 /// Where a key goes into a tree.
 #[derive(Clone, Copy, Debug)]
-pub(crate) struct Seat {
+pub(crate) struct InsertionPoint {
     /// The fork that comes with the key.
     pub(crate) fork: Fork,
     /// The fork from which a step then goes on elsewhere, none where it is the one at the root.
@@ -118,7 +118,7 @@ pub(crate) fn key_of_walk<T>(cells: &[Cell<T>], root: Link, key: &[u8]) -> usize
             Link::Key(place) => return place,
             Link::Fork(place) => {
                 let fork = cells[place].fork();
-                link = fork.toward(side(key, fork.at));
+                link = fork.child_at(side(key, fork.at));
             }
         }
     }
@@ -145,25 +145,25 @@ pub(crate) fn edge_before<T>(cells: &[Cell<T>], root: Link, key: &[u8], at: Posi
         edge = Edge {
             from: Some(place),
             digit,
-            to: fork.toward(digit),
+            to: fork.child_at(digit),
         };
     }
     edge
 }
 
-/// Lets the step that the seat names go on at the seat's link. It returns the new root.
-pub(crate) fn redirect<T: Drop>(cells: &mut Vec<Cell<T>>, root: Link, seat: Seat) -> Link
-    requires { IfSome seat.from (λ f. f < length cells.old.items) }
+/// Lets the step before an insertion point go on at the point's link. It returns the new root.
+pub(crate) fn redirect<T: Drop>(cells: &mut Vec<Cell<T>>, root: Link, point: InsertionPoint) -> Link
+    requires { IfSome point.from (λ f. f < length cells.old.items) }
     ensures items { map item_of cells.new.items ≡ map item_of cells.old.items }
-    ensures forks { map fork_of cells.new.items ≡ led_forks (map fork_of cells.old.items) seat }
-    ensures root { result ≡ led_root root seat }
+    ensures forks { map fork_of cells.new.items ≡ led_forks (map fork_of cells.old.items) point }
+    ensures root { result ≡ led_root root point }
     ensures len { vec_len cells.new ≡ vec_len cells.old }
     ensures capacity { vec_capacity cells.new ≡ vec_capacity cells.old }
 {
-    match seat.from {
-        None => seat.link,
+    match point.from {
+        None => point.link,
         Some(place) => {
-            cells[place].links = Links::Tree(cells[place].fork().turned(seat.digit, seat.link));
+            cells[place].links = Links::Tree(cells[place].fork().turned(point.digit, point.link));
             root
         }
     }

@@ -218,20 +218,20 @@ impl<T: HasKey> KeyedBuilder<T> {
         ensures room { IsTrue self.old.has_room → is_err result ≡ is_repeated result }
     {
         let Some(root) = self.root else {
-            return self.plant_and_add(item);
+            return self.build_and_add(item);
         };
-        let Some(seat) = tree::seat_of(self.cells.as_slice(), root, item.key()) else {
+        let Some(point) = tree::point_of(self.cells.as_slice(), root, item.key()) else {
             return Err(Refused::Repeated(item));
         };
         match make_room(&mut self.cells) {
-            Ok(()) => self.root = Some(tree::insert(&mut self.cells, root, seat, item)),
+            Ok(()) => self.root = Some(tree::insert(&mut self.cells, root, point, item)),
             Err(_) => return Err(Refused::OutOfMemory(item)),
         }
         Ok(())
     }
 
     /// Adds an item as `add` does, in the tree, where there is none yet.
-    fn plant_and_add(&mut self, item: T) -> Result<(), Refused<T>>
+    fn build_and_add(&mut self, item: T) -> Result<(), Refused<T>>
         ensures ok { OnOk result (self.new.items ≡ self.old.items ++ item ∷ []) }
         ensures err { OnErr result (self.new.items ≡ self.old.items) }
         ensures back { IfErr result (IsHandedBack item) }

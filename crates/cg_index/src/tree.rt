@@ -1,13 +1,13 @@
-//! The tree of the keys of items, whose forks lie in the items' cells.
+//! The tree of the keys of items, a crit-bit tree, whose forks lie in the items' cells.
 ghost use Rattle.std.specs.Prelude.{◌≡◌, ℕ, ◌<◌, ◌++◌, ◌∷◌, [], List, IfSome, length, map, is_none, vec_len, vec_capacity, ◌==◌};
 ghost use Rattle.cg_text.specs.Distinct.{AreDistinct, LacksValue};
 ghost use Rattle.cg_index.specs.Cells.{item_of, fork_of, tree_of};
 ghost use Rattle.cg_index.specs.Keyed.{is_among};
 ghost use Rattle.cg_index.specs.Position.{HasNoZero};
-ghost use Rattle.cg_index.specs.Tree.{Indexes, IsKeyThere, IsNearest, IsNear, IsOnlyFor, IsSeat, IsTree, led_forks, led_root};
+ghost use Rattle.cg_index.specs.Tree.{Indexes, IsKeyThere, IsNearest, IsNear, IsOnlyFor, IsInsertionPoint, IsTree, led_forks, led_root};
 
 use crate::cell::{Cell, Links};
-use crate::fork::{Fork, Link, Seat, edge_before, key_of_walk, redirect};
+use crate::fork::{Fork, InsertionPoint, Link, edge_before, key_of_walk, redirect};
 use crate::keyed::HasKey;
 use crate::position::first_difference;
 use cg_text::Key;
@@ -40,17 +40,18 @@ fn key_there<T: HasKey>(cells: &[Cell<T>], place: Option<usize>) -> &[u8]
 }
 
 /// Where the key goes in. Its nearest one is given with it; where there are no keys, that counts for nothing.
-fn seat_near<T>(cells: &[Cell<T>], root: Link, key: &[u8], near: &[u8]) -> Seat
+fn point_near<T>(cells: &[Cell<T>], root: Link, key: &[u8], near: &[u8]) -> InsertionPoint
     requires tree { IsTree (map fork_of cells.now) root }
     requires key { HasNoZero key.now }
     requires near { HasNoZero near.now }
     requires apart { 0 < length cells.now → near.now ≡ key.now → ⊥ }
     ensures { (keys : List (List ℕ)) → Indexes (tree_of cells.now root) keys →
-        IsNear (tree_of cells.now root) keys key.now near.now → IsSeat (tree_of cells.now root) keys key.now result }
+        IsNear (tree_of cells.now root) keys key.now near.now →
+        IsInsertionPoint (tree_of cells.now root) keys key.now result }
 {
     let place = cells.len();
     if place == 0 {
-        return Seat {
+        return InsertionPoint {
             fork: Fork::none(),
             from: None,
             digit: false,
@@ -59,7 +60,7 @@ fn seat_near<T>(cells: &[Cell<T>], root: Link, key: &[u8], near: &[u8]) -> Seat
     }
     let at = first_difference(key, near);
     let edge = edge_before(cells, root, key, at);
-    Seat {
+    InsertionPoint {
         fork: Fork::new(key, at, Link::Key(place), edge.to),
         from: edge.from,
         digit: edge.digit,
@@ -70,51 +71,61 @@ fn seat_near<T>(cells: &[Cell<T>], root: Link, key: &[u8], near: &[u8]) -> Seat
 /// Where the key goes into the tree of the items' keys, none where an item has it. It takes one search, and at most one
 /// comparison of whole keys.
 #[inline(always)]
-pub(crate) fn seat_of<T: HasKey>(cells: &[Cell<T>], root: Link, key: &Key) -> Option<Seat>
+pub(crate) fn point_of<T: HasKey>(
+    cells: &[Cell<T>],
+    root: Link,
+    key: &Key,
+) -> Option<InsertionPoint>
     requires distinct { AreDistinct (map T.key_of (map item_of cells.now)) }
     requires tree { Indexes (tree_of cells.now root) (map T.key_of (map item_of cells.now)) }
     ensures there { is_none result ≡ is_among key.now (map T.key_of (map item_of cells.now)) }
-    ensures seat { IfSome result (IsSeat (tree_of cells.now root) (map T.key_of (map item_of cells.now)) key.now) }
+    ensures point { IfSome result (IsInsertionPoint (tree_of cells.now root) (map T.key_of (map item_of cells.now))
+        key.now) }
 {
     let bytes = key.bytes();
     let there = key_there(cells, nearest(cells, root, bytes));
     if there == bytes {
         return None;
     }
-    Some(seat_near(cells, root, bytes, there))
+    Some(point_near(cells, root, bytes, there))
 }
 
 /// Where a key that no item has goes into the tree of the items' keys.
-fn new_seat<T: HasKey>(cells: &[Cell<T>], root: Link, key: &Key) -> Seat
+fn new_point<T: HasKey>(cells: &[Cell<T>], root: Link, key: &Key) -> InsertionPoint
     requires tree { Indexes (tree_of cells.now root) (map T.key_of (map item_of cells.now)) }
     requires new { LacksValue key.now (map T.key_of (map item_of cells.now)) }
-    ensures { IsSeat (tree_of cells.now root) (map T.key_of (map item_of cells.now)) key.now result }
+    ensures { IsInsertionPoint (tree_of cells.now root) (map T.key_of (map item_of cells.now)) key.now result }
 {
     let bytes = key.bytes();
     let there = key_there(cells, nearest(cells, root, bytes));
-    seat_near(cells, root, bytes, there)
+    point_near(cells, root, bytes, there)
 }
 
-/// Adds the item whose key has the seat, where there is room. It returns the new root, and takes no memory.
+/// Adds the item at the insertion point of its key, where there is room. It returns the new root, and takes no memory.
 #[inline(always)]
-pub(crate) fn insert<T: HasKey>(cells: &mut Vec<Cell<T>>, root: Link, seat: Seat, item: T) -> Link
+pub(crate) fn insert<T: HasKey>(
+    cells: &mut Vec<Cell<T>>,
+    root: Link,
+    point: InsertionPoint,
+    item: T,
+) -> Link
     requires room { vec_len cells.old < vec_capacity cells.old }
-    requires seat { IsSeat (tree_of cells.old.items root) (map T.key_of (map item_of cells.old.items))
-        (T.key_of item) seat }
+    requires point { IsInsertionPoint (tree_of cells.old.items root) (map T.key_of (map item_of cells.old.items))
+        (T.key_of item) point }
     ensures items { map item_of cells.new.items ≡ map item_of cells.old.items ++ item ∷ [] }
     ensures tree { Indexes (tree_of cells.new.items result) (map T.key_of (map item_of cells.new.items)) }
 {
-    let root = redirect(cells, root, seat);
+    let root = redirect(cells, root, point);
     cells.push_reserved(Cell {
         item,
-        links: Links::Tree(seat.fork),
+        links: Links::Tree(point.fork),
     });
     root
 }
 
 /// Makes the tree of the items' keys in their cells, and returns its root. It takes no memory.
 #[inline(never)]
-pub(crate) fn plant<T: HasKey>(cells: &mut Vec<Cell<T>>) -> Link
+pub(crate) fn build<T: HasKey>(cells: &mut Vec<Cell<T>>) -> Link
     requires { AreDistinct (map T.key_of (map item_of cells.old.items)) }
     ensures items { map item_of cells.new.items ≡ map item_of cells.old.items }
     ensures tree { Indexes (tree_of cells.new.items result) (map T.key_of (map item_of cells.new.items)) }
@@ -123,9 +134,9 @@ pub(crate) fn plant<T: HasKey>(cells: &mut Vec<Cell<T>>) -> Link
 {
     let mut root = Link::Key(0);
     for place in 0..cells.len() {
-        let seat = new_seat(&cells[..place], root, cells[place].item.key());
-        root = redirect(cells, root, seat);
-        cells[place].links = Links::Tree(seat.fork);
+        let point = new_point(&cells[..place], root, cells[place].item.key());
+        root = redirect(cells, root, point);
+        cells[place].links = Links::Tree(point.fork);
     }
     root
 }
@@ -143,8 +154,8 @@ pub(crate) fn push<T: HasKey>(cells: &mut Vec<Cell<T>>, root: Option<Link>, item
 {
     let root = match root {
         Some(root) => root,
-        None => plant(cells),
+        None => build(cells),
     };
-    let seat = new_seat(cells.as_slice(), root, item.key());
-    insert(cells, root, seat, item)
+    let point = new_point(cells.as_slice(), root, item.key());
+    insert(cells, root, point, item)
 }

@@ -1,4 +1,4 @@
-//! The trie of the marks of items' keys, whose links lie in the items' cells.
+//! The trie of the marks, the hashes, of items' keys, whose links lie in the items' cells.
 ghost use Rattle.std.specs.Prelude.{◌≡◌, ◌<◌, ◌++◌, ◌∷◌, [], map, vec_len, vec_capacity};
 ghost use Rattle.cg_text.specs.Mark.{mark_of};
 ghost use Rattle.cg_index.specs.Cells.{item_of, places_of};

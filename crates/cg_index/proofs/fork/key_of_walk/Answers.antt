@@ -21,16 +21,16 @@ loop-link-smaller g c =
     let forks = map fork_of c.args.cells.now in
     let there = below_fork forks 0 c.loop-link.link c.in-Fork.place c.in-Fork.is c.loop-link.invariant.below in
     let read = fork_there c.args.cells.now c.in-Fork.place c.index-cells-place.result c.fork-fork.result there.1 c.index-cells-place.is c.fork-fork.ensures in
-    let goes = child_read forks c.in-Fork.place _ read c.args.key.now c.side.result c.toward-link.result c.side.ensures c.toward-link.ensures in
-    rw (c.in-Fork.is) (left_falls c.requires.tree c.in-Fork.place there.0 there.1 (side c.args.key.now (at forks c.in-Fork.place)) c.toward-link.result goes)
+    let goes = child_read forks c.in-Fork.place _ read c.args.key.now c.side.result c.child_at-link.result c.side.ensures c.child_at-link.ensures in
+    rw (c.in-Fork.is) (left_falls c.requires.tree c.in-Fork.place there.0 there.1 (side c.args.key.now (at forks c.in-Fork.place)) c.child_at-link.result goes)
 
 pub loop-link-preserved : goal.loop-link-preserved
 loop-link-preserved g c =
     let forks = map fork_of c.args.cells.now in
     let there = below_fork forks 0 c.loop-link.link c.in-Fork.place c.in-Fork.is c.loop-link.invariant.below in
     let read = fork_there c.args.cells.now c.in-Fork.place c.index-cells-place.result c.fork-fork.result there.1 c.index-cells-place.is c.fork-fork.ensures in
-    let goes = child_read forks c.in-Fork.place _ read c.args.key.now c.side.result c.toward-link.result c.side.ensures c.toward-link.ensures in
+    let goes = child_read forks c.in-Fork.place _ read c.args.key.now c.side.result c.child_at-link.result c.side.ensures c.child_at-link.ensures in
     record {
-      below = goes_on c.requires.tree c.in-Fork.place there.0 there.1 (side c.args.key.now (at forks c.in-Fork.place)) c.toward-link.result goes;
+      below = goes_on c.requires.tree c.in-Fork.place there.0 there.1 (side c.args.key.now (at forks c.in-Fork.place)) c.child_at-link.result goes;
       leads = λ k w. c.loop-link.invariant.leads k (rw (c.in-Fork.is) (turn (rw goes at w)));
     }

@@ -11,4 +11,4 @@ returns-in-Some-clause-items g c =
 pub returns-in-Some-clause-forks : goal.returns-in-Some-clause-forks
 returns-in-Some-clause-forks g c =
     let here = rw c.in-Some.is at c.requires in
-    rw c.in-Some.is (turned_there c.args.cells.now.items c.in-Some.place c.index.result.now _ c.fork.result c.args.seat.digit c.args.seat.link here c.index.ensures c.fork.ensures c.turned.ensures)
+    rw c.in-Some.is (turned_there c.args.cells.now.items c.in-Some.place c.index.result.now _ c.fork.result c.args.point.digit c.args.point.link here c.index.ensures c.fork.ensures c.turned.ensures)

@@ -2,7 +2,7 @@ use Rattle.std.proofs.Common.{◌≡◌, map, take}
 use Rattle.std.specs.Prelude.{vec_len, vec_capacity}
 use Rattle.cg_index.specs.Cells.{item_of, tree_of}
 use Rattle.cg_index.specs.Tree.{Indexes}
-use Rattle.cg_index.proofs.tree.plant.Given as goal
+use Rattle.cg_index.proofs.tree.build.Given as goal
 
 abbrev pub invariant-loop-place : goal.invariant-loop-place
 invariant-loop-place g l = record {

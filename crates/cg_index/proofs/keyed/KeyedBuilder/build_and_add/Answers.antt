@@ -3,7 +3,7 @@ use Rattle.cg_index.specs.Cells.{item_of}
 use Rattle.cg_index.specs.Keyed.{is_among}
 use Rattle.cg_index.specs.KeyedLaws.{not_among}
 use Rattle.cg_index.specs.FoundLaws.{keyed_grown}
-use Rattle.cg_index.proofs.keyed.KeyedBuilder.plant_and_add.Goals as goal
+use Rattle.cg_index.proofs.keyed.KeyedBuilder.build_and_add.Goals as goal
 
 pub push-requires-clause-new : goal.push-requires-clause-new
 push-requires-clause-new g c =
