@@ -42,7 +42,7 @@ pub struct ClampFile {
 }
 
 impl ClampFile {
-    /// The text of a file of one utilization clamp.
+    /// A token of such files.
     pub fn new() -> ClampFile
         ensures spells { Spells ⟦<ClampFile as Token>⟧.means result (λ text v. KindText ClampForm v text) }
         ensures size { ⟦<ClampFile as Token>⟧.size result ≡ 0 }

@@ -43,7 +43,7 @@ pub struct CpuMaxFile {
 }
 
 impl CpuMaxFile {
-    /// The text of a file of a quota and its period, both in microseconds.
+    /// A token of such files.
     pub fn new() -> CpuMaxFile
         ensures spells { Spells ⟦<CpuMaxFile as Token>⟧.means result (λ text v. KindText CpuMaxForm v text) }
         ensures size { ⟦<CpuMaxFile as Token>⟧.size result ≡ 0 }

@@ -63,7 +63,7 @@ pub struct LimitLineText {
 }
 
 impl LimitLineText {
-    /// A line of a device, and ` rbps=`, ` wbps=`, ` riops=` and ` wiops=`, each with a limit.
+    /// A token of such lines.
     pub(crate) fn new() -> LimitLineText
         ensures spells { Spells ⟦<LimitLineText as Token>⟧.means result (λ text line. IsLimitLine line text) }
         ensures size { ⟦<LimitLineText as Token>⟧.size result ≡ 0 }
@@ -191,7 +191,7 @@ pub struct DeviceLimitsFile {
 }
 
 impl DeviceLimitsFile {
-    /// The text of a file of any number of devices and their limits.
+    /// A token of such files.
     pub fn new(alloc: Global) -> DeviceLimitsFile
         ensures spells { Spells ⟦<DeviceLimitsFile as Token>⟧.means result
             (λ text v. KindText DeviceLimitsForm v text) }

@@ -84,7 +84,7 @@ pub struct StatPairs {
 }
 
 impl StatPairs {
-    /// One or more pairs of a sub-key, an equals sign and an amount, with spaces between, no sub-key twice.
+    /// A token of such pairs.
     pub(crate) fn new(alloc: Global) -> StatPairs
         ensures spells { Spells ⟦<StatPairs as Token>⟧.means result AreStatPairs }
         ensures size { ⟦<StatPairs as Token>⟧.size result ≡ 0 }
@@ -320,7 +320,7 @@ pub struct DeviceStatsFile {
 }
 
 impl DeviceStatsFile {
-    /// The text of a file of any number of devices, each with any number of pairs of a sub-key and an amount.
+    /// A token of such files.
     pub fn new(alloc: Global) -> DeviceStatsFile
         ensures spells { Spells ⟦<DeviceStatsFile as Token>⟧.means result (λ text v. KindText DeviceStatsForm v text) }
         ensures size { ⟦<DeviceStatsFile as Token>⟧.size result ≡ 0 }

@@ -49,7 +49,7 @@ pub struct TargetLineText {
 }
 
 impl TargetLineText {
-    /// A line of a device, ` target=` and a number.
+    /// A token of such lines.
     pub(crate) fn new() -> TargetLineText
         ensures spells { Spells ⟦<TargetLineText as Token>⟧.means result (λ text line. IsTargetLine line text) }
         ensures size { ⟦<TargetLineText as Token>⟧.size result ≡ 0 }
@@ -171,7 +171,7 @@ pub struct DeviceTargetsFile {
 }
 
 impl DeviceTargetsFile {
-    /// The text of a file of any number of devices and their targets.
+    /// A token of such files.
     pub fn new(alloc: Global) -> DeviceTargetsFile
         ensures spells { Spells ⟦<DeviceTargetsFile as Token>⟧.means result
             (λ text v. KindText DeviceTargetsForm v text) }

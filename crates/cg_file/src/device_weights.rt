@@ -50,7 +50,7 @@ pub struct WeightLineText {
 }
 
 impl WeightLineText {
-    /// A line of a device, a space and a weight.
+    /// A token of such lines.
     pub(crate) fn new() -> WeightLineText
         ensures spells { Spells ⟦<WeightLineText as Token>⟧.means result (λ text line. IsWeightLine line text) }
         ensures size { ⟦<WeightLineText as Token>⟧.size result ≡ 0 }
@@ -178,7 +178,7 @@ pub struct DeviceWeightsFile {
 }
 
 impl DeviceWeightsFile {
-    /// The text of a file of a default weight, and of any number of devices and their weights.
+    /// A token of such files.
     pub fn new(alloc: Global) -> DeviceWeightsFile
         ensures spells { Spells ⟦<DeviceWeightsFile as Token>⟧.means result
             (λ text v. KindText DeviceWeightsForm v text) }

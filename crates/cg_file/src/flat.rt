@@ -127,7 +127,7 @@ pub struct FlatFile {
 }
 
 impl FlatFile {
-    /// The text of a file of any number of keys, each with a number, no key twice.
+    /// A token of such files.
     pub fn new(alloc: Global) -> FlatFile
         ensures spells { Spells ⟦<FlatFile as Token>⟧.means result (λ text v. KindText FlatForm v text) }
         ensures size { ⟦<FlatFile as Token>⟧.size result ≡ 0 }

@@ -42,7 +42,7 @@ pub struct LimitFile {
 }
 
 impl LimitFile {
-    /// The text of a file of one limit.
+    /// A token of such files.
     pub fn new() -> LimitFile
         ensures spells { Spells ⟦<LimitFile as Token>⟧.means result (λ text v. KindText LimitForm v text) }
         ensures size { ⟦<LimitFile as Token>⟧.size result ≡ 0 }

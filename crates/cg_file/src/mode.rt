@@ -68,7 +68,7 @@ pub struct ModeFile {
 }
 
 impl ModeFile {
-    /// The text of a file of one mode.
+    /// A token of such files.
     pub fn new() -> ModeFile
         ensures spells { Spells ⟦<ModeFile as Token>⟧.means result (λ text v. KindText ModeForm v text) }
         ensures size { ⟦<ModeFile as Token>⟧.size result ≡ 0 }

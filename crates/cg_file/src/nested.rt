@@ -142,8 +142,7 @@ pub struct NestedFile {
 }
 
 impl NestedFile {
-    /// The text of a file of any number of keys, each with any number of pairs of a sub-key and a number. No key comes
-    /// twice, and no sub-key twice in a line.
+    /// A token of such files.
     pub fn new(alloc: Global) -> NestedFile
         ensures spells { Spells ⟦<NestedFile as Token>⟧.means result (λ text v. KindText NestedForm v text) }
         ensures size { ⟦<NestedFile as Token>⟧.size result ≡ 0 }

@@ -35,7 +35,7 @@ impl Turn<Sequence<DecimalText, ByteText>> for ToNumber {
 
 type Text = Line<DecimalText, ToNumber>;
 
-/// The text of a file of one number from `lo` to `hi`.
+/// The text of a file of one number of a range.
 #[derive(Drop)]
 pub struct NumberFile {
     text: Text,

@@ -36,7 +36,7 @@ impl Turn<Lines<DecimalText, NumberStart>> for ToNumbers {
 
 type Text = Mapped<Lines<DecimalText, NumberStart>, ToNumbers>;
 
-/// The text of a file of any number of numbers from `lo` to `hi`, one a line.
+/// The text of a file of any number of numbers of a range, one a line.
 #[derive(Drop)]
 pub struct NumbersFile {
     text: Text,

@@ -21,7 +21,7 @@ pub struct WhyText {
 }
 
 impl WhyText {
-    /// Why a partition is invalid, in parentheses after a space, or nothing.
+    /// A token of such texts.
     pub(crate) fn new(alloc: Global) -> WhyText
         ensures spells { Spells ⟦<WhyText as Token>⟧.means result (IsMaybe IsReasonText) }
         ensures size { ⟦<WhyText as Token>⟧.size result ≡ 0 }
@@ -93,7 +93,7 @@ pub struct InvalidText {
 }
 
 impl InvalidText {
-    /// That a partition is invalid, perhaps with a reason, or nothing.
+    /// A token of such texts.
     pub(crate) fn new(alloc: Global) -> InvalidText
         ensures spells { Spells ⟦<InvalidText as Token>⟧.means result (IsMaybe IsInvalidText) }
         ensures size { ⟦<InvalidText as Token>⟧.size result ≡ 0 }
@@ -168,7 +168,7 @@ pub struct RootText {
 }
 
 impl RootText {
-    /// A root or an isolated partition, perhaps invalid, perhaps with a reason.
+    /// A token of such texts.
     pub(crate) fn new(alloc: Global) -> RootText
         ensures spells { Spells ⟦<RootText as Token>⟧.means result IsRootText }
         ensures size { ⟦<RootText as Token>⟧.size result ≡ 0 }
@@ -301,7 +301,7 @@ pub struct PartitionFile {
 }
 
 impl PartitionFile {
-    /// The text of the file of a partition: its role, and of one that is invalid, also why.
+    /// A token of such files.
     pub fn new(alloc: Global) -> PartitionFile
         ensures spells { Spells ⟦<PartitionFile as Token>⟧.means result (λ text v. KindText PartitionForm v text) }
         ensures size { ⟦<PartitionFile as Token>⟧.size result ≡ 0 }

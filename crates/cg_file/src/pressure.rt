@@ -58,7 +58,7 @@ pub struct PressureLine {
 }
 
 impl PressureLine {
-    /// A line of a word and averages, with its newline.
+    /// A token of such lines.
     pub(crate) fn new(word: Keyword) -> PressureLine
         ensures spells { Spells ⟦<PressureLine as Token>⟧.means result (PressureText word) }
         ensures size { ⟦<PressureLine as Token>⟧.size result ≡ 0 }
@@ -158,7 +158,7 @@ pub struct PressureFile {
 }
 
 impl PressureFile {
-    /// The text of a file of pressure: a line of `some`, one of `full`, or both in this order.
+    /// A token of such files.
     pub fn new() -> PressureFile
         ensures spells { Spells ⟦<PressureFile as Token>⟧.means result (λ text v. KindText PressureForm v text) }
         ensures size { ⟦<PressureFile as Token>⟧.size result ≡ 0 }

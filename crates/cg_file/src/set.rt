@@ -107,7 +107,7 @@ impl Turn<Sequence<ListText, ByteText>> for ToSet {
 
 type Text = Line<ListText, ToSet>;
 
-/// The text of a file of one set of numbers up to `most`.
+/// The text of a file of one set of numbers up to a greatest one.
 #[derive(Drop)]
 pub struct SetFile {
     text: Text,

@@ -35,7 +35,7 @@ impl Turn<Sequence<SignedText, ByteText>> for ToSigned {
 
 type Text = Line<SignedText, ToSigned>;
 
-/// The text of a file of one signed number from `lo` to `hi`.
+/// The text of a file of one signed number of a range.
 #[derive(Drop)]
 pub struct SignedFile {
     text: Text,

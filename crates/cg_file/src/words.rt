@@ -20,7 +20,7 @@ pub struct SpacedWords {
 }
 
 impl SpacedWords {
-    /// Controllers' words with single spaces between, all different, or none.
+    /// A token of such words.
     fn new(alloc: Global) -> SpacedWords
         ensures spells { Spells ⟦<SpacedWords as Token>⟧.means result AreSpacedWords }
         ensures size { ⟦<SpacedWords as Token>⟧.size result ≡ 0 }
@@ -130,7 +130,7 @@ pub struct WordsFile {
 }
 
 impl WordsFile {
-    /// The text of a file of controllers' words. A file of no bytes has none.
+    /// A token of such files.
     pub fn new(alloc: Global) -> WordsFile
         ensures spells { Spells ⟦<WordsFile as Token>⟧.means result (λ text v. KindText WordsForm v text) }
         ensures size { ⟦<WordsFile as Token>⟧.size result ≡ 0 }
