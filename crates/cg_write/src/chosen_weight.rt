@@ -43,7 +43,7 @@ pub struct ChosenText {
 }
 
 impl ChosenText {
-    /// The word `default`, whose value is none, or a weight of 1 to 10000.
+    /// A token of such texts.
     pub(crate) fn new() -> ChosenText
         ensures spells { Spells ⟦<ChosenText as Token>⟧.means result IsChosen }
         ensures size { ⟦<ChosenText as Token>⟧.size result ≡ 0 }

@@ -14,7 +14,7 @@ use std::alloc::Global;
 /// One or more toggles with single spaces between.
 type TogglesText = Repeat<ToggleText, ToggleStart>;
 
-/// One or more toggles with single spaces between.
+/// A token of such texts.
 fn toggles_text(alloc: Global) -> TogglesText
     ensures spells { Spells ⟦<TogglesText as Token>⟧.means result AreJoinedToggles }
     ensures size { ⟦<TogglesText as Token>⟧.size result ≡ 0 }

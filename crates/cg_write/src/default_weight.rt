@@ -43,7 +43,7 @@ pub struct DefaultText {
 }
 
 impl DefaultText {
-    /// A weight of 1 to 10000, alone or after the word `default` and a space.
+    /// A token of such texts.
     pub(crate) fn new() -> DefaultText
         ensures spells { Spells ⟦<DefaultText as Token>⟧.means result IsDefault }
         ensures size { ⟦<DefaultText as Token>⟧.size result ≡ 0 }

@@ -18,7 +18,7 @@ pub struct DeviceLimitsText {
 }
 
 impl DeviceLimitsText {
-    /// A device, a space and one to four of its limits.
+    /// A token of such texts.
     pub(crate) fn new() -> DeviceLimitsText
         ensures spells { Spells ⟦<DeviceLimitsText as Token>⟧.means result IsSpacedLimits }
         ensures size { ⟦<DeviceLimitsText as Token>⟧.size result ≡ 0 }

@@ -31,7 +31,7 @@ pub struct AnyWeightText {
 }
 
 impl AnyWeightText {
-    /// The default weight, or a device and its weight.
+    /// A token of such texts.
     pub(crate) fn new() -> AnyWeightText
         ensures spells { Spells ⟦<AnyWeightText as Token>⟧.means result IsAnyWeight }
         ensures size { ⟦<AnyWeightText as Token>⟧.size result ≡ 0 }

@@ -15,7 +15,7 @@ type RootText = Choice<KeywordText, KeywordText>;
 /// The words of roles.
 type RoleText = Choice<KeywordText, RootText>;
 
-/// The words of roles.
+/// A token of such words.
 fn role_text() -> RoleText
     ensures spells { Spells ⟦<RoleText as Token>⟧.means result IsRoleWord }
     ensures size { ⟦<RoleText as Token>⟧.size result ≡ 0 }

@@ -12,7 +12,7 @@ use cg_value::Setting;
 /// A size in bytes, or the word `max`.
 type SizeLimitText = Choice<SizeText, KeywordText>;
 
-/// A size in bytes, or the word `max`.
+/// A token of such texts.
 fn size_limit_text() -> SizeLimitText
     ensures spells { Spells ⟦<SizeLimitText as Token>⟧.means result IsSizeOrMax }
     ensures size { ⟦<SizeLimitText as Token>⟧.size result ≡ 0 }

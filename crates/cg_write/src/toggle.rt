@@ -50,7 +50,7 @@ pub struct ToggleText {
     parts: Parts,
 }
 
-/// `+` or `-`.
+/// A token of such texts.
 fn sign_text() -> SignText
     ensures spells { Spells ⟦<SignText as Token>⟧.means result IsSign }
     ensures size { ⟦<SignText as Token>⟧.size result ≡ 0 }

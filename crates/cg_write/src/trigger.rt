@@ -15,7 +15,7 @@ type TasksText = Choice<KeywordText, KeywordText>;
 /// `some` or `full`, a space, and a stall and a window.
 type ThresholdText = Sequence<TasksText, Spaced<TriggerText>>;
 
-/// `some` or `full`, a space, and a stall and a window.
+/// A token of such texts.
 fn threshold_text() -> ThresholdText
     ensures spells { Spells ⟦<ThresholdText as Token>⟧.means result IsThreshold }
     ensures size { ⟦<ThresholdText as Token>⟧.size result ≡ 0 }
