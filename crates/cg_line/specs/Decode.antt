@@ -1,17 +1,14 @@
 -- What becomes of the bytes of a file.
 use Rattle.std.specs.Prelude.{◌≡◌, ℕ, ◌+◌, ◌<◌, List, length, take, None, Result, Ok, Err}
-use Rattle.cg_text.specs.Texts.{Viable, FirstBad}
-use Rattle.cg_value.specs.Files.{KindText, KindFile, FileText, File}
+use Rattle.cg_text.specs.Texts.{FirstBad, TextOf, Viable}
+use Rattle.cg_value.specs.Files.{FileText, File}
 use Rattle.cg_value.specs.Table.{read_form_of}
 use Rattle.cg_value.specs.declared.profile.Profile.{Profile}
-use Rattle.cg_value.specs.declared.kind.ReadForm.{ReadForm}
 use Rattle.cg_value.specs.declared.value.Value.{Value}
-use Rattle.cg_line.specs.Reads.{Reads}
-use Rattle.cg_line.specs.declared.reader.ValueReader.{ValueReader}
-use Rattle.cg_line.specs.declared.push.PushFault.{PushFault}
-use Rattle.cg_line.specs.declared.push.PushFault.TheVariants as push
 use Rattle.cg_line.specs.declared.decode.FileFault.{FileFault}
 use Rattle.cg_line.specs.declared.decode.FileFault.TheVariants.{NotReadable, Refused, Cut, OutOfMemory}
+use Rattle.cg_line.specs.declared.read_all.TextFault.{TextFault}
+use Rattle.cg_line.specs.declared.read_all.TextFault.TheVariants as text
 
 -- The bytes end before a text of the set does.
 pub record IsCut (L : List ℕ → Type 0) (bytes : List ℕ) (at : ℕ) : Type 0 where
@@ -25,28 +22,18 @@ pub record IsStarved (L : List ℕ → Type 0) (bytes : List ℕ) : Type 0 where
   pub within : at < length bytes
   pub goes : Viable L (take (at + 1) bytes)
 
--- Why the byte at a place was not taken.
-abbrev pub fault_of : PushFault → ℕ → FileFault
-fault_of push.Refused at = Refused at
-fault_of push.OutOfMemory at = OutOfMemory
+-- The first bad byte of the bytes is told; or their end is; or memory was refused before either.
+abbrev pub IsTextFault : (List ℕ → Type 0) → List ℕ → TextFault → Type 0
+IsTextFault L bytes (text.Refused at) = FirstBad L bytes at
+IsTextFault L bytes (text.Cut at) = IsCut L bytes at
+IsTextFault L bytes text.OutOfMemory = IsStarved L bytes
 
--- The bytes were all taken; or their first bad byte is told; or memory was refused before it.
-abbrev pub IsTakenWhole : ValueReader → ReadForm → List ℕ → Result (Unit {0}) FileFault → Type 0
-IsTakenWhole r kind bytes (Ok u) = Reads r kind bytes
-IsTakenWhole r kind bytes (Err NotReadable) = ⊥
-IsTakenWhole r kind bytes (Err (Refused at)) = FirstBad (KindFile kind) bytes at
-IsTakenWhole r kind bytes (Err (Cut at)) = ⊥
-IsTakenWhole r kind bytes (Err OutOfMemory) = IsStarved (KindFile kind) bytes
+-- The bytes are a text of the relation with the value; or it's told why they are none.
+abbrev pub IsReadWhole : {V : Type 0} → (List ℕ → V → Type 0) → List ℕ → Result V TextFault → Type 0
+IsReadWhole {V} Text bytes (Ok v) = Text bytes v
+IsReadWhole {V} Text bytes (Err fault) = IsTextFault (TextOf Text) bytes fault
 
--- The bytes are a file of the kind with the value; or their first bad byte is told; or their end is; or memory was refused before either.
-abbrev pub IsReadWhole : ReadForm → List ℕ → Result Value FileFault → Type 0
-IsReadWhole kind bytes (Ok v) = KindText kind v bytes
-IsReadWhole kind bytes (Err NotReadable) = ⊥
-IsReadWhole kind bytes (Err (Refused at)) = FirstBad (KindFile kind) bytes at
-IsReadWhole kind bytes (Err (Cut at)) = IsCut (KindFile kind) bytes at
-IsReadWhole kind bytes (Err OutOfMemory) = IsStarved (KindFile kind) bytes
-
--- The same by the file's name, which may be that of a file that can't be read.
+-- The bytes are a file of the name with the value; or it's told why they are none, or that none of the name can be read.
 abbrev pub IsDecoded : Profile → List ℕ → List ℕ → Result Value FileFault → Type 0
 IsDecoded profile name bytes (Ok v) = FileText profile name v bytes
 IsDecoded profile name bytes (Err NotReadable) = read_form_of profile name ≡ None

@@ -1,4 +1,4 @@
--- How much is held after one more byte.
+-- How much is held after more bytes.
 use Rattle.std.proofs.Common.{◌≡◌, ℕ, ◌+◌, ◌≤◌, ◌⊎◌, inl, inr, List, [], ◌∷◌, ◌++◌, length, refl, sym, ◌∙◌, ap, arith, append_assoc, append-nil, length-append}
 use Rattle.cg_text.specs.Texts.{Lacks}
 use Rattle.cg_value.specs.Files.{ReadLines, KindText}
@@ -9,6 +9,8 @@ use Rattle.cg_value.specs.Held.{held_of_lines}
 use Rattle.cg_value.specs.declared.kind.ReadForm.{ReadForm}
 use Rattle.cg_value.specs.declared.value.Value.{Value}
 use Rattle.cg_file.specs.Kinds.{HoldsLittle, held_of_whole}
+use Rattle.cg_line.specs.PlaceLaws.{last_same, not_empty}
+use Rattle.cg_line.specs.Rests.{IsPiece}
 
 -- A text is empty, or has a last byte.
 record HasLast (text : List ℕ) : Type 0 where
@@ -35,10 +37,6 @@ same_front (x ∷ front) (y ∷ other) b c e =
     let more = same_front front other b c (cc) in
     rw (head, more) refl
 
-not_empty : (front : List ℕ) (b : ℕ) → front ++ b ∷ [] ≡ [] → ⊥
-not_empty [] b e = cc
-not_empty (x ∷ front) b e = cc
-
 lacks_front : (front : List ℕ) (b : ℕ) → Lacks 10 (front ++ b ∷ []) → Lacks 10 front
 lacks_front [] b h = tt
 lacks_front (x ∷ front) b h = (h.0, lacks_front front b h.1)
@@ -50,22 +48,6 @@ whole_line kind v lines taken b size form spelled e bound = elim (one_text kind 
   | inr none ↦ absurd (not_empty taken b (e ∙ ap unlines none.no_lines))
 ]
 
--- A byte adds at most one; and a whole file holds at most what its value does.
-pub holds_more : (kind : ReadForm) (taken : List ℕ) (b old new : ℕ) → IsReadForm kind → new ≤ old + 1 → ((v : Value) → KindText kind v (taken ++ b ∷ []) → new ≤ held_of_whole v) →
-    HoldsLittle old kind taken → HoldsLittle new kind (taken ++ b ∷ [])
-holds_more kind taken b old new form grows whole h lines line v e plain spelled = elim (last_of line) [
-  | inl none ↦
-      let text : taken ++ b ∷ [] ≡ unlines lines = e ∙ ap (λ t. unlines lines ++ t) none ∙ append-nil (unlines lines) in
-      let bound = whole v (record { lines = lines; spelled = spelled; text_is = text }) in
-      omega (arith, whole_line kind v lines taken b new form spelled text bound)
-  | inr some ↦
-      let text : taken ++ b ∷ [] ≡ (unlines lines ++ some.front) ++ some.last ∷ [] = e ∙ ap (λ t. unlines lines ++ t) some.is ∙ sym (append_assoc (unlines lines) some.front (some.last ∷ [])) in
-      let front : taken ≡ unlines lines ++ some.front = same_front taken (unlines lines ++ some.front) b some.last text in
-      let before = h lines some.front v front (lacks_front some.front some.last (rw some.is at plain)) spelled in
-      let longer : length line ≡ length some.front + 1 = ap length some.is ∙ length-append some.front (some.last ∷ []) in
-      omega (arith, before, longer, grows)
-]
-
 lacks_last : (front : List ℕ) (b : ℕ) → Lacks 10 (front ++ b ∷ []) → b ≡ 10 → ⊥
 lacks_last [] b h e = h.0 e
 lacks_last (x ∷ front) b h e = lacks_last front b h.1 e
@@ -75,12 +57,6 @@ pub holds_none : (kind : ReadForm) (size : ℕ) → size ≡ 0 → HoldsLittle s
 holds_none kind size e lines line v text plain spelled = omega (arith, e)
 
 -- ---- A run of bytes that has no newline
-
-last_same : (front other : List ℕ) (b c : ℕ) → front ++ b ∷ [] ≡ other ++ c ∷ [] → b ≡ c
-last_same [] [] b c e = cc
-last_same [] (y ∷ other) b c e = absurd (not_empty other c (cc))
-last_same (x ∷ front) [] b c e = absurd (not_empty front b (cc))
-last_same (x ∷ front) (y ∷ other) b c e = last_same front other b c (cc)
 
 -- Lines end with a newline.
 pub lines_last : (lines : List (List ℕ)) → (unlines lines ≡ []) ⊎ ((front : List ℕ) × (unlines lines ≡ front ++ 10 ∷ []))
@@ -127,3 +103,11 @@ pub holds_run : (kind : ReadForm) (run taken : List ℕ) (old new : ℕ) → Lac
 holds_run kind [] taken old new plain grows h = rw (append-nil taken) (holds_same kind taken old new (omega (arith, grows)) h)
 holds_run kind (b ∷ run) taken old new plain grows h =
     rw (← append_assoc taken (b ∷ []) run) (holds_run kind run (taken ++ b ∷ []) (old + 1) new plain.1 (omega (arith, grows)) (holds_plain kind taken b old (old + 1) plain.0 (omega arith) h))
+
+-- Bytes of a line were taken, or the rest of one with its newline.
+pub holds_piece : (kind : ReadForm) (taken run : List ℕ) (old new : ℕ) → IsReadForm kind → IsPiece run → new ≤ old + length run → ((v : Value) → KindText kind v (taken ++ run) → new ≤ held_of_whole v) →
+    HoldsLittle old kind taken → HoldsLittle new kind (taken ++ run)
+holds_piece kind taken run old new form (inl plain) grows whole h = holds_run kind run taken old new plain grows h
+holds_piece kind taken run old new form (inr line) grows whole h =
+    let same : taken ++ run ≡ (taken ++ line.0) ++ 10 ∷ [] = ap (λ t. taken ++ t) line.1 ∙ sym (append_assoc taken line.0 (10 ∷ [])) in
+    rw same (holds_line kind (taken ++ line.0) new form (rw same at whole))

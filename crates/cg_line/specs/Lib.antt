@@ -18,7 +18,6 @@ pub mod Runs
 pub mod RunsLaws
 pub mod SplitLaws
 pub mod Takes
-pub mod TakesLaws
 pub mod Took
 pub mod TookLaws
 pub mod Upgrading

@@ -1,20 +1,22 @@
 -- What holds of the places of readers.
 use Rattle.std.specs.List.{AllByRecursion}
-use Rattle.std.proofs.Common.{◌≡◌, ◌≢◌, ℕ, ◌⊎◌, inl, inr, List, [], ◌∷◌, ◌++◌, refl, sym, ◌∙◌, append_assoc}
+use Rattle.std.proofs.Common.{◌≡◌, ◌≢◌, ℕ, ◌⊎◌, inl, inr, List, [], ◌∷◌, ◌++◌, not, refl, sym, ap, ◌∙◌, append_assoc}
+use Rattle.std.proofs.Math.Dec.{eqb}
+use Rattle.std.proofs.lemmas.Bool.Decides.{eqb_tells}
 use Rattle.cg_text.specs.Texts.{Lacks, Viable, Next}
 use Rattle.cg_value.specs.Files.{KindFile}
 use Rattle.cg_value.specs.Lines.{unlines}
 use Rattle.cg_value.specs.LineLaws.{plain_lines}
 use Rattle.cg_value.specs.declared.kind.ReadForm.{ReadForm}
 use Rattle.cg_line.specs.Place.{IsPlace, AtLineStart, TakesLine}
-use Rattle.cg_line.specs.declared.place.Place.{Place}
-use Rattle.cg_line.specs.declared.place.Place.TheVariants.{Start, InLine, LineEnd}
+use Rattle.cg_line.specs.Rests.{SomeNext}
 
-not_empty : (front : List ℕ) (b : ℕ) → front ++ b ∷ [] ≡ [] → ⊥
+pub not_empty : (front : List ℕ) (b : ℕ) → front ++ b ∷ [] ≡ [] → ⊥
 not_empty [] b e = cc
 not_empty (x ∷ front) b e = cc
 
-last_same : (front other : List ℕ) (b c : ℕ) → front ++ b ∷ [] ≡ other ++ c ∷ [] → b ≡ c
+-- Two texts that end with a byte end with the same one.
+pub last_same : (front other : List ℕ) (b c : ℕ) → front ++ b ∷ [] ≡ other ++ c ∷ [] → b ≡ c
 last_same [] [] b c e = cc
 last_same [] (y ∷ other) b c e = absurd (not_empty other c (cc))
 last_same (x ∷ front) [] b c e = absurd (not_empty front b (cc))
@@ -76,12 +78,7 @@ takes_where_next kind taken byte at h =
       };
     }
 
--- Where a line may come, some byte may.
-pub record SomeNext (kind : ReadForm) (taken : List ℕ) : Type 0 where
-  pub byte : ℕ
-  pub next : Next (KindFile kind) taken byte
-
-next_of : (kind : ReadForm) (taken line : List ℕ) → Viable (KindFile kind) (taken ++ (line ++ 10 ∷ [])) → SomeNext kind taken
+next_of : (kind : ReadForm) (taken line : List ℕ) → Viable (KindFile kind) (taken ++ (line ++ 10 ∷ [])) → SomeNext (KindFile kind) taken
 next_of kind taken [] h = record { byte = 10; next = h }
 next_of kind taken (b ∷ line) h = record {
   byte = b;
@@ -91,17 +88,17 @@ next_of kind taken (b ∷ line) h = record {
   };
 }
 
-pub next_where_takes : (kind : ReadForm) (taken : List ℕ) → TakesLine kind taken → SomeNext kind taken
+pub next_where_takes : (kind : ReadForm) (taken : List ℕ) → TakesLine kind taken → SomeNext (KindFile kind) taken
 next_where_takes kind taken h = next_of kind taken h.line h.goes
 
--- By the place no line is begun, or one is.
-pub at_line_start : (place : Place) (taken : List ℕ) → IsPlace place taken → place ≢ InLine → AtLineStart taken
-at_line_start Start taken p n = inl p
-at_line_start InLine taken p n = absurd (n refl)
-at_line_start LineEnd taken p n = inr p
+-- ---- The place after a byte
 
-pub not_in_line : (place : Place) (taken : List ℕ) → IsPlace place taken → AtLineStart taken → place ≢ InLine
-not_in_line Start taken p at e = cc
-not_in_line InLine taken p (inl f) e = not_empty p.0 p.1 (sym p.2 ∙ f)
-not_in_line InLine taken p (inr f) e = p.3 (last_same p.0 f.0 p.1 10 (sym p.2 ∙ f.1))
-not_in_line LineEnd taken p at e = cc
+not_start : (front : List ℕ) (b : ℕ) → b ≢ 10 → AtLineStart (front ++ b ∷ []) → ⊥
+not_start front b other (inl e) = not_empty front b e
+not_start front b other (inr f) = other (last_same front f.0 b 10 f.1)
+
+pub place_after : (front : List ℕ) (b : ℕ) → IsPlace (not (eqb b 10)) (front ++ b ∷ [])
+place_after front b = elim (eqb_tells b 10) [
+  | inl e ↦ rw e.0 (inr (front, ap (λ n. front ++ n ∷ []) e.1))
+  | inr e ↦ rw e.0 (not_start front b e.1)
+]

@@ -19,11 +19,11 @@ use Rattle.cg_line.specs.declared.setting_reader.SettingReader.{SettingReader}
 
 open_few : (o : OpenReader) (kind : ReadForm) (taken : List ℕ) → Took o kind taken → open_held o ≤ length taken
 unfolding open_held
-open_few o kind taken h = (is_took o kind taken h).few
+open_few o kind taken h = omega (arith, (is_took o kind taken h).read.few)
 
 open_most : (o : OpenReader) (kind : ReadForm) (lines : List (List ℕ)) (line : List ℕ) (v : Value) → Took o kind (unlines lines ++ line) → Lacks 10 line → ReadLines kind v lines → open_held o ≤ held_of_lines v lines + length line
 unfolding open_held
-open_most o kind lines line v h plain spelled = (is_took o kind (unlines lines ++ line) h).held lines line v refl plain spelled
+open_most o kind lines line v h plain spelled = (is_took o kind (unlines lines ++ line) h).little lines line v refl plain spelled
 
 state_few : (s : State) (kind : ReadForm) (taken : List ℕ) → IsState s kind taken → state_held s ≤ length taken
 state_few (state.New alloc k) kind taken h = omega arith
@@ -44,4 +44,4 @@ reads_most r kind lines line v h plain spelled = rw (held_is r r.state refl) (st
 
 pub takes_few : (r : SettingReader) (kind : WriteForm) (taken : List ℕ) → Takes r kind taken → held_of r ≤ length taken
 unfolding held_of
-takes_few r kind taken h = (is_takes r kind taken h).held
+takes_few r kind taken h = omega (arith, (is_takes r kind taken h).few)

@@ -1,5 +1,5 @@
 -- What a reader took.
-use Rattle.std.proofs.Common.{◌≡◌, ℕ, List, ◌∷◌, ◌++◌, [], Result, Ok, Err, append-nil}
+use Rattle.std.proofs.Common.{◌≡◌, ℕ, List, ◌∷◌, ◌++◌, [], Result, append-nil}
 use Rattle.cg_text.specs.Texts.{Next, Viable}
 use Rattle.cg_value.specs.Files.{KindText, KindFile}
 use Rattle.cg_value.specs.FirstLineLaws.{first_line}
@@ -7,9 +7,9 @@ use Rattle.cg_value.specs.Held.{held_of_value}
 use Rattle.cg_value.specs.Kind.{IsReadForm}
 use Rattle.cg_value.specs.declared.kind.ReadForm.{ReadForm}
 use Rattle.cg_value.specs.declared.value.Value.{Value}
-use Rattle.cg_line.specs.Took.{Took, open_held, took_viable}
+use Rattle.cg_line.specs.Rests.{Leaves}
+use Rattle.cg_line.specs.Took.{Took, is_took, open_held}
 use Rattle.cg_line.specs.declared.push.PushFault.{PushFault}
-use Rattle.cg_line.specs.declared.push.PushFault.TheVariants.{Refused, OutOfMemory}
 use Rattle.cg_line.specs.declared.reader.State.{State}
 use Rattle.cg_line.specs.declared.reader.State.TheVariants as state
 use Rattle.cg_line.specs.declared.reader.ValueReader.{ValueReader}
@@ -44,15 +44,9 @@ Reads r kind taken = HasRead r kind taken
 unfoldable pub held_by : ValueReader → ℕ
 held_by r = state_held r.state
 
--- What a pushed byte leaves, where R tells which bytes were taken: it was taken; or no file of the kind goes on with it; or
--- one does, and memory was refused.
-abbrev pub Leaves : (List ℕ → Type 0) → ReadForm → List ℕ → ℕ → Result Unit PushFault → Type 0
-Leaves R kind taken byte (Ok u) = R (taken ++ byte ∷ [])
-Leaves R kind taken byte (Err Refused) = R taken × (Next (KindFile kind) taken byte → ⊥)
-Leaves R kind taken byte (Err OutOfMemory) = R taken × Next (KindFile kind) taken byte
-
+-- What a pushed byte leaves.
 abbrev pub IsPushed : ValueReader → ReadForm → List ℕ → ℕ → Result Unit PushFault → Type 0
-IsPushed r kind taken byte result = Leaves (Reads r kind) kind taken byte result
+IsPushed r kind taken byte result = Leaves (Reads r kind) (KindFile kind) taken byte result
 
 pub reads_is : (r : ValueReader) (kind : ReadForm) (taken : List ℕ) → HasRead r kind taken → Reads r kind taken
 unfolding Reads
@@ -65,7 +59,7 @@ is_reads r kind taken h = h
 state_viable : (s : State) (kind : ReadForm) (taken : List ℕ) → IsReadForm kind → IsState s kind taken → Viable (KindFile kind) taken
 state_viable (state.New alloc k) kind taken form h = let line = first_line kind form in rw h.1 (record { rest = line.0 ++ 10 ∷ []; whole = line.1.file })
 state_viable (state.Whole file) kind taken form h = record { rest = []; whole = (file.value, rw (append-nil taken) h.text) }
-state_viable (state.Open reader) kind taken form h = took_viable reader.value kind taken h
+state_viable (state.Open reader) kind taken form h = (is_took reader.value kind taken h).read.viable
 
 pub reads_viable : (r : ValueReader) (kind : ReadForm) (taken : List ℕ) → Reads r kind taken → Viable (KindFile kind) taken
 reads_viable r kind taken h = let read = is_reads r kind taken h in state_viable r.state kind taken read.form read.state

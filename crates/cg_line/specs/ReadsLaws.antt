@@ -1,12 +1,14 @@
 -- What a reader's state says of what it took.
 use Rattle.std.proofs.Common.{◌≡◌, ℕ, ◌<◌, ◌≤◌, List, [], ◌∷◌, ◌++◌, suc, zero, length, take, get_or, Ok, Err, ap, subst, arith, Result}
 use Rattle.cg_text.specs.Texts.{Next, Viable}
+use Rattle.cg_value.specs.Files.{KindFile}
 use Rattle.cg_value.specs.declared.kind.ReadForm.{ReadForm}
 use Rattle.cg_value.specs.declared.value.Value.{Value}
 use Rattle.cg_line.specs.Begun.{IsPushFault}
 use Rattle.cg_line.specs.Place.{TakesLine}
 use Rattle.cg_line.specs.PlaceLaws.{next_where_takes}
-use Rattle.cg_line.specs.Reads.{IsState, IsWholeFile, Leaves, Reads, held_by, is_reads, reads_is, state_held}
+use Rattle.cg_line.specs.Reads.{IsState, IsWholeFile, Reads, held_by, is_reads, reads_is, state_held}
+use Rattle.cg_line.specs.Rests.{Leaves}
 use Rattle.cg_line.specs.declared.push.PushFault.{PushFault}
 use Rattle.cg_line.specs.declared.push.PushFault.TheVariants.{Refused, OutOfMemory}
 use Rattle.cg_line.specs.declared.reader.State.{State}
@@ -38,16 +40,16 @@ held_is r s e = ap state_held e
 -- ---- What a byte leaves
 
 -- Why it was not taken.
-pub fault_is : (R : List ℕ → Type 0) (kind : ReadForm) (taken : List ℕ) (byte : ℕ) (fault : PushFault) → Leaves R kind taken byte (Err fault) → IsPushFault kind taken byte fault
+pub fault_is : (R : List ℕ → Type 0) (kind : ReadForm) (taken : List ℕ) (byte : ℕ) (fault : PushFault) → Leaves R (KindFile kind) taken byte (Err fault) → IsPushFault kind taken byte fault
 fault_is R kind taken byte Refused h = h.1
 fault_is R kind taken byte OutOfMemory h = h.1
 
-pub fault_leaves : (R : List ℕ → Type 0) (kind : ReadForm) (taken : List ℕ) (byte : ℕ) (fault : PushFault) → R taken → IsPushFault kind taken byte fault → Leaves R kind taken byte (Err fault)
+pub fault_leaves : (R : List ℕ → Type 0) (kind : ReadForm) (taken : List ℕ) (byte : ℕ) (fault : PushFault) → R taken → IsPushFault kind taken byte fault → Leaves R (KindFile kind) taken byte (Err fault)
 fault_leaves R kind taken byte Refused r h = (r, h)
 fault_leaves R kind taken byte OutOfMemory r h = (r, h)
 
 -- What follows from which bytes were taken.
-pub leaves_on : (R Q : List ℕ → Type 0) (kind : ReadForm) (taken : List ℕ) (byte : ℕ) (result : Result (Unit {0}) PushFault) → ((now : List ℕ) → R now → Q now) → Leaves R kind taken byte result → Leaves Q kind taken byte result
+pub leaves_on : (R Q : List ℕ → Type 0) (kind : ReadForm) (taken : List ℕ) (byte : ℕ) (result : Result (Unit {0}) PushFault) → ((now : List ℕ) → R now → Q now) → Leaves R (KindFile kind) taken byte result → Leaves Q (KindFile kind) taken byte result
 leaves_on R Q kind taken byte (Ok u) on h = on (taken ++ byte ∷ []) h
 leaves_on R Q kind taken byte (Err Refused) on h = (on taken h.0, h.1)
 leaves_on R Q kind taken byte (Err OutOfMemory) on h = (on taken h.0, h.1)

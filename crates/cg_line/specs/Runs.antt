@@ -21,9 +21,9 @@ abbrev pub RunStops : ReadForm → List ℕ → List ℕ → ℕ → Option Push
 RunStops kind = StopsAt (KindFile kind)
 
 -- The bytes that were taken, and why no more were, where R tells which bytes were taken.
-pub record LeavesRun (R : List ℕ → Type 0) (kind : ReadForm) (taken bytes : List ℕ) (run : PushedRun) : Type 0 where
+pub record LeavesRun (R L : List ℕ → Type 0) (taken bytes : List ℕ) (run : PushedRun) : Type 0 where
   pub reads : R (taken ++ take run.used bytes)
-  pub stops : RunStops kind taken bytes run.used run.fault
+  pub stops : StopsAt L taken bytes run.used run.fault
 
 abbrev pub IsPushedRun : ValueReader → ReadForm → List ℕ → List ℕ → PushedRun → Type 0
-IsPushedRun r kind taken bytes run = LeavesRun (Reads r kind) kind taken bytes run
+IsPushedRun r kind taken bytes run = LeavesRun (Reads r kind) (KindFile kind) taken bytes run

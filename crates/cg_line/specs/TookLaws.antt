@@ -1,57 +1,29 @@
--- What a byte does to a reader.
-use Rattle.std.proofs.Common.{◌≡◌, ℕ, ◌+◌, ◌≤◌, ◌↔◌, List, [], ◌∷◌, ◌++◌, Ok, Err, arith, length-append}
-use Rattle.cg_text.specs.Token.{Begins, Ends}
-use Rattle.cg_text.specs.Texts.{Next}
-use Rattle.cg_value.specs.Files.{KindText, KindFile}
-use Rattle.cg_value.specs.declared.value.Value.{Value}
-use Rattle.cg_value.specs.declared.kind.ReadForm.{ReadForm}
-use Rattle.cg_line.specs.Rests.{Pushes, IsRead}
-use Rattle.cg_line.specs.RestsLaws.{pushed, whole_is, value_is, next_is}
-use Rattle.cg_line.specs.Place.{IsPlace}
-use Rattle.cg_file.specs.Kinds.{TextsOf, HoldsLittle}
-use Rattle.cg_line.specs.Reads.{Leaves}
-use Rattle.cg_line.specs.Took.{HasTaken, Took, took_is, is_took}
-use Rattle.cg_file.specs.declared.file_text.FileText.{FileText}
-use Rattle.cg_line.specs.declared.push.PushFault.{PushFault}
-use Rattle.cg_line.specs.declared.push.PushFault.TheVariants.{Refused, OutOfMemory}
-use Rattle.cg_line.specs.declared.place.Place.{Place}
-use Rattle.cg_line.specs.declared.open_reader.OpenReader.{OpenReader}
+-- What bytes do to an open reader.
+use Rattle.std.proofs.Common.{ℕ, List, ◌++◌}
+use Rattle.cg_file.specs.HeldLaws.{file_settled}
+use Rattle.cg_file.specs.Kinds.{TextsOf}
 use Rattle.cg_file.specs.contracts.file_text.FileTextToken.TheImpl.{ghosts}
+use Rattle.cg_value.specs.declared.kind.ReadForm.{ReadForm}
+use Rattle.cg_line.specs.HeldLaws.{holds_piece}
+use Rattle.cg_line.specs.Place.{IsPlace}
+use Rattle.cg_line.specs.Rests.{IsAfter, IsPiece, IsRead}
+use Rattle.cg_line.specs.RestsLaws.{read_on, value_is}
+use Rattle.cg_line.specs.Took.{Took, is_took, took_is}
+use Rattle.cg_line.specs.declared.open_reader.OpenReader.{OpenReader}
 
--- The byte was taken.
-pub pushed_on : (r : OpenReader) (m : FileText) (p : Place) (kind : ReadForm) (taken : List ℕ) (b : ℕ) → Pushes (ghosts.means r.text) b (ghosts.means m) (Ok tt) →
-    ghosts.size m ≤ ghosts.size r.text + 1 → IsPlace p (taken ++ b ∷ []) →
-    (IsRead (TextsOf kind) (ghosts.means m) (taken ++ b ∷ []) →
-    HoldsLittle (ghosts.size m) kind (taken ++ b ∷ [])) → Took r kind taken →
-    Took (record { text = m; place = p }) kind (taken ++ b ∷ [])
-pushed_on r m p kind taken b pushes more place held h =
-    let was = is_took r kind taken h in
-    let now = pushed (TextsOf kind) (ghosts.means r.text) (ghosts.means m) taken b (Ok tt) pushes was.rests in
-    took_is _ _ _ (record { rests = now; form = was.form; place = place; held = held now; few = omega (arith, more, was.few, length-append taken (b ∷ [])) })
+-- The rests are those of a file of the kind.
+pub took_read : (r : OpenReader) (kind : ReadForm) (taken : List ℕ) → Took r kind taken → IsRead (TextsOf kind) 0 (ghosts.means r.text) (ghosts.size r.text) taken
+took_read r kind taken h = (is_took r kind taken h).read
 
-unchanged : (r : OpenReader) (m : FileText) (kind : ReadForm) (taken : List ℕ) →
-    ghosts.size m ≡ ghosts.size r.text → HasTaken r kind taken → IsRead (TextsOf kind) (ghosts.means m) taken →
-    Took (record { text = m; place = r.place }) kind taken
-unchanged r m kind taken size was rests = took_is _ _ _ (record { rests = rests; form = was.form; place = was.place; held = rw size was.held; few = rw size was.few })
-
--- It was not.
-pub refused_byte : (r : OpenReader) (m : FileText) (kind : ReadForm) (taken : List ℕ) (b : ℕ) (fault : PushFault) → Pushes (ghosts.means r.text) b (ghosts.means m) (Err fault) →
-    ghosts.size m ≡ ghosts.size r.text → Took r kind taken → Leaves (Took (record { text = m; place = r.place }) kind) kind taken b (Err fault)
-refused_byte r m kind taken b Refused pushes size h =
-    let was = is_took r kind taken h in
-    let now = pushed (TextsOf kind) (ghosts.means r.text) (ghosts.means m) taken b (Err Refused) pushes was.rests in
-    (unchanged r m kind taken size was now.0, now.1)
-refused_byte r m kind taken b OutOfMemory pushes size h =
-    let was = is_took r kind taken h in
-    let now = pushed (TextsOf kind) (ghosts.means r.text) (ghosts.means m) taken b (Err OutOfMemory) pushes was.rests in
-    (unchanged r m kind taken size was now.0, now.1)
-
--- What the reader's rests say of files.
-pub whole_file : (r : OpenReader) (kind : ReadForm) (taken : List ℕ) → Took r kind taken → Ends ghosts.means r.text ↔ KindFile kind taken
-whole_file r kind taken h = whole_is (TextsOf kind) (ghosts.means r.text) taken (is_took r kind taken h).rests
-
-pub whole_value : (r : OpenReader) (v : Value) (kind : ReadForm) (taken : List ℕ) → ghosts.means r.text [] v → Took r kind taken → KindText kind v taken
-whole_value r v kind taken p h = value_is (TextsOf kind) (ghosts.means r.text) taken v p (is_took r kind taken h).rests
-
-pub next_byte_is : (r : OpenReader) (kind : ReadForm) (taken : List ℕ) (b : ℕ) → Took r kind taken → Begins ghosts.means r.text b ↔ Next (KindFile kind) taken b
-next_byte_is r kind taken b h = next_is (TextsOf kind) (ghosts.means r.text) taken b (is_took r kind taken h).rests
+-- A piece of a file was taken.
+pub took_on : (old new : OpenReader) (kind : ReadForm) (taken run : List ℕ) → IsAfter ghosts.means ghosts.size old.text new.text run → IsPiece run → (IsPlace old.in_line taken → IsPlace new.in_line (taken ++ run)) →
+    Took old kind taken → Took new kind (taken ++ run)
+took_on old new kind taken run after piece place h =
+    let was = is_took old kind taken h in
+    let read = read_on was.read (ghosts.means new.text) (ghosts.size new.text) run after in
+    took_is new kind (taken ++ run) (record {
+      read = read;
+      form = was.form;
+      place = place was.place;
+      little = holds_piece kind taken run (ghosts.size old.text) (ghosts.size new.text) was.form piece after.few (λ v t. file_settled new.text v ((value_is read v).1 t)) was.little;
+    })

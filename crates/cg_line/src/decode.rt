@@ -1,12 +1,13 @@
 //! One file as a whole.
-ghost use Rattle.std.specs.Prelude.{◌≡◌, ℕ, List, [], length};
-ghost use Rattle.cg_value.specs.declared.kind.ReadForm.{ReadForm};
-ghost use Rattle.cg_line.specs.Decode.{fault_of, IsTakenWhole, IsReadWhole, IsDecoded};
-ghost use Rattle.cg_line.specs.Reads.{Reads};
+ghost use Rattle.std.specs.Prelude.{ℕ, List, Err};
+ghost use Rattle.cg_file.specs.Kinds.{TextsOf};
+ghost use Rattle.cg_value.specs.Files.{File};
+ghost use Rattle.cg_value.specs.declared.profile.Profile.{Profile};
+ghost use Rattle.cg_line.specs.Decode.{IsDecoded, IsReadWhole, IsTextFault};
 
-use crate::push::PushFault;
-use crate::reader::ValueReader;
-use cg_value::{Profile, Value, read_kind};
+use crate::read_all::{TextFault, read_all};
+use cg_file::FileText;
+use cg_value::{Profile, ReadKind, Value, read_kind};
 use std::alloc::Global;
 use thiserror::Error;
 
@@ -26,42 +27,24 @@ pub enum FileFault {
     OutOfMemory,
 }
 
-/// Why the byte at this place was not taken.
-fn fault_at(fault: PushFault, at: u64) -> FileFault
-    ensures { result ≡ fault_of fault at }
+/// What is told of a file whose bytes are no text.
+fn file_fault(fault: TextFault) -> FileFault
+    ensures { (profile : Profile) (name bytes : List ℕ) → IsTextFault (File profile name) bytes fault →
+        IsDecoded profile name bytes (Err result) }
 {
     match fault {
-        PushFault::Refused => FileFault::Refused { at },
-        PushFault::OutOfMemory => FileFault::OutOfMemory,
+        TextFault::Refused { at } => FileFault::Refused { at },
+        TextFault::Cut { at } => FileFault::Cut { at },
+        TextFault::OutOfMemory => FileFault::OutOfMemory,
     }
 }
 
-/// Takes all bytes.
-fn take_all(reader: &mut ValueReader, bytes: &[u8]) -> Result<(), FileFault>
-    ensures { (kind : ReadForm) → Reads reader.old kind [] → IsTakenWhole reader.new kind bytes.now result }
+/// The value of a whole file of this kind.
+#[inline(never)]
+fn read_file(alloc: Global, kind: ReadKind, bytes: &[u8]) -> Result<Value, TextFault>
+    ensures { IsReadWhole (TextsOf kind) bytes.now result }
 {
-    let mut at = 0;
-    while at < bytes.len() {
-        let (_, rest) = bytes.split_at(at);
-        let run = reader.push_run(rest);
-        at += run.used;
-        match run.fault {
-            None => {}
-            Some(fault) => return Err(fault_at(fault, at as u64)),
-        }
-    }
-    Ok(())
-}
-
-/// The value of a whole file of which so many bytes were taken.
-fn value_of(reader: ValueReader, taken: u64) -> Result<Value, FileFault>
-    ensures { (kind : ReadForm) (bytes : List ℕ) → Reads reader kind bytes → taken ≡ length bytes →
-        IsReadWhole kind bytes result }
-{
-    match reader.finish() {
-        Ok(value) => Ok(value),
-        Err(_) => Err(FileFault::Cut { at: taken }),
-    }
+    read_all(FileText::new(alloc, kind), bytes)
 }
 
 /// The value of the file of this name whose whole text these bytes are.
@@ -77,9 +60,12 @@ pub fn decode_file(
         Ok(kind) => kind,
         Err(_) => return Err(FileFault::NotReadable),
     };
-    let mut reader = ValueReader::new(alloc, kind);
-    match take_all(&mut reader, bytes) {
-        Ok(()) => value_of(reader, bytes.len() as u64),
-        Err(fault) => Err(fault),
+    match FileText::read_front(alloc, kind, bytes) {
+        Some((value, used)) if used == bytes.len() => return Ok(value),
+        _ => {}
+    }
+    match read_file(alloc, kind, bytes) {
+        Ok(value) => Ok(value),
+        Err(fault) => Err(file_fault(fault)),
     }
 }

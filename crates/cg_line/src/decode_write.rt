@@ -1,12 +1,13 @@
 //! One write as a whole.
-ghost use Rattle.std.specs.Prelude.{◌≡◌, ℕ, List, [], length};
-ghost use Rattle.cg_value.specs.declared.kind.WriteForm.{WriteForm};
-ghost use Rattle.cg_line.specs.DecodeWrite.{write_fault_of, IsWriteTaken, IsWriteRead, IsWriteDecoded};
-ghost use Rattle.cg_line.specs.Takes.{Takes};
+ghost use Rattle.std.specs.Prelude.{ℕ, List, Err};
+ghost use Rattle.cg_value.specs.Settings.{Write};
+ghost use Rattle.cg_value.specs.declared.profile.Profile.{Profile};
+ghost use Rattle.cg_line.specs.Decode.{IsTextFault};
+ghost use Rattle.cg_line.specs.DecodeWrite.{IsWriteDecoded};
 
-use crate::push::PushFault;
-use crate::setting_reader::SettingReader;
+use crate::read_all::{TextFault, read_all};
 use cg_value::{Profile, Setting, write_kind};
+use cg_write::WriteText;
 use std::alloc::Global;
 use thiserror::Error;
 
@@ -26,41 +27,15 @@ pub enum SettingFault {
     OutOfMemory,
 }
 
-/// Why the byte at this place was not taken.
-fn fault_at(fault: PushFault, at: u64) -> SettingFault
-    ensures { result ≡ write_fault_of fault at }
+/// What is told of a write whose bytes are no text.
+fn setting_fault(fault: TextFault) -> SettingFault
+    ensures { (profile : Profile) (name bytes : List ℕ) → IsTextFault (Write profile name) bytes fault →
+        IsWriteDecoded profile name bytes (Err result) }
 {
     match fault {
-        PushFault::Refused => SettingFault::Refused { at },
-        PushFault::OutOfMemory => SettingFault::OutOfMemory,
-    }
-}
-
-/// Takes all bytes.
-fn take_all(reader: &mut SettingReader, bytes: &[u8]) -> Result<(), SettingFault>
-    ensures { (kind : WriteForm) → Takes reader.old kind [] → IsWriteTaken reader.new kind bytes.now result }
-{
-    let mut at = 0;
-    while at < bytes.len() {
-        let (_, rest) = bytes.split_at(at);
-        let run = reader.push_run(rest);
-        at += run.used;
-        match run.fault {
-            None => {}
-            Some(fault) => return Err(fault_at(fault, at as u64)),
-        }
-    }
-    Ok(())
-}
-
-/// The setting of a whole write of which so many bytes were taken.
-fn setting_of(reader: SettingReader, taken: u64) -> Result<Setting, SettingFault>
-    ensures { (kind : WriteForm) (bytes : List ℕ) → Takes reader kind bytes → taken ≡ length bytes →
-        IsWriteRead kind bytes result }
-{
-    match reader.finish() {
-        Ok(setting) => Ok(setting),
-        Err(_) => Err(SettingFault::Cut { at: taken }),
+        TextFault::Refused { at } => SettingFault::Refused { at },
+        TextFault::Cut { at } => SettingFault::Cut { at },
+        TextFault::OutOfMemory => SettingFault::OutOfMemory,
     }
 }
 
@@ -77,9 +52,8 @@ pub fn decode_setting(
         Ok(kind) => kind,
         Err(_) => return Err(SettingFault::NotWritable),
     };
-    let mut reader = SettingReader::new(alloc, kind);
-    match take_all(&mut reader, bytes) {
-        Ok(()) => setting_of(reader, bytes.len() as u64),
-        Err(fault) => Err(fault),
+    match read_all(WriteText::new(alloc, kind), bytes) {
+        Ok(setting) => Ok(setting),
+        Err(fault) => Err(setting_fault(fault)),
     }
 }

@@ -6,10 +6,11 @@ pub mod decode;
 pub mod decode_write;
 pub mod laws;
 pub mod open_reader;
-pub mod place;
 pub mod push;
+pub mod read_all;
 pub mod reader;
 pub mod setting_reader;
+pub mod text;
 pub mod upgrading;
 pub mod whole_file;
 

@@ -17,9 +17,10 @@ ghost use Rattle.cg_line.specs.Took.{Took, open_held};
 
 use crate::open_reader::OpenReader;
 use crate::push::PushFault;
+use crate::text::allowed_by;
 use crate::whole_file::WholeFile;
 use cg_file::FileText;
-use cg_text::ByteSet;
+use cg_text::{ByteSet, Token};
 use cg_value::{ReadKind, Value};
 use std::alloc::Global;
 use std::fmt;
@@ -180,7 +181,7 @@ fn begins_line(alloc: Global, kind: ReadKind) -> bool
 fn first_allowed(alloc: Global, kind: ReadKind) -> ByteSet
     ensures { (byte : ℕ) → HasByte result byte ↔ Next (KindFile kind) [] byte }
 {
-    OpenReader::new(alloc, kind).allowed()
+    allowed_by(&OpenReader::new(alloc, kind).text)
 }
 
 /// Whether there is a file of the kind of no bytes.
@@ -188,7 +189,7 @@ fn first_allowed(alloc: Global, kind: ReadKind) -> ByteSet
 fn may_be_empty(alloc: Global, kind: ReadKind) -> bool
     ensures { IsTrue result ↔ KindFile kind [] }
 {
-    OpenReader::new(alloc, kind).can_finish()
+    OpenReader::new(alloc, kind).text.can_end()
 }
 
 /// The value of the file of the kind of no bytes, if there is one.
@@ -196,9 +197,9 @@ fn may_be_empty(alloc: Global, kind: ReadKind) -> bool
 fn empty_value(alloc: Global, kind: ReadKind) -> Option<Value>
     ensures { MatchOption result (KindFile kind [] → ⊥) (λ v. KindText kind v []) }
 {
-    let reader = OpenReader::new(alloc, kind);
-    if reader.can_finish() {
-        Some(reader.into_value())
+    let text = OpenReader::new(alloc, kind).text;
+    if text.can_end() {
+        Some(text.take())
     } else {
         None
     }
@@ -210,8 +211,8 @@ fn finish_open(reader: Box<OpenReader>) -> Result<Value, State>
     ensures { (kind : ReadForm) (taken : List ℕ) → Took reader.value kind taken →
         IsFinished kind taken (State.Open reader) result }
 {
-    if reader.can_finish() {
-        Ok(Box::into_inner(reader).into_value())
+    if reader.text.can_end() {
+        Ok(Box::into_inner(reader).text.take())
     } else {
         Err(State::Open(reader))
     }
@@ -326,7 +327,7 @@ impl ValueReader {
         match &self.state {
             State::New { alloc, kind } => may_be_empty(*alloc, *kind),
             State::Whole(_) => true,
-            State::Open(reader) => reader.can_finish(),
+            State::Open(reader) => reader.text.can_end(),
         }
     }
 
@@ -338,7 +339,7 @@ impl ValueReader {
         match &self.state {
             State::New { alloc, kind } => first_allowed(*alloc, *kind),
             State::Whole(_) => ByteSet::new(),
-            State::Open(reader) => reader.allowed(),
+            State::Open(reader) => allowed_by(&reader.text),
         }
     }
 
@@ -353,7 +354,7 @@ impl ValueReader {
         match &self.state {
             State::New { .. } => 0,
             State::Whole(_) => 0,
-            State::Open(reader) => reader.held(),
+            State::Open(reader) => reader.text.held(),
         }
     }
 

@@ -1,13 +1,14 @@
 //! Readers of one write.
-ghost use Rattle.std.specs.Prelude.{◌≡◌, ◌≤◌, ◌<◌, ◌+◌, ◌↔◌, ℕ, List, [], ◌++◌, length, take, MatchResult, IsTrue, IfNone, OnErr};
+ghost use Rattle.std.specs.Prelude.{◌≡◌, ◌≤◌, ◌<◌, ◌+◌, ◌↔◌, ℕ, List, [], length, MatchResult, IsTrue, IfNone, OnErr};
 ghost use Rattle.cg_text.specs.Bytes.{HasByte};
-ghost use Rattle.cg_text.specs.Texts.{Lacks, Next};
+ghost use Rattle.cg_text.specs.Texts.{Next};
 ghost use Rattle.cg_text.specs.Token.{told};
 ghost use Rattle.cg_value.specs.Settings.{WriteText as IsWriteText, KindWrite};
 ghost use Rattle.cg_value.specs.declared.kind.WriteForm.{WriteForm};
 
-use crate::push::{PushFault, push_to};
+use crate::push::{PushFault, push_run_to, push_to};
 use crate::reader::PushedRun;
+use crate::text::allowed_by;
 use cg_text::{ByteSet, Token};
 use cg_value::{Setting, WriteKind};
 use cg_write::WriteText;
@@ -58,18 +59,6 @@ impl SettingReader {
         push_to(&mut self.text, byte)
     }
 
-    /// Takes bytes of the line from the front of `bytes` at once, and answers how many.
-    fn scan(&mut self, bytes: &[u8]) -> usize
-        ensures within { result ≤ length bytes.now }
-        ensures plain { Lacks 10 (take result bytes.now) }
-        ensures takes { (kind : WriteForm) (taken : List ℕ) → Takes self.old kind taken →
-            Takes self.new kind (taken ++ take result bytes.now) }
-        ensures held { held_of self.new ≤ held_of self.old + result }
-        ensures same_held { result ≡ 0 → held_of self.new ≡ held_of self.old }
-    {
-        self.text.run(bytes)
-    }
-
     /// Takes bytes from the front of `bytes` as `push` would take one after another: until a newline was taken, none is
     /// left, or one is refused or memory is.
     pub fn push_run(&mut self, bytes: &[u8]) -> PushedRun
@@ -80,29 +69,7 @@ impl SettingReader {
         ensures held { held_of self.new ≤ held_of self.old + result.used }
         ensures same_held { result.used ≡ 0 → held_of self.new ≡ held_of self.old }
     {
-        let begun = self.scan(bytes);
-        for used in begun..bytes.len() {
-            let byte = bytes[used];
-            match self.push(byte) {
-                Ok(()) => {}
-                Err(fault) => {
-                    return PushedRun {
-                        used,
-                        fault: Some(fault),
-                    };
-                }
-            }
-            if byte == b'\n' {
-                return PushedRun {
-                    used: used + 1,
-                    fault: None,
-                };
-            }
-        }
-        PushedRun {
-            used: bytes.len(),
-            fault: None,
-        }
+        push_run_to(&mut self.text, bytes)
     }
 
     /// Whether the bytes so far are a whole write. It takes no memory.
@@ -118,14 +85,7 @@ impl SettingReader {
         ensures { (kind : WriteForm) (taken : List ℕ) → Takes self.now kind taken → (byte : ℕ) → HasByte result byte ↔
             Next (KindWrite kind) taken byte }
     {
-        let mut set = ByteSet::new();
-        for number in 0..256u16 {
-            let byte = number as u8;
-            if self.text.allows(byte) {
-                set.insert(byte);
-            }
-        }
-        set
+        allowed_by(&self.text)
     }
 
     /// The sum of the lengths of its vectors, or `u64::MAX` where that is more. It takes no memory.
@@ -140,7 +100,8 @@ impl SettingReader {
     /// The setting of a whole write, or else the reader. It takes no memory.
     pub fn finish(self) -> Result<Setting, SettingCut>
         ensures { (kind : WriteForm) (taken : List ℕ) → Takes self kind taken →
-            MatchResult result (λ s. IsWriteText kind s taken) (λ cut. (cut.reader ≡ self) × (KindWrite kind taken → ⊥)) }
+            MatchResult result (λ s. IsWriteText kind s taken)
+            (λ cut. (cut.reader ≡ self) × (KindWrite kind taken → ⊥)) }
     {
         if self.text.can_end() {
             Ok(self.text.take())

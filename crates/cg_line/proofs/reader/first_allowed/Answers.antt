@@ -1,5 +1,8 @@
 use Rattle.std.proofs.Common.{[]}
+use Rattle.cg_text.specs.Bytes.{HasByte}
+use Rattle.cg_line.specs.RestsLaws.{next_is}
+use Rattle.cg_line.specs.TookLaws.{took_read}
 use Rattle.cg_line.proofs.reader.first_allowed.Goals as goal
 
 pub returns : goal.returns
-returns c = c.allowed.ensures c.args.kind [] c.new.ensures.reads
+returns c = next_is (took_read c.new.result c.args.kind [] c.new.ensures.reads) (HasByte c.allowed_by.result) c.allowed_by.ensures

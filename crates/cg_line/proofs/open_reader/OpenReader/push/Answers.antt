@@ -1,23 +1,17 @@
-use Rattle.std.proofs.Common.{[], ◌∷◌, ◌++◌}
-use Rattle.cg_line.specs.HeldLaws.{holds_more}
-use Rattle.cg_file.specs.HeldLaws.{file_settled}
-use Rattle.cg_file.specs.Kinds.{TextsOf}
-use Rattle.cg_line.specs.RestsLaws.{is_value}
+use Rattle.std.proofs.Common.{[], ◌∷◌, Err, append-nil, inl}
 use Rattle.cg_file.specs.contracts.file_text.FileTextToken.TheImpl.{ghosts}
-use Rattle.cg_line.specs.Took.{is_took, open_held}
-use Rattle.cg_line.specs.TookLaws.{pushed_on, refused_byte}
+use Rattle.cg_text.specs.Texts.{TextOf}
+use Rattle.cg_value.specs.Files.{KindFile}
+use Rattle.cg_line.specs.Rests.{IsAfter}
+use Rattle.cg_line.specs.RestsLaws.{goes_on, leaves_as}
+use Rattle.cg_line.specs.RunsLaws.{byte_piece}
+use Rattle.cg_line.specs.Took.{Took, open_held}
+use Rattle.cg_line.specs.TookLaws.{took_on, took_read}
+use Rattle.cg_line.specs.declared.open_reader.OpenReader.{OpenReader}
 use Rattle.cg_line.proofs.open_reader.OpenReader.push.Goals as goal
 
 pub returns-in-Ok-clause-pushed : goal.returns-in-Ok-clause-pushed
-unfolding open_held
-returns-in-Ok-clause-pushed c kind taken h =
-    let was = is_took c.args.self.now kind taken h in
-    pushed_on c.args.self.now c.push_to.new.token c.after-self.result kind taken c.args.byte c.in-Ok.ensures.pushes c.push_to.ensures.size (c.after-self.ensures taken)
-    (λ now. holds_more kind taken c.args.byte (open_held c.args.self.now)
-    (ghosts.size c.push_to.new.token) was.form c.push_to.ensures.size
-    (λ v t. file_settled c.push_to.new.token v
-    (is_value (TextsOf kind) (ghosts.means c.push_to.new.token) (taken ++ c.args.byte ∷ []) v t now)) was.held)
-    h
+returns-in-Ok-clause-pushed c kind taken h = took_on c.args.self.now _ kind taken (c.args.byte ∷ []) c.in-Ok.ensures.pushed (byte_piece c.args.byte) (λ place. c.is_in_line-self.ensures taken) h
 
 pub returns-in-Ok-clause-held : goal.returns-in-Ok-clause-held
 unfolding open_held
@@ -25,7 +19,10 @@ returns-in-Ok-clause-held c = c.push_to.ensures.size
 
 pub returns-in-Err-clause-pushed : goal.returns-in-Err-clause-pushed
 returns-in-Err-clause-pushed c kind taken h =
-    refused_byte c.args.self.now c.push_to.new.token kind taken c.args.byte c.in-Err.fault c.in-Err.ensures.pushes c.in-Err.ensures.same_size h
+    let old = c.args.self.now in
+    let new : OpenReader = record { text = c.push_to.new.text; in_line = old.in_line } in
+    leaves_as (TextOf (ghosts.means old.text)) (KindFile kind) taken (goes_on (took_read old kind taken h)) (IsAfter ghosts.means ghosts.size old.text new.text) (Took new kind) c.args.byte (Err c.in-Err.fault)
+    (λ after. took_on old new kind taken [] after (inl tt) (λ place. rw append-nil place) h) c.in-Err.ensures.pushed
 
 pub returns-in-Err-clause-held : goal.returns-in-Err-clause-held
 unfolding open_held

@@ -1,29 +1,25 @@
-use Rattle.std.proofs.Common.{◌≡◌, ◌≤◌, ◌+◌, ◌++◌, [], inr, refl, length, take, length-take, arith}
-use Rattle.cg_file.specs.HeldLaws.{file_settled}
-use Rattle.cg_file.specs.Kinds.{TextsOf}
+use Rattle.std.proofs.Common.{◌≡◌, ◌++◌, ◌∷◌, [], inl, inr, ap, sym, ◌∙◌, append-nil, append_assoc, take, arith}
 use Rattle.cg_file.specs.contracts.file_text.FileTextToken.TheImpl.{ghosts}
+use Rattle.cg_line.specs.RestsLaws.{after_front}
 use Rattle.cg_line.specs.Took.{open_held}
-use Rattle.cg_line.specs.RestsLaws.{is_value}
-use Rattle.cg_line.specs.RunsLaws.{ran_line, ran_none}
+use Rattle.cg_line.specs.TookLaws.{took_on}
 use Rattle.cg_line.proofs.open_reader.OpenReader.push_front.Goals as goal
 
 pub returns-then-used-gt0-clause-reads : goal.returns-then-used-gt0-clause-reads
 returns-then-used-gt0-clause-reads c kind taken h =
-    let n = c.take_front-used.result in
-    let run = take n c.args.bytes.now in
-    let new = c.take_front-used.new.self in
-    let front = c.take_front-used.ensures.line c.if-used-gt0.true in
-    let size : ghosts.size new ≤ ghosts.size c.args.self.now.text + length run = omega (arith, c.take_front-used.ensures.size, c.take_front-used.ensures.within, length-take n c.args.bytes.now) in
-    ran_line c.args.self.now new kind taken run (front.0) (front.1) (c.take_front-used.ensures.taken, inr (ghosts.completes new)) size
-    (λ now v t. file_settled new v (is_value (TextsOf kind) (ghosts.means new) (taken ++ run) v t now)) h
+    let bytes = c.args.bytes.now in
+    let front = c.take_front-used in
+    let line = front.ensures.line c.if-used-gt0.true in
+    let after = after_front ghosts.means ghosts.size c.args.self.now.text front.new.self bytes front.result front.ensures.within front.ensures.taken (ghosts.completes front.new.self) front.ensures.size in
+    took_on c.args.self.now _ kind taken (take front.result bytes) after (inr line) (λ place. inr (taken ++ line.0, ap (λ t. taken ++ t) line.1 ∙ sym (append_assoc taken line.0 (10 ∷ [])))) h
 
 pub returns-else-used-gt0-clause-reads : goal.returns-else-used-gt0-clause-reads
 returns-else-used-gt0-clause-reads c kind taken h =
-    let n = c.take_front-used.result in
-    let none : n ≡ 0 = omega (arith, c.if-used-gt0.false) in
-    let empty : take n c.args.bytes.now ≡ [] = rw none refl in
-    let size : ghosts.size c.take_front-used.new.self ≤ ghosts.size c.args.self.now.text = omega (arith, none, c.take_front-used.ensures.size) in
-    ran_none c.args.self.now c.take_front-used.new.self kind taken (take n c.args.bytes.now) (c.take_front-used.ensures.taken, inr (ghosts.completes c.take_front-used.new.self)) empty size h
+    let bytes = c.args.bytes.now in
+    let front = c.take_front-used in
+    let none : front.result ≡ 0 = omega (arith, c.if-used-gt0.false) in
+    let after = after_front ghosts.means ghosts.size c.args.self.now.text front.new.self bytes front.result front.ensures.within front.ensures.taken (ghosts.completes front.new.self) front.ensures.size in
+    took_on c.args.self.now _ kind taken (take front.result bytes) after (inl (rw none tt)) (λ place. rw (none, append-nil taken) place) h
 
 pub returns-then-used-gt0-clause-held : goal.returns-then-used-gt0-clause-held
 unfolding open_held

@@ -1,17 +1,48 @@
-use Rattle.std.proofs.Common.{◌<◌, ◌++◌, length, take, arith}
-use Rattle.cg_line.specs.Took.{Took}
-use Rattle.cg_line.specs.RunsLaws.{plain_more, run_more}
+use Rattle.std.proofs.Common.{◌≡◌, ◌<◌, ◌+◌, ◌-◌, ◌++◌, [], inl, append-nil, length, take, arith}
+use Rattle.cg_file.specs.contracts.file_text.FileTextToken.TheImpl.{ghosts}
+use Rattle.cg_text.specs.Texts.{TextOf}
+use Rattle.cg_value.specs.Files.{KindFile}
+use Rattle.cg_line.specs.Place.{IsPlace}
+use Rattle.cg_line.specs.Rests.{IsAfter}
+use Rattle.cg_line.specs.RestsLaws.{goes_on, leaves_run_as}
+use Rattle.cg_line.specs.RunsLaws.{run_more, run_piece}
+use Rattle.cg_line.specs.Took.{Took, open_held}
+use Rattle.cg_line.specs.TookLaws.{took_on, took_read}
+use Rattle.cg_line.specs.declared.open_reader.OpenReader.{OpenReader}
 use Rattle.cg_line.proofs.open_reader.OpenReader.push_run.Goals as goal
 
-pub loop-used-preserved : goal.loop-used-preserved
-loop-used-preserved c =
-    let i = c.loop-used.used in
+pub returns-then-run-gt0-clause-pushed : goal.returns-then-run-gt0-clause-pushed
+returns-then-run-gt0-clause-pushed c kind taken h =
+    let old = c.args.self.now in
+    let new : OpenReader = record { text = c.push_run_to-run.new.text; in_line = c.is_in_line-self.result } in
     let bytes = c.args.bytes.now in
-    let within : i < length bytes = omega arith in
-    record {
-      within = omega (arith, within);
-      plain = plain_more bytes i within c.if-byte-eq10.false c.loop-used.invariant.plain;
-      reads = λ kind taken h. run_more (Took c.push.new.self kind) taken bytes i within (c.in-Ok.ensures.pushed kind (taken ++ take i bytes) (c.loop-used.invariant.reads kind taken h));
-      held = omega (arith, c.loop-used.invariant.held, c.in-Ok.ensures.held);
-      same = λ e. absurd (omega (arith, e));
-    }
+    let run = c.push_run_to-run.result in
+    let pushed = c.push_run_to-run.ensures.pushed in
+    let i = run.used - 1 in
+    let last : i + 1 ≡ run.used = omega (arith, c.if-run-gt0.true) in
+    let within : i < length bytes = omega (arith, c.if-run-gt0.true, c.push_run_to-run.ensures.within) in
+    let place = rw last at (run_more (IsPlace new.in_line) taken bytes i within (c.is_in_line-self.ensures (taken ++ take i bytes))) in
+    leaves_run_as (TextOf (ghosts.means old.text)) (KindFile kind) taken (goes_on (took_read old kind taken h)) (IsAfter ghosts.means ghosts.size old.text new.text) (Took new kind) bytes run
+    (λ after. took_on old new kind taken (take run.used bytes) after (run_piece (TextOf (ghosts.means old.text)) [] bytes run.used run.fault pushed.stops) (λ was. place) h) pushed
+
+pub returns-else-run-gt0-clause-pushed : goal.returns-else-run-gt0-clause-pushed
+returns-else-run-gt0-clause-pushed c kind taken h =
+    let old = c.args.self.now in
+    let new : OpenReader = record { text = c.push_run_to-run.new.text; in_line = old.in_line } in
+    let bytes = c.args.bytes.now in
+    let run = c.push_run_to-run.result in
+    let none : run.used ≡ 0 = omega (arith, c.if-run-gt0.false) in
+    leaves_run_as (TextOf (ghosts.means old.text)) (KindFile kind) taken (goes_on (took_read old kind taken h)) (IsAfter ghosts.means ghosts.size old.text new.text) (Took new kind) bytes run
+    (λ after. took_on old new kind taken (take run.used bytes) after (inl (rw none tt)) (λ was. rw (none, append-nil taken) was) h) c.push_run_to-run.ensures.pushed
+
+pub returns-then-run-gt0-clause-held : goal.returns-then-run-gt0-clause-held
+unfolding open_held
+returns-then-run-gt0-clause-held c = c.push_run_to-run.ensures.size
+
+pub returns-else-run-gt0-clause-held : goal.returns-else-run-gt0-clause-held
+unfolding open_held
+returns-else-run-gt0-clause-held c = c.push_run_to-run.ensures.size
+
+pub returns-else-run-gt0-clause-same_held : goal.returns-else-run-gt0-clause-same_held
+unfolding open_held
+returns-else-run-gt0-clause-same_held c = c.push_run_to-run.ensures.same_size

@@ -1,20 +1,7 @@
-use Rattle.std.proofs.Common.{◌≡◌, ◌≤◌, true, arith}
-use Rattle.cg_value.specs.Settings.{KindWrite}
-use Rattle.cg_line.specs.AllowedLaws.{allowed_more, allowed_same, allowed_all}
-use Rattle.cg_line.specs.TakesLaws.{next_write, write_bytes}
+use Rattle.cg_text.specs.Bytes.{HasByte}
+use Rattle.cg_line.specs.RestsLaws.{next_is}
+use Rattle.cg_line.specs.Takes.{is_takes}
 use Rattle.cg_line.proofs.setting_reader.SettingReader.allowed.Goals as goal
-use Rattle.cg_line.proofs.setting_reader.SettingReader.allowed.Goals.{then-allows, else-allows}
-
-pub loop-number-preserved : goal.loop-number-preserved
-loop-number-preserved c kind taken h =
-    let number = c.loop-number.number in
-    let before = c.loop-number.invariant kind taken h in
-    let next = next_write c.args.self.now kind taken h number in
-    elim c.if-allows.branch [
-      | then-allows w ↦ rw w.set-is (allowed_more (KindWrite kind) taken c.loop-number.set w.insert.new.self number before w.insert.ensures.added (next.0 (c.allows.ensures.0 w.if-allows.true)))
-      | else-allows w ↦ rw w.set-is (allowed_same (KindWrite kind) taken c.loop-number.set number before
-          (λ goes. (let allowed : c.allows.result ≡ true = c.allows.ensures.1 (next.1 goes) in let refused = w.if-allows.false in cc)))
-    ]
 
 pub returns : goal.returns
-returns c kind taken h = let done : 256 ≤ c.loop-number.number = omega arith in allowed_all (KindWrite kind) taken (write_bytes kind) c.loop-number.set c.loop-number.number done (c.loop-number.invariant kind taken h)
+returns c kind taken h = next_is (is_takes c.args.self.now kind taken h) (HasByte c.allowed_by.result) c.allowed_by.ensures

@@ -1,15 +1,14 @@
+use Rattle.std.proofs.Common.{refl}
 use Rattle.cg_write.specs.contracts.write_text.WriteTextToken.TheImpl.{ghosts}
-use Rattle.std.proofs.Common.{◌≡◌, true, refl, ◌∙◌}
-use Rattle.cg_line.specs.TakesLaws.{whole_write, whole_setting}
+use Rattle.cg_line.specs.RestsLaws.{value_is, whole_is}
+use Rattle.cg_line.specs.Takes.{is_takes}
 use Rattle.cg_line.proofs.setting_reader.SettingReader.finish.Goals as goal
 
 pub returns-then-can_end : goal.returns-then-can_end
-returns-then-can_end c kind taken h = whole_setting c.args.self kind taken h c.take.result c.take.ensures.value
+returns-then-can_end c kind taken h = (value_is (is_takes c.args.self kind taken h) c.take.result).0 c.take.ensures.value
 
 pub returns-else-can_end : goal.returns-else-can_end
-returns-else-can_end c kind taken h = (
-  refl,
-  λ write. (
-      let whole : c.can_end.result ≡ true = c.can_end.ensures ∙ (ghosts.ends_is c.args.self.text).1 ((whole_write c.args.self kind taken h).1 write) in
-      let differs = c.if-can_end.false in cc),
-)
+returns-else-can_end c kind taken h =
+    let text = c.args.self.text in
+    let whole = whole_is (is_takes c.args.self kind taken h) (ghosts.ends text) c.can_end.result (ghosts.ends_is text) c.can_end.ensures in
+    (refl, λ write. (let ends = whole.1 write in let not = c.if-can_end.false in cc))

@@ -1,17 +1,19 @@
-use Rattle.std.proofs.Common.{◌<◌, ◌++◌, length, take, arith}
-use Rattle.cg_line.specs.RunsLaws.{plain_more, run_more}
-use Rattle.cg_line.specs.Takes.{Takes}
+use Rattle.cg_write.specs.contracts.write_text.WriteTextToken.TheImpl.{ghosts}
+use Rattle.cg_line.specs.RestsLaws.{read_run}
+use Rattle.cg_line.specs.Takes.{Takes, held_of, is_takes}
 use Rattle.cg_line.proofs.setting_reader.SettingReader.push_run.Goals as goal
 
-pub loop-used-preserved : goal.loop-used-preserved
-loop-used-preserved c =
-    let i = c.loop-used.used in
-    let bytes = c.args.bytes.now in
-    let within : i < length bytes = omega arith in
-    record {
-      within = omega (arith, within);
-      plain = plain_more bytes i within c.if-byte-eq10.false c.loop-used.invariant.plain;
-      takes = λ kind taken h. run_more (Takes c.push.new.self kind) taken bytes i within (c.in-Ok.ensures.pushed kind (taken ++ take i bytes) (c.loop-used.invariant.takes kind taken h));
-      held = omega (arith, c.loop-used.invariant.held, c.in-Ok.ensures.held);
-      same = λ e. absurd (omega (arith, e));
-    }
+pub returns-clause-pushed : goal.returns-clause-pushed
+unfolding Takes
+returns-clause-pushed c kind taken h =
+    let new = c.push_run_to.new.text in
+    let run = read_run (is_takes c.args.self.now kind taken h) (ghosts.means new) (ghosts.size new) c.args.bytes.now c.push_run_to.result c.push_run_to.ensures.pushed in
+    record { takes = run.reads; stops = run.stops }
+
+pub returns-clause-held : goal.returns-clause-held
+unfolding held_of
+returns-clause-held c = c.push_run_to.ensures.size
+
+pub returns-clause-same_held : goal.returns-clause-same_held
+unfolding held_of
+returns-clause-same_held c = c.push_run_to.ensures.same_size

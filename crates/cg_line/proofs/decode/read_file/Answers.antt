@@ -1,0 +1,7 @@
+use Rattle.cg_file.specs.Kinds.{TextsOf}
+use Rattle.cg_file.specs.contracts.file_text.FileTextToken.TheImpl.{ghosts}
+use Rattle.cg_line.specs.DecodeLaws.{read_as}
+use Rattle.cg_line.proofs.decode.read_file.Goals as goal
+
+pub returns : goal.returns
+returns c = read_as (ghosts.means c.new.result) (TextsOf c.args.kind) c.new.ensures.spells.is c.args.bytes.now c.read_all.result c.read_all.ensures
