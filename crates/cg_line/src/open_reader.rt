@@ -1,4 +1,6 @@
 //! A reader of one file of which bytes were taken.
+#![tactic(auto, unfolding(crate::specs::Took::open_held))]
+
 ghost use Rattle.std.specs.Prelude.{◌≡◌, ◌≤◌, ◌<◌, ◌+◌, ◌↔◌, ℕ, List, [], ◌∷◌, ◌++◌, length, take, IsTrue, IfNone, OnErr};
 ghost use Rattle.cg_file.specs.Front.{IsLineFront};
 ghost use Rattle.cg_value.specs.Files.{KindFile};

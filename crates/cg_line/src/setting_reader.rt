@@ -1,4 +1,6 @@
 //! Readers of one write.
+#![tactic(auto, unfolding(crate::specs::Takes::held_of))]
+
 ghost use Rattle.std.specs.Prelude.{◌≡◌, ◌≤◌, ◌<◌, ◌+◌, ◌↔◌, ℕ, List, [], length, MatchResult, IsTrue, IfNone, OnErr};
 ghost use Rattle.cg_text.specs.Bytes.{HasByte};
 ghost use Rattle.cg_text.specs.Texts.{Next};

@@ -3,7 +3,7 @@ use Rattle.cg_file.specs.Kinds.{TextsOf}
 use Rattle.cg_file.specs.contracts.file_text.FileTextToken.TheImpl.{ghosts}
 use Rattle.cg_line.specs.HeldLaws.{holds_none}
 use Rattle.cg_line.specs.RestsLaws.{new_read}
-use Rattle.cg_line.specs.Took.{open_held, took_is}
+use Rattle.cg_line.specs.Took.{took_is}
 use Rattle.cg_line.proofs.open_reader.OpenReader.new.Goals as goal
 
 pub returns-clause-reads : goal.returns-clause-reads
@@ -13,7 +13,3 @@ returns-clause-reads c = took_is _ _ _ (record {
   place = inl refl;
   little = holds_none _ _ c.new.ensures.size;
 })
-
-pub returns-clause-held : goal.returns-clause-held
-unfolding open_held
-returns-clause-held c = c.new.ensures.size

@@ -1,7 +1,6 @@
 use Rattle.std.proofs.Common.{◌≡◌, ◌++◌, ◌∷◌, [], inl, inr, ap, sym, ◌∙◌, append-nil, append_assoc, take, arith}
 use Rattle.cg_file.specs.contracts.file_text.FileTextToken.TheImpl.{ghosts}
 use Rattle.cg_line.specs.RestsLaws.{after_front}
-use Rattle.cg_line.specs.Took.{open_held}
 use Rattle.cg_line.specs.TookLaws.{took_on}
 use Rattle.cg_line.proofs.open_reader.OpenReader.push_front.Goals as goal
 
@@ -20,19 +19,3 @@ returns-else-used-gt0-clause-reads c kind taken h =
     let none : front.result ≡ 0 = omega (arith, c.if-used-gt0.false) in
     let after = after_front ghosts.means ghosts.size c.args.self.now.text front.new.self bytes front.result front.ensures.within front.ensures.taken (ghosts.completes front.new.self) front.ensures.size in
     took_on c.args.self.now _ kind taken (take front.result bytes) after (inl (rw none tt)) (λ place. rw (none, append-nil taken) place) h
-
-pub returns-then-used-gt0-clause-held : goal.returns-then-used-gt0-clause-held
-unfolding open_held
-returns-then-used-gt0-clause-held c = c.take_front-used.ensures.size
-
-pub returns-else-used-gt0-clause-held : goal.returns-else-used-gt0-clause-held
-unfolding open_held
-returns-else-used-gt0-clause-held c = c.take_front-used.ensures.size
-
-pub returns-then-used-gt0-clause-same_held : goal.returns-then-used-gt0-clause-same_held
-unfolding open_held
-returns-then-used-gt0-clause-same_held c = c.take_front-used.ensures.same_size
-
-pub returns-else-used-gt0-clause-same_held : goal.returns-else-used-gt0-clause-same_held
-unfolding open_held
-returns-else-used-gt0-clause-same_held c = c.take_front-used.ensures.same_size

@@ -6,7 +6,7 @@ use Rattle.cg_line.specs.Place.{IsPlace}
 use Rattle.cg_line.specs.Rests.{IsAfter}
 use Rattle.cg_line.specs.RestsLaws.{goes_on, leaves_run_as}
 use Rattle.cg_line.specs.RunsLaws.{run_more, run_piece}
-use Rattle.cg_line.specs.Took.{Took, open_held}
+use Rattle.cg_line.specs.Took.{Took}
 use Rattle.cg_line.specs.TookLaws.{took_on, took_read}
 use Rattle.cg_line.specs.declared.open_reader.OpenReader.{OpenReader}
 use Rattle.cg_line.proofs.open_reader.OpenReader.push_run.Goals as goal
@@ -34,15 +34,3 @@ returns-else-run-gt0-clause-pushed c kind taken h =
     let none : run.used ≡ 0 = omega (arith, c.if-run-gt0.false) in
     leaves_run_as (TextOf (ghosts.means old.text)) (KindFile kind) taken (goes_on (took_read old kind taken h)) (IsAfter ghosts.means ghosts.size old.text new.text) (Took new kind) bytes run
     (λ after. took_on old new kind taken (take run.used bytes) after (inl (rw none tt)) (λ was. rw (none, append-nil taken) was) h) c.push_run_to-run.ensures.pushed
-
-pub returns-then-run-gt0-clause-held : goal.returns-then-run-gt0-clause-held
-unfolding open_held
-returns-then-run-gt0-clause-held c = c.push_run_to-run.ensures.size
-
-pub returns-else-run-gt0-clause-held : goal.returns-else-run-gt0-clause-held
-unfolding open_held
-returns-else-run-gt0-clause-held c = c.push_run_to-run.ensures.size
-
-pub returns-else-run-gt0-clause-same_held : goal.returns-else-run-gt0-clause-same_held
-unfolding open_held
-returns-else-run-gt0-clause-same_held c = c.push_run_to-run.ensures.same_size

@@ -1,10 +1,5 @@
 use Rattle.cg_line.specs.ReaderHeldLaws.{takes_few}
-use Rattle.cg_line.specs.Takes.{held_of}
 use Rattle.cg_line.proofs.setting_reader.SettingReader.held.Goals as goal
-
-pub returns-clause-exact : goal.returns-clause-exact
-unfolding held_of
-returns-clause-exact c = c.held.ensures
 
 pub returns-clause-most : goal.returns-clause-most
 returns-clause-most c kind taken h = takes_few c.args.self.now kind taken h

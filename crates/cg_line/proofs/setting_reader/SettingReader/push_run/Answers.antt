@@ -1,6 +1,6 @@
 use Rattle.cg_write.specs.contracts.write_text.WriteTextToken.TheImpl.{ghosts}
 use Rattle.cg_line.specs.RestsLaws.{read_run}
-use Rattle.cg_line.specs.Takes.{Takes, held_of, is_takes}
+use Rattle.cg_line.specs.Takes.{Takes, is_takes}
 use Rattle.cg_line.proofs.setting_reader.SettingReader.push_run.Goals as goal
 
 pub returns-clause-pushed : goal.returns-clause-pushed
@@ -9,11 +9,3 @@ returns-clause-pushed c kind taken h =
     let new = c.push_run_to.new.text in
     let run = read_run (is_takes c.args.self.now kind taken h) (ghosts.means new) (ghosts.size new) c.args.bytes.now c.push_run_to.result c.push_run_to.ensures.pushed in
     record { takes = run.reads; stops = run.stops }
-
-pub returns-clause-held : goal.returns-clause-held
-unfolding held_of
-returns-clause-held c = c.push_run_to.ensures.size
-
-pub returns-clause-same_held : goal.returns-clause-same_held
-unfolding held_of
-returns-clause-same_held c = c.push_run_to.ensures.same_size
