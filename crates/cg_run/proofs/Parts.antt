@@ -27,7 +27,7 @@ module _ (part : EntryData → List ℕ) (d : SnapshotDecoder) (profile : Profil
   Whole = PartsOf part (λ bytes fs. SnapText profile fs bytes)
 
   pub snap_text : (fs gs : List EntryData) → fs ≡ gs → SnapText (profile_of d) fs p → SnapText profile gs p
-  snap_text fs gs e x = subst (λ (q : Profile). SnapText q gs p) t.profile_is (subst (λ (ks : List EntryData). SnapText (profile_of d) ks p) e x)
+  snap_text fs gs e x = subst (λ (q : Profile). SnapText q gs p) t.form_is (subst (λ (ks : List EntryData). SnapText (profile_of d) ks p) e x)
 
   pub ended_none : (last : Option EntryData) → last ≡ None → SnapText (profile_of d) (es ++ option_to_list last) p → (old : List ℕ) → EndIs Whole p parts old old (Ok tt)
   ended_none last e x old = (
@@ -52,4 +52,4 @@ module _ (part : EntryData → List ℕ) (d : SnapshotDecoder) (profile : Profil
   ended_cut (stops.TooLong at) f old = absurd f
   ended_cut (stops.TooMany at) f old = absurd f
   ended_cut (stops.TooMuch at) f old = absurd f
-  ended_cut (stops.Cut at) f old = ((f.0, λ all x. f.1 (subst (λ (q : Profile). Snap q p) (sym t.profile_is) (x.0, x.1))), refl)
+  ended_cut (stops.Cut at) f old = ((f.0, λ all x. f.1 (subst (λ (q : Profile). Snap q p) (sym t.form_is) (x.0, x.1))), refl)

@@ -21,7 +21,7 @@ module _ (d : PlanDecoder) (profile : Profile) (limits : Limits) (p : List ℕ) 
   pub plan_whole : PlanText (plan_profile_of d) items p → (old : List ℕ) → EndIs Whole p parts old old (Ok tt)
   plan_whole x old = (
     None,
-    subst (Whole p) (sym (append-nil parts)) (items, subst (λ (q : Profile). PlanText q items p) h.profile_is x, parts_are),
+    subst (Whole p) (sym (append-nil parts)) (items, subst (λ (q : Profile). PlanText q items p) h.form_is x, parts_are),
     sym (append-nil old),
   )
 
@@ -30,4 +30,4 @@ module _ (d : PlanDecoder) (profile : Profile) (limits : Limits) (p : List ℕ) 
   plan_cut (stops.TooLong at) f old = absurd f
   plan_cut (stops.TooMany at) f old = absurd f
   plan_cut (stops.TooMuch at) f old = absurd f
-  plan_cut (stops.Cut at) f old = ((f.0, λ all x. f.1 (subst (λ (q : Profile). Plan q p) (sym h.profile_is) (x.0, x.1))), refl)
+  plan_cut (stops.Cut at) f old = ((f.0, λ all x. f.1 (subst (λ (q : Profile). Plan q p) (sym h.form_is) (x.0, x.1))), refl)

@@ -25,10 +25,10 @@ module _ {E : Type 0} (Taken Closed : List ℕ → List E → Type 0) (Unstopped
 module _ {R Part : Type 0} {stream : Profile → Stream R Part} {profile_of : R → Profile} (was now : Decoder R) (profile : Profile) (limits : Limits) (p : List ℕ) (es : List Part) (piece : List ℕ) (used : ℕ)
     (h : HasPulled stream profile_of was profile limits p es) (same_profile : profile_of now.records ≡ profile_of was.records) (same_limits : now.meter.limits ≡ was.meter.limits) where
   taken : (q : List ℕ) (fs : List Part) → now.stop ≡ None → StandsFor (stream (profile_of now.records)) now q fs → HasPulled stream profile_of now profile limits q fs
-  taken q fs n s = record { stands = s; stop = n; profile_is = same_profile ∙ h.profile_is; limits_is = same_limits ∙ h.limits_is }
+  taken q fs n s = record { stands = s; stop = n; form_is = same_profile ∙ h.form_is; limits_is = same_limits ∙ h.limits_is }
 
   of_form : (P : Profile → Limits → Type 0) → P (profile_of now.records) now.meter.limits → P profile limits
-  of_form P x = subst (λ (l : Limits). P profile l) (same_limits ∙ h.limits_is) (subst (λ (q : Profile). P q now.meter.limits) (same_profile ∙ h.profile_is) x)
+  of_form P x = subst (λ (l : Limits). P profile l) (same_limits ∙ h.limits_is) (subst (λ (q : Profile). P q now.meter.limits) (same_profile ∙ h.form_is) x)
 
   abbrev IsUnstopped : Profile → Limits → List ℕ → Type 0
   IsUnstopped q l = IsStreamUnstopped (stream q).language (stream q).breaks (stream q).many l

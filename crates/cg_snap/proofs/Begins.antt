@@ -34,7 +34,7 @@ begun_newline p b e = record { front = p ++ b ∷ []; split = sym (append-nil (p
 -- ---- Long records
 
 -- The byte after p ends a record of which so much was begun.
-long_is : (p r : List ℕ) (b max place : ℕ) → IsBegun p r → IsLongRecord max (p ++ b ∷ []) place → max ≤ length r
+pub long_is : (p r : List ℕ) (b max place : ℕ) → IsBegun p r → IsLongRecord max (p ++ b ∷ []) place → max ≤ length r
 long_is p r b max place h l =
     let s = push_one p l.2.front b l.1 l.2.whole in
     let same : r ≡ l.0 = begun_once p r l.0 h (subst (λ (t : List ℕ). IsBegun t l.0) (sym s.0) l.2.begins) in

@@ -16,7 +16,7 @@ use Rattle.cg_snap.specs.declared.present.Present.{Present}
 use Rattle.cg_snap.proofs.Refusals.{line_start, records_start}
 use Rattle.cg_snap.proofs.Steps.{bytes_no_newline, bytes_no_nul, other_path}
 
-records_end : (q g : List ℕ) (ls : List (List ℕ)) → IsRecordEnd g → IsRecordEnd (g ++ records q ls)
+pub records_end : (q g : List ℕ) (ls : List (List ℕ)) → IsRecordEnd g → IsRecordEnd (g ++ records q ls)
 records_end q g [] h = rw append-nil h
 records_end q g (l ∷ ls) h =
     let r = records_end q (g ++ (q ++ 0 ∷ (l ++ 10 ∷ []))) ls (inr (g ++ (q ++ 0 ∷ l), simp append_assoc)) in
@@ -32,7 +32,7 @@ pub start_begun : (begun p : List ℕ) (es : List EntryData) → AtStart begun p
 start_begun begun p es h = record { front = []; split = h.bytes; ended = inl refl; plain = bytes_no_newline begun h.begun_path }
 
 module _ (profile : Profile) where
-  snap_end : (es : List EntryData) (g s : List ℕ) → IsRecordEnd g → SnapText profile es s → IsRecordEnd (g ++ s)
+  pub snap_end : (es : List EntryData) (g s : List ℕ) → IsRecordEnd g → SnapText profile es s → IsRecordEnd (g ++ s)
   snap_end [] g s h t = rw (t, append-nil) h
   snap_end (e ∷ es) g s h t = subst IsRecordEnd (end_text g (records e.path t.0) t.1 s t.4) (snap_end es (g ++ records e.path t.0) t.1 (records_end e.path g t.0 h) t.5)
 

@@ -36,7 +36,7 @@ head_is path rest piece n e m =
 all_rest : (x : ℕ) (xs : List ℕ) → All IsPathByte (x ∷ xs) → All IsPathByte xs
 all_rest x xs h = λ k d l. h (suc k) d (omega (arith, l))
 
-path_bytes : (path : List ℕ) → All IsPathByte path → ArePathBytes path
+pub path_bytes : (path : List ℕ) → All IsPathByte path → ArePathBytes path
 path_bytes [] h = tt
 path_bytes (x ∷ xs) h = (h 0 0 (omega arith), path_bytes xs (all_rest x xs h))
 

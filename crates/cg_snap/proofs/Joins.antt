@@ -81,7 +81,7 @@ module _ (profile : Profile) where
   push_at es s q e ls p h g j = subst (λ (t : List ℕ). SnapText profile (es ++ e ∷ []) (s ++ records t ls)) p (snap_push es s e ls h g (subst (EndsOther es) (sym p) j))
 
   -- After whole entries and a path that differs from the last, each reading has these entries first.
-  strip : (es fs : List EntryData) (s u q y : List ℕ) → IsPath q → SnapText profile es s → EndsOther es q → u ≡ q ++ 0 ∷ y → SnapText profile fs (s ++ u) → (gs : List EntryData) × (fs ≡ es ++ gs) × SnapText profile gs u
+  pub strip : (es fs : List EntryData) (s u q y : List ℕ) → IsPath q → SnapText profile es s → EndsOther es q → u ≡ q ++ 0 ∷ y → SnapText profile fs (s ++ u) → (gs : List EntryData) × (fs ≡ es ++ gs) × SnapText profile gs u
   strip [] fs s u q y p h o v g = (fs, refl, rw h at g)
   strip (e ∷ es) [] s u q y p h o v g =
       let r = entry_starts e.path h.0 (h.1 ++ u) h.2.some in

@@ -25,3 +25,17 @@ pub mod PlanFronts
 pub mod Piecewise
 pub mod Headline
 pub mod OneStops
+pub mod GoingOnLines
+pub mod GoingOnFaults
+pub mod GoingOnStates
+pub mod GoingOnGiven
+pub mod GoingOnMoves
+pub mod GoingOnLeft
+pub mod GoingOnTakes
+pub mod GoingOnEnds
+pub mod GoingOnLawsBlocks
+pub mod GoingOnLawsCarry
+pub mod GoingOnLawsCloses
+pub mod GoingOnLawsKept
+pub mod GoingOnLawsTold
+pub mod GoingOnLawsFaults

@@ -95,20 +95,20 @@ unstopped_came stream d p es piece used (events.Given e) n never h = (n, h.0, h.
 unstopped_came stream d p es piece used (events.Stopped stop) n never h = absurd (never stop refl)
 unstopped_came stream d p es piece used events.OutOfMemory n never h = (n, h.0, h.1, h.2)
 
-module _ {R Part : Type 0} (stream : Profile → Stream R Part) (profile_of : R → Profile) (profile : Profile) (limits : Limits) where
+module _ {R Form Part : Type 0} (stream : Form → Stream R Part) (form_of : R → Form) (form : Form) (limits : Limits) where
   abbrev Pulled : Decoder R → List ℕ → List Part → Type 0
-  Pulled d p es = HasPulled stream profile_of d profile limits p es
+  Pulled d p es = HasPulled stream form_of d form limits p es
 
-  of_form : (d : Decoder R) (P : Profile → Limits → Type 0) → profile_of d.records ≡ profile → d.meter.limits ≡ limits → P (profile_of d.records) d.meter.limits → P profile limits
-  of_form d P e f x = subst (λ (l : Limits). P profile l) f (subst (λ (q : Profile). P q d.meter.limits) e x)
+  of_form_and_limits : (d : Decoder R) (P : Form → Limits → Type 0) → form_of d.records ≡ form → d.meter.limits ≡ limits → P (form_of d.records) d.meter.limits → P form limits
+  of_form_and_limits d P e f x = subst (λ (l : Limits). P form l) f (subst (λ (q : Form). P q d.meter.limits) e x)
 
-  pub unstopped_of : (d : Decoder R) (p : List ℕ) (es : List Part) → Pulled d p es → Unstopped (stream profile) limits p
-  unstopped_of d p es h = of_form d (λ q l. Unstopped (stream q) l p) h.profile_is h.limits_is h.stands.unstopped
+  pub unstopped_of : (d : Decoder R) (p : List ℕ) (es : List Part) → Pulled d p es → Unstopped (stream form) limits p
+  unstopped_of d p es h = of_form_and_limits d (λ q l. Unstopped (stream q) l p) h.form_is h.limits_is h.stands.unstopped
 
   -- Before any piece.
-  pub begun_with : (d : Decoder R) (es : List Part) → es ≡ [] → StandsFor (stream profile) d [] [] → d.stop ≡ None → profile_of d.records ≡ profile → d.meter.limits ≡ limits → Pulled d [] es
+  pub begun_with : (d : Decoder R) (es : List Part) → es ≡ [] → StandsFor (stream form) d [] [] → d.stop ≡ None → form_of d.records ≡ form → d.meter.limits ≡ limits → Pulled d [] es
   begun_with d es none s n e f =
-      subst (λ (fs : List Part). Pulled d [] fs) (sym none) (record { stands = subst (λ (q : Profile). StandsFor (stream q) d [] []) (sym e) s; stop = n; profile_is = e; limits_is = f })
+      subst (λ (fs : List Part). Pulled d [] fs) (sym none) (record { stands = subst (λ (q : Form). StandsFor (stream q) d [] []) (sym e) s; stop = n; form_is = e; limits_is = f })
 
   -- The same bytes in other words.
   pub taken_of : (d : Decoder R) (p q : List ℕ) (es : List Part) → p ≡ q → Pulled d p es → Pulled d q es
@@ -116,43 +116,43 @@ module _ {R Part : Type 0} (stream : Profile → Stream R Part) (profile_of : R 
 
   -- A call of next with the rest of a piece.
   module _ (was now : Decoder R) (p piece rest : List ℕ) (es : List Part) (at used : ℕ) (h : Pulled was (p ++ take at piece) es) (back : rest ≡ drop at piece)
-      (same_profile : profile_of now.records ≡ profile_of was.records) (same_limits : now.meter.limits ≡ was.meter.limits) where
+      (same_form : form_of now.records ≡ form_of was.records) (same_limits : now.meter.limits ≡ was.meter.limits) where
     -- What it did.
     abbrev pub PieceIs : Event Part → Type 0
     PieceIs events.NeedMore = (used ≡ length rest) × Pulled now (p ++ take (at + used) piece) es
     PieceIs (events.Given e) = (0 < used) × Pulled now (p ++ take (at + used) piece) (es ++ e ∷ [])
-    PieceIs (events.Stopped stop) = EndsStream (stream profile) limits (p ++ piece) (Stopped stop)
-    PieceIs events.OutOfMemory = EndsStream (stream profile) limits (p ++ piece) OutOfMemory
+    PieceIs (events.Stopped stop) = EndsStream (stream form) limits (p ++ piece) (Stopped stop)
+    PieceIs events.OutOfMemory = EndsStream (stream form) limits (p ++ piece) OutOfMemory
 
-    taken_now : (fs : List Part) → now.stop ≡ None → StandsFor (stream (profile_of now.records)) now ((p ++ take at piece) ++ take used rest) fs → Pulled now (p ++ take (at + used) piece) fs
+    taken_now : (fs : List Part) → now.stop ≡ None → StandsFor (stream (form_of now.records)) now ((p ++ take at piece) ++ take used rest) fs → Pulled now (p ++ take (at + used) piece) fs
     taken_now fs n s = taken_of now ((p ++ take at piece) ++ take used rest) (p ++ take (at + used) piece) fs (text_on p piece rest at used back)
-        (record { stands = s; stop = n; profile_is = same_profile ∙ h.profile_is; limits_is = same_limits ∙ h.limits_is })
+        (record { stands = s; stop = n; form_is = same_form ∙ h.form_is; limits_is = same_limits ∙ h.limits_is })
 
-    here : (P : Profile → Limits → Type 0) → P (profile_of now.records) now.meter.limits → P profile limits
-    here P x = of_form now P (same_profile ∙ h.profile_is) (same_limits ∙ h.limits_is) x
+    here : (P : Form → Limits → Type 0) → P (form_of now.records) now.meter.limits → P form limits
+    here P x = of_form_and_limits now P (same_form ∙ h.form_is) (same_limits ∙ h.limits_is) x
 
-    came : (what : Event Part) → WhatCame (stream (profile_of now.records)) now (p ++ take at piece) es rest used what → PieceIs what
+    came : (what : Event Part) → WhatCame (stream (form_of now.records)) now (p ++ take at piece) es rest used what → PieceIs what
     came events.NeedMore w = (w.1, taken_now es w.0 w.2)
     came (events.Given e) w = (w.1, taken_now (es ++ e ∷ []) w.0 w.3)
     came (events.Stopped stop) w = λ more.
-        stopped_in (stream profile) limits (p ++ piece) more stop
-        (subst (λ (t : List ℕ). StopsSo (stream profile) limits t stop) (rest_on p piece rest at back) (here (λ q l. StopsSo (stream q) l ((p ++ take at piece) ++ rest) stop) w.2))
+        stopped_in (stream form) limits (p ++ piece) more stop
+        (subst (λ (t : List ℕ). StopsSo (stream form) limits t stop) (rest_on p piece rest at back) (here (λ q l. StopsSo (stream q) l ((p ++ take at piece) ++ rest) stop) w.2))
     came events.OutOfMemory w = λ more.
-        starved_in (stream profile) limits p piece more (at + (used + 1)) (omega arith) (omega (arith, w.1, left piece rest at back))
-        (subst (λ (t : List ℕ). Unstopped (stream profile) limits t) (text_on p piece rest at (used + 1) back) (here (λ q l. Unstopped (stream q) l ((p ++ take at piece) ++ take (used + 1) rest)) w.2))
+        starved_in (stream form) limits p piece more (at + (used + 1)) (omega arith) (omega (arith, w.1, left piece rest at back))
+        (subst (λ (t : List ℕ). Unstopped (stream form) limits t) (text_on p piece rest at (used + 1) back) (here (λ q l. Unstopped (stream q) l ((p ++ take at piece) ++ take (used + 1) rest)) w.2))
 
     pub piece_is : (what : Event Part) →
-        ((q : List ℕ) (fs : List Part) → was.stop ≡ None → StandsFor (stream (profile_of was.records)) was q fs → WhatCame (stream (profile_of now.records)) now q fs rest used what) → PieceIs what
+        ((q : List ℕ) (fs : List Part) → was.stop ≡ None → StandsFor (stream (form_of was.records)) was q fs → WhatCame (stream (form_of now.records)) now q fs rest used what) → PieceIs what
     piece_is what next = came what (next (p ++ take at piece) es h.stop h.stands)
 
   -- Memory was refused for a part that was given.
-  pub none_left : (d : Decoder R) (p piece : List ℕ) (m : ℕ) (es : List Part) → 0 < m → 0 < length piece → Pulled d (p ++ take m piece) es → EndsStream (stream profile) limits (p ++ piece) OutOfMemory
-  none_left d p piece m es some long h more = starved_in (stream profile) limits p piece more m some long (unstopped_of d (p ++ take m piece) es h)
+  pub none_left : (d : Decoder R) (p piece : List ℕ) (m : ℕ) (es : List Part) → 0 < m → 0 < length piece → Pulled d (p ++ take m piece) es → EndsStream (stream form) limits (p ++ piece) OutOfMemory
+  none_left d p piece m es some long h more = starved_in (stream form) limits p piece more m some long (unstopped_of d (p ++ take m piece) es h)
 
   -- The piece that comes next ended the stream.
-  pub ended_in : (pieces : List (Bor (List ℕ))) (i : ℕ) (d : Bor (List ℕ)) (fault : StreamFault) → i < length pieces → EndsStream (stream profile) limits (joined (take i pieces) ++ (get_or pieces i d).now) fault →
-      Faults (stream profile) limits (joined pieces) fault
-  ended_in pieces i d fault lt h = subst (λ (t : List ℕ). Faults (stream profile) limits t fault) (joined_on pieces i d lt) (h (joined (drop (i + 1) pieces)))
+  pub ended_in : (pieces : List (Bor (List ℕ))) (i : ℕ) (d : Bor (List ℕ)) (fault : StreamFault) → i < length pieces → EndsStream (stream form) limits (joined (take i pieces) ++ (get_or pieces i d).now) fault →
+      Faults (stream form) limits (joined pieces) fault
+  ended_in pieces i d fault lt h = subst (λ (t : List ℕ). Faults (stream form) limits t fault) (joined_on pieces i d lt) (h (joined (drop (i + 1) pieces)))
 
 -- ---- The end of a snapshot
 
@@ -161,14 +161,14 @@ module _ (profile : Profile) (limits : Limits) (d : SnapshotDecoder) (bytes : Li
   taken_unstopped = unstopped_of snap_stream (λ s. s.profile) profile limits d bytes es h
 
   pub end_ok : (last : Option EntryData) → FinishIs (profile_of d) bytes es (Ok last) → IsDecoded profile limits bytes (es ++ option_to_list last)
-  end_ok last f = record { whole = subst (λ (q : Profile). SnapText q (es ++ option_to_list last) bytes) h.profile_is f; unstopped = taken_unstopped }
+  end_ok last f = record { whole = subst (λ (q : Profile). SnapText q (es ++ option_to_list last) bytes) h.form_is f; unstopped = taken_unstopped }
 
   pub end_err : (stop : Stop) → FinishIs (profile_of d) bytes es (Err stop) → IsSnapFault profile limits bytes (Stopped stop)
   end_err (stops.Refused at why) f = absurd f
   end_err (stops.TooLong at) f = absurd f
   end_err (stops.TooMany at) f = absurd f
   end_err (stops.TooMuch at) f = absurd f
-  end_err (stops.Cut at) f = record { at_end = f.0; unstopped = taken_unstopped; not_whole = subst (λ (q : Profile). Snap q bytes → ⊥) h.profile_is f.1 }
+  end_err (stops.Cut at) f = record { at_end = f.0; unstopped = taken_unstopped; not_whole = subst (λ (q : Profile). Snap q bytes → ⊥) h.form_is f.1 }
 
 -- ---- The end of a plan
 
@@ -177,11 +177,11 @@ module _ (profile : Profile) (limits : Limits) (d : PlanDecoder) (bytes : List �
   plan_unstopped = unstopped_of plan_stream (λ s. s.profile) profile limits d bytes items h
 
   pub plan_end : PlanFinishIs (plan_profile_of d) bytes items (Ok tt) → IsPlanDecoded profile limits bytes items
-  plan_end f = record { whole = subst (λ (q : Profile). PlanText q items bytes) h.profile_is f; unstopped = plan_unstopped }
+  plan_end f = record { whole = subst (λ (q : Profile). PlanText q items bytes) h.form_is f; unstopped = plan_unstopped }
 
   pub plan_end_err : (stop : Stop) → PlanFinishIs (plan_profile_of d) bytes items (Err stop) → IsPlanFault profile limits bytes (Stopped stop)
   plan_end_err (stops.Refused at why) f = absurd f
   plan_end_err (stops.TooLong at) f = absurd f
   plan_end_err (stops.TooMany at) f = absurd f
   plan_end_err (stops.TooMuch at) f = absurd f
-  plan_end_err (stops.Cut at) f = record { at_end = f.0; unstopped = plan_unstopped; not_whole = subst (λ (q : Profile). Plan q bytes → ⊥) h.profile_is f.1 }
+  plan_end_err (stops.Cut at) f = record { at_end = f.0; unstopped = plan_unstopped; not_whole = subst (λ (q : Profile). Plan q bytes → ⊥) h.form_is f.1 }

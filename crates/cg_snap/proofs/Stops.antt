@@ -1,5 +1,5 @@
 -- Which bytes stop a stream, and which don't.
-use Rattle.std.proofs.Common.{◌≡◌, ℕ, ◌+◌, ◌≤◌, List, [], ◌∷◌, ◌++◌, take, drop, length, refl, sym, ap, subst, ◌∙◌, append_assoc, arith, inl, inr}
+use Rattle.std.proofs.Common.{◌≡◌, ℕ, ◌+◌, ◌<◌, ◌≤◌, List, [], ◌∷◌, ◌++◌, take, drop, length, refl, sym, ap, subst, ◌∙◌, append_assoc, arith, inl, inr}
 use Rattle.std.proofs.lemmas.Bool.{cases_lt}
 use Rattle.std.proofs.lemmas.List.{append-nil, length-append, length_push, take-append-le, take-append-drop, take_all}
 use Rattle.cg_text.specs.Texts.{Lacks, Viable, Next}
@@ -11,7 +11,7 @@ use Rattle.cg_snap.specs.declared.limits.Limits.{Limits}
 use Rattle.cg_snap.specs.declared.stop.Stop.{Stop}
 use Rattle.cg_snap.specs.declared.stop.Stop.TheVariants as stops
 use Rattle.cg_snap.specs.declared.stop.Why.{Why}
-use Rattle.cg_snap.proofs.Begins.{begun_push, begun_run, not_long}
+use Rattle.cg_snap.proofs.Begins.{begun_push, begun_run, is_long, not_long}
 
 module _ (L : List ℕ → Type 0) (Breaks : List ℕ → ℕ → Why → Type 0) (Many : ℕ → List ℕ → ℕ → Type 0) where
   viable_front : (text : List ℕ) (n : ℕ) → Viable L text → Viable L (take n text)
@@ -22,7 +22,7 @@ module _ (L : List ℕ → Type 0) (Breaks : List ℕ → ℕ → Why → Type 0
   front_of : (s more : List ℕ) → take (length s) (s ++ more) ≡ s
   front_of s more = take-append-le {A = ℕ} (length s) s more (omega arith) ∙ take_all (length s) s (omega arith)
 
-  all_of : (s : List ℕ) (b : ℕ) → take (length s + 1) (s ++ b ∷ []) ≡ s ++ b ∷ []
+  pub all_of : (s : List ℕ) (b : ℕ) → take (length s + 1) (s ++ b ∷ []) ≡ s ++ b ∷ []
   all_of s b = take_all (length s + 1) (s ++ b ∷ []) (omega (arith, length-append s (b ∷ [])))
 
   module _ (limits : Limits) where
@@ -36,6 +36,19 @@ module _ (L : List ℕ → Type 0) (Breaks : List ℕ → ℕ → Why → Type 0
       few = rw e h.few;
       before = h.before;
     }
+
+    -- The first bytes of a stream that nothing stops.
+    pub unstopped_front : (text more : List ℕ) → IsStreamUnstopped L Breaks Many limits (text ++ more) → IsStreamUnstopped L Breaks Many limits text
+    unstopped_front text more u k within =
+        passed_at (text ++ more) text k (sym (take-append-le {A = ℕ} (k + 1) text more (omega (arith, within)))) (u k (omega (arith, within, length-append text more)))
+
+    -- The record of a byte that doesn't stop a stream had room for it.
+    pub room_before : (p r : List ℕ) (b : ℕ) → IsBegun p r → IsStreamUnstopped L Breaks Many limits (p ++ b ∷ []) → length r < limits.max_record
+    room_before p r b h u =
+        elim (cases_lt (length r) limits.max_record) [
+          | inl lt ↦ lt
+          | inr ge ↦ absurd ((u (length p) (omega (arith, length_push p b))).short (rw (all_of p b) (is_long p r b limits.max_record (length p) h ge)))
+        ]
 
     pub unstopped_push : (p : List ℕ) (b : ℕ) → IsStreamUnstopped L Breaks Many limits p → Next L p b → IsFree L Breaks Many limits p b → IsStreamUnstopped L Breaks Many limits (p ++ b ∷ [])
     unstopped_push p b u v f k within =
@@ -139,7 +152,7 @@ module _ (L : List ℕ → Type 0) (Breaks : List ℕ → ℕ → Why → Type 0
     not_passed text k (stops.TooMuch at) p h = p.before h.4
     not_passed text k (stops.Cut at) p h = h
 
-    told_place : (text : List ℕ) (k : ℕ) (stop : Stop) →
+    pub told_place : (text : List ℕ) (k : ℕ) (stop : Stop) →
         StopsAt L (IsLastWhy Breaks) (IsLongRecord limits.max_record) (Many limits.max_lines) limits.max_stream text k stop → place_of stop ≡ k
     told_place text k (stops.Refused at why) h = h.0
     told_place text k (stops.TooLong at) h = h.0

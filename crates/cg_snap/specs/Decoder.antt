@@ -39,8 +39,11 @@ abbrev pub held_in : Option Present → ℕ
 held_in None = 0
 held_in (Some x) = length x.path.items + reader.held_by x.reader
 
+abbrev pub held_by_records : SnapshotRecords → ℕ
+held_by_records s = length s.begun.items + held_in s.present
+
 abbrev pub held_by : SnapshotDecoder → ℕ
-held_by d = length d.records.begun.items + held_in d.records.present
+held_by d = held_by_records d.records
 
 -- The decoder consumed the bytes p, of which none stops a stream, and gave the entries es.
 abbrev pub Stands : SnapshotDecoder → List ℕ → List EntryData → Type 0

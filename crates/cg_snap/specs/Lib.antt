@@ -7,6 +7,10 @@ pub mod Decoder
 pub mod DecoderState
 pub mod Encode
 pub mod EncodeLaws
+pub mod GoingOn
+pub mod GoingOnDecoder
+pub mod GoingOnLaws
+pub mod GoingOnState
 pub mod HeadState
 pub mod Headline
 pub mod Laws

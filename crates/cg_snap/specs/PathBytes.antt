@@ -3,6 +3,7 @@ use Rattle.std.specs.Prelude.{◌≡◌, ℕ, ◌<◌, ◌≤◌, ◌⊎◌, Lis
 use Rattle.std.specs.Coded.{×_prop, Unit-prop}
 use Rattle.std.specs.List.{AllByRecursion}
 use Rattle.std.proofs.Props.{props}
+use Rattle.cg_text.specs.Texts.{Lacks}
 use Rattle.cg_value.specs.Entry.{IsPathByte}
 
 -- The front of a path.
@@ -25,6 +26,12 @@ pub record IsPathFront (bytes : List ℕ) (used : ℕ) : Type 0 where
   pub within : used ≤ length bytes
   pub plain : ArePathBytes (take used bytes)
   pub ends : used < length bytes → EndsPath (get_or bytes used 0)
+
+-- So many bytes of a line come, and no more.
+pub record IsLineFront (bytes : List ℕ) (used : ℕ) : Type 0 where
+  pub within : used ≤ length bytes
+  pub plain : Lacks 10 (take used bytes)
+  pub ends : used < length bytes → get_or bytes used 0 ≡ 10
 
 -- A path byte comes.
 abbrev pub BeginsPath : List ℕ → Type 0

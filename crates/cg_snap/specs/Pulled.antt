@@ -1,6 +1,5 @@
 -- What the calls of a decoder promise, whatever stream it is of, by the bytes that it consumed and the parts that it gave.
 use Rattle.std.specs.Prelude.{◌≡◌, ℕ, ◌+◌, ◌-◌, ◌<◌, List, [], ◌∷◌, ◌++◌, length, take, Some, None}
-use Rattle.cg_value.specs.declared.profile.Profile.{Profile}
 use Rattle.cg_snap.specs.Course.{IsAlong, Stream}
 use Rattle.cg_snap.specs.Stop.{place_of}
 use Rattle.cg_snap.specs.StreamStop.{IsStreamUnstopped, StreamStopOf}
@@ -33,10 +32,10 @@ module _ {R Part : Type 0} (stream : Stream R Part) where
 abbrev pub IsStuck : {R Part : Type 0} → Decoder R → Decoder R → Progress Part → Stop → Type 0
 IsStuck old new progress stop = (progress.used ≡ 0) × (progress.what ≡ events.Stopped stop) × (new ≡ old)
 
--- The decoder, which is of this profile and has these limits, consumed the bytes and gave these parts; and no stop came.
-pub record HasPulled {R Part : Type 0} (stream : Profile → Stream R Part) (profile_of : R → Profile) (d : Decoder R) (profile : Profile) (limits : Limits) (bytes : List ℕ)
+-- The decoder, which is of this form and has these limits, consumed the bytes and gave these parts; and no stop came.
+pub record HasPulled {R Form Part : Type 0} (stream : Form → Stream R Part) (form_of : R → Form) (d : Decoder R) (form : Form) (limits : Limits) (bytes : List ℕ)
     (es : List Part) : Type 0 where
-  pub stands : StandsFor (stream (profile_of d.records)) d bytes es
+  pub stands : StandsFor (stream (form_of d.records)) d bytes es
   pub stop : d.stop ≡ None
-  pub profile_is : profile_of d.records ≡ profile
+  pub form_is : form_of d.records ≡ form
   pub limits_is : d.meter.limits ≡ limits

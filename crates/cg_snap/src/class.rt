@@ -8,7 +8,7 @@ use crate::stop::Why;
 use cg_value::{Profile, ReadKind, WriteKind, name_of, read_kind, write_kind};
 
 /// Whether the path has no name.
-fn is_nameless(path: &[u8]) -> bool
+pub(crate) fn is_nameless(path: &[u8]) -> bool
     ensures { MatchBool result (IsNameless path.now) (IsNameless path.now → ⊥) }
 {
     path.is_empty() || path[path.len() - 1] == b'/'

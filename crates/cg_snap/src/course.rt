@@ -2,8 +2,7 @@
 ghost use Rattle.std.specs.Prelude.{◌≡◌, ◌↔◌, ◌<◌, ◌≤◌, ◌++◌, ℕ, List, length, take};
 ghost use Rattle.cg_text.specs.Bytes.{HasByte};
 ghost use Rattle.cg_text.specs.Texts.{Next};
-ghost use Rattle.cg_value.specs.declared.profile.Profile.{Profile};
-ghost use Rattle.cg_snap.specs.Course.{Advances, GoesForward, IsAlong, IsMovedBy, PieceDid};
+ghost use Rattle.cg_snap.specs.Course.{Advances, AreOfRecord, GoesForward, IsAlong, IsMovedBy, PieceDid};
 
 use crate::event::{Event, Progress};
 use crate::meter::Meter;
@@ -12,14 +11,20 @@ use crate::stop::Stop;
 use cg_text::ByteSet;
 
 /// Takes bytes of one record, as far as its path goes, or its line, and the limits let it.
-fn advance<R: Records>(records: &mut R, meter: &mut Meter, piece: &[u8]) -> Progress<R::Part>
+pub(crate) fn advance<R: Records>(
+    records: &mut R,
+    meter: &mut Meter,
+    piece: &[u8],
+) -> Progress<R::Part>
     requires { 0 < length piece.now }
-    ensures advances { (form : Profile) (p : List ℕ) (es : List R.Part) →
+    ensures advances { (form : R.Form) (p : List ℕ) (es : List R.Part) →
         IsAlong (R.stream form) records.old meter.old p es →
         Advances (R.stream form) records.new meter.new p es piece.now result.used result.what }
+    ensures of_record { (form : R.Form) (p : List ℕ) (es : List R.Part) →
+        IsAlong (R.stream form) records.old meter.old p es → AreOfRecord (take result.used piece.now) }
     ensures used { result.used ≤ length piece.now }
     ensures forward { GoesForward (length piece.now) result.used result.what }
-    ensures profile { R.profile records.new ≡ R.profile records.old }
+    ensures form { R.form_of records.new ≡ R.form_of records.old }
     ensures limits { meter.new.limits ≡ meter.old.limits }
 {
     let at = meter.offset;
@@ -48,12 +53,12 @@ pub(crate) fn pull<R: Records>(
     meter: &mut Meter,
     piece: &[u8],
 ) -> Progress<R::Part>
-    ensures pulled { (form : Profile) (p : List ℕ) (es : List R.Part) →
+    ensures pulled { (form : R.Form) (p : List ℕ) (es : List R.Part) →
         IsAlong (R.stream form) records.old meter.old p es →
         PieceDid (R.stream form) records.new meter.new p es piece.now result.used result.what }
     ensures used { result.used ≤ length piece.now }
     ensures progress { IsMovedBy (length piece.now) result.used result.what }
-    ensures profile { R.profile records.new ≡ R.profile records.old }
+    ensures form { R.form_of records.new ≡ R.form_of records.old }
     ensures limits { meter.new.limits ≡ meter.old.limits }
 {
     let mut used = 0;
@@ -74,7 +79,7 @@ pub(crate) fn pull<R: Records>(
 
 /// The bytes with which some text goes on.
 pub(crate) fn allowed<R: Records>(records: &R) -> ByteSet
-    ensures { (form : Profile) (p : List ℕ) (es : List R.Part) → (R.stream form).at records.now p es → (byte : ℕ) →
+    ensures { (form : R.Form) (p : List ℕ) (es : List R.Part) → (R.stream form).at records.now p es → (byte : ℕ) →
         HasByte result byte ↔ Next (R.stream form).language p byte }
 {
     if let Some(set) = records.line_allowed() {

@@ -2,11 +2,16 @@
 ghost use Rattle.std.specs.Prelude.{◌≡◌, ℕ, List, [], ◌++◌, MatchOption, MatchResult};
 ghost use Rattle.cg_value.specs.declared.profile.Profile.{Profile};
 ghost use Rattle.cg_snap.specs.Decode.{HasTaken, IsDecoded, IsPlanDecoded, IsPlanFault, IsSnapFault, IsStreamFault};
+ghost use Rattle.cg_snap.specs.GoingOn.{stream_limits};
+ghost use Rattle.cg_snap.specs.GoingOnDecoder.{IsGoingFault, IsGoneOn};
+ghost use Rattle.cg_snap.specs.GoingOnState.{form_of, going_stream};
 ghost use Rattle.cg_snap.specs.Pieces.{EndsStream, joined};
 ghost use Rattle.cg_snap.specs.Pulled.{HasPulled};
 
 use crate::decoder::{Decoder, PlanDecoder, SnapshotDecoder};
 use crate::event::Event;
+use crate::going_on::Found;
+use crate::going_on_decoder::GoingOnDecoder;
 use crate::limits::Limits;
 use crate::records::Records;
 use crate::stop::Stop;
@@ -30,10 +35,10 @@ fn take_piece<R: Records>(
     parts: &mut Vec<R::Part>,
     piece: &[u8],
 ) -> Option<StreamFault>
-    ensures { (profile : Profile) (limits : Limits) (p : List ℕ) →
-        HasPulled R.stream R.profile decoder.old profile limits p parts.old.items →
-        MatchOption result (HasPulled R.stream R.profile decoder.new profile limits (p ++ piece.now) parts.new.items)
-        (λ fault. EndsStream (R.stream profile) limits (p ++ piece.now) fault) }
+    ensures { (form : R.Form) (limits : Limits) (p : List ℕ) →
+        HasPulled R.stream R.form_of decoder.old form limits p parts.old.items →
+        MatchOption result (HasPulled R.stream R.form_of decoder.new form limits (p ++ piece.now) parts.new.items)
+        (λ fault. EndsStream (R.stream form) limits (p ++ piece.now) fault) }
 {
     let mut used = 0;
     while used < piece.len() {
@@ -59,10 +64,10 @@ fn take_pieces<R: Records>(
     parts: &mut Vec<R::Part>,
     pieces: &[&[u8]],
 ) -> Option<StreamFault>
-    ensures { (profile : Profile) (limits : Limits) →
-        HasPulled R.stream R.profile decoder.old profile limits [] parts.old.items →
-        MatchOption result (HasPulled R.stream R.profile decoder.new profile limits (joined pieces.now) parts.new.items)
-        (λ fault. IsStreamFault (R.stream profile).language (R.stream profile).breaks (R.stream profile).many limits
+    ensures { (form : R.Form) (limits : Limits) →
+        HasPulled R.stream R.form_of decoder.old form limits [] parts.old.items →
+        MatchOption result (HasPulled R.stream R.form_of decoder.new form limits (joined pieces.now) parts.new.items)
+        (λ fault. IsStreamFault (R.stream form).language (R.stream form).breaks (R.stream form).many limits
         (joined pieces.now) fault) }
 {
     for piece in pieces {
@@ -126,6 +131,53 @@ pub fn decode_snapshot(
         (λ fault. IsSnapFault profile limits bytes.now fault) }
 {
     decode_snapshot_pieces(alloc, profile, limits, &[bytes])
+}
+
+/// Puts the last entry that is found behind the others.
+fn end_found(decoder: GoingOnDecoder, found: &mut Vec<Found>) -> Option<StreamFault>
+    ensures { (profile : Profile) (limits : Limits) (bytes : List ℕ) →
+        HasPulled going_stream form_of decoder (profile, limits) (stream_limits limits) bytes found.old.items →
+        MatchOption result (IsGoneOn profile limits bytes found.new.items) (λ fault. IsGoingFault limits bytes fault) }
+{
+    match decoder.finish() {
+        Ok(None) => None,
+        Ok(Some(entry)) => {
+            let last = Found {
+                entry: Some(entry),
+                left_out: None,
+            };
+            match found.push(last) {
+                Ok(()) => None,
+                Err(_) => Some(StreamFault::OutOfMemory),
+            }
+        }
+        Err(stop) => Some(StreamFault::Stopped(stop)),
+    }
+}
+
+/// The entries of the stream whose whole text these bytes are, and what is left out of it, in the order of the bytes
+/// that tell it.
+///
+/// `Stopped` is `TooMuch`, the limit of the whole stream, or `Cut` where the bytes end within a line; `OutOfMemory` is a
+/// want of memory. What was found before these, `GoingOnDecoder::next` gives.
+pub fn decode_snapshot_going_on(
+    alloc: Global,
+    profile: Profile,
+    limits: Limits,
+    bytes: &[u8],
+) -> Result<Vec<Found>, StreamFault>
+    ensures { MatchResult result (λ found. IsGoneOn profile limits bytes.now found.items)
+        (λ fault. IsGoingFault limits bytes.now fault) }
+{
+    let mut decoder = GoingOnDecoder::new(alloc, profile, limits);
+    let mut found = Vec::new(alloc);
+    if let Some(fault) = take_pieces(&mut decoder, &mut found, &[bytes]) {
+        return Err(fault);
+    }
+    match end_found(decoder, &mut found) {
+        Some(fault) => Err(fault),
+        None => Ok(found),
+    }
 }
 
 /// The items of the plan whose text is these pieces, joined. They are any list of slices: empty ones may be among them,

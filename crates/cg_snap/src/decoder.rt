@@ -8,11 +8,12 @@ ghost use Rattle.cg_value.specs.declared.profile.Profile.{Profile};
 ghost use Rattle.cg_snap.specs.Begun.{IsBegun};
 ghost use Rattle.cg_snap.specs.Closed.{IsHeldFor};
 ghost use Rattle.cg_snap.specs.Course.{IsMovedBy};
-ghost use Rattle.cg_snap.specs.Decoder.{FinishIs, Stands, held_by, profile_of, stop_of};
+ghost use Rattle.cg_snap.specs.Decoder.{FinishIs, Stands, held_by, limits_of, profile_of, stop_of};
 ghost use Rattle.cg_snap.specs.DecoderState.{HasTakenRecords};
-ghost use Rattle.cg_snap.specs.PlanDecoder.{PlanFinishIs, StandsForPlan, plan_held_by, plan_profile_of, plan_stop_of};
+ghost use Rattle.cg_snap.specs.PlanDecoder.{PlanFinishIs, StandsForPlan, plan_held_by, plan_limits_of, plan_profile_of, plan_stop_of};
 ghost use Rattle.cg_snap.specs.PlanState.{HasTakenItems};
 ghost use Rattle.cg_snap.specs.Pulled.{IsStuck, StandsFor, WhatCame};
+ghost use Rattle.cg_snap.specs.Streams.{plan_stream, snap_stream};
 
 use crate::course::{allowed, pull};
 use crate::entry::ended;
@@ -55,15 +56,15 @@ pub type Pulled = Progress<Entry>;
 pub type PlanPulled = Progress<PlanItem>;
 
 impl<R: Records> Decoder<R> {
-    /// A decoder that consumed nothing. It takes no memory.
-    pub fn new(alloc: Global, profile: Profile, limits: Limits) -> Decoder<R>
-        ensures stands { StandsFor (R.stream profile) result [] [] }
-        ensures profile { R.profile result.records ≡ profile }
+    /// A decoder that consumed nothing, of these records, of which none came.
+    pub(crate) fn begin(records: R, limits: Limits) -> Decoder<R>
+        ensures stands { (form : R.Form) → (R.stream form).at records [] [] → StandsFor (R.stream form) result [] [] }
+        ensures records { result.records ≡ records }
         ensures limits { result.meter.limits ≡ limits }
         ensures stop { result.stop ≡ None }
     {
         Decoder {
-            records: R::new(alloc, profile),
+            records,
             meter: Meter::new(limits),
             stop: None,
         }
@@ -74,12 +75,12 @@ impl<R: Records> Decoder<R> {
     /// call may be made again with the rest of the piece.
     pub fn next(&mut self, piece: &[u8]) -> Progress<R::Part>
         ensures pulled { (p : List ℕ) (es : List R.Part) → self.old.stop ≡ None →
-            StandsFor (R.stream (R.profile self.old.records)) self.old p es →
-            WhatCame (R.stream (R.profile self.new.records)) self.new p es piece.now result.used result.what }
+            StandsFor (R.stream (R.form_of self.old.records)) self.old p es →
+            WhatCame (R.stream (R.form_of self.new.records)) self.new p es piece.now result.used result.what }
         ensures used { result.used ≤ length piece.now }
         ensures progress { IsMovedBy (length piece.now) result.used result.what }
         ensures stuck { (s : Stop) → self.old.stop ≡ Some s → IsStuck self.old self.new result s }
-        ensures profile { R.profile self.new.records ≡ R.profile self.old.records }
+        ensures form { R.form_of self.new.records ≡ R.form_of self.old.records }
         ensures limits { self.new.meter.limits ≡ self.old.meter.limits }
     {
         if let Some(stop) = self.stop {
@@ -97,7 +98,7 @@ impl<R: Records> Decoder<R> {
 
     /// How many bytes were consumed. It takes no memory.
     pub fn offset(&self) -> u64
-        ensures { (p : List ℕ) (es : List R.Part) → StandsFor (R.stream (R.profile self.now.records)) self.now p es →
+        ensures { (p : List ℕ) (es : List R.Part) → StandsFor (R.stream (R.form_of self.now.records)) self.now p es →
             result ≡ length p }
     {
         self.meter.offset
@@ -105,27 +106,31 @@ impl<R: Records> Decoder<R> {
 
     /// The bytes with which some stream goes on. Limits don't matter, nor a stop that came. It takes no memory.
     pub fn allowed(&self) -> ByteSet
-        ensures { (p : List ℕ) (es : List R.Part) → StandsFor (R.stream (R.profile self.now.records)) self.now p es →
-            (byte : ℕ) → HasByte result byte ↔ Next (R.stream (R.profile self.now.records)).language p byte }
+        ensures { (p : List ℕ) (es : List R.Part) → StandsFor (R.stream (R.form_of self.now.records)) self.now p es →
+            (byte : ℕ) → HasByte result byte ↔ Next (R.stream (R.form_of self.now.records)).language p byte }
     {
         allowed(&self.records)
     }
 }
 
 impl Decoder<SnapshotRecords> {
+    /// A decoder that consumed nothing. It takes no memory.
+    pub fn new(alloc: Global, profile: Profile, limits: Limits) -> SnapshotDecoder
+        ensures stands { StandsFor (snap_stream profile) result [] [] }
+        ensures profile { profile_of result ≡ profile }
+        ensures limits { limits_of result ≡ limits }
+        ensures stop { stop_of result ≡ None }
+    {
+        Decoder::begin(SnapshotRecords::new(alloc, profile), limits)
+    }
+
     /// The sum of the lengths of its vectors, or `u64::MAX` where that is more. It takes no memory.
     pub fn held(&self) -> u64
         ensures exact { result ≡ told (held_by self.now) }
         ensures held { (p : List ℕ) (es : List EntryData) → Stands self.now p es →
             IsHeldFor (profile_of self.now) p es (held_by self.now) }
     {
-        let begun = self.records.begun.len() as u64;
-        match &self.records.present {
-            None => begun,
-            Some(x) => begun
-                .saturating_add(x.path.len() as u64)
-                .saturating_add(x.reader.held()),
-        }
+        self.records.held()
     }
 
     /// The last entry, none of an empty snapshot; or where a record is begun, `Cut` with the stream's length; or the
@@ -148,7 +153,7 @@ impl Decoder<SnapshotRecords> {
 }
 
 /// What the end of a snapshot makes of the records.
-fn finish_records(records: SnapshotRecords, at: u64) -> Result<Option<Entry>, Stop>
+pub(crate) fn finish_records(records: SnapshotRecords, at: u64) -> Result<Option<Entry>, Stop>
     ensures { (profile : Profile) (p : List ℕ) (es : List EntryData) → HasTakenRecords records profile p es → at ≡
         length p → FinishIs profile p es result }
 {
@@ -176,6 +181,16 @@ fn finish_records(records: SnapshotRecords, at: u64) -> Result<Option<Entry>, St
 }
 
 impl Decoder<PlanRecords> {
+    /// A decoder that consumed nothing. It takes no memory.
+    pub fn new(alloc: Global, profile: Profile, limits: Limits) -> PlanDecoder
+        ensures stands { StandsFor (plan_stream profile) result [] [] }
+        ensures profile { plan_profile_of result ≡ profile }
+        ensures limits { plan_limits_of result ≡ limits }
+        ensures stop { plan_stop_of result ≡ None }
+    {
+        Decoder::begin(PlanRecords::new(alloc, profile), limits)
+    }
+
     /// The sum of the lengths of its vectors, or `u64::MAX` where that is more: never more than the record that is
     /// begun. It takes no memory.
     pub fn held(&self) -> u64

@@ -1,5 +1,6 @@
 //! The laws of snapshots and of plans. Each function takes and answers nothing: its contract is the law.
 ghost use Rattle.cg_snap.specs.Decoder.{PulledIsClosed};
+ghost use Rattle.cg_snap.specs.GoingOnLaws.{AllAreDecoded, AllAreTold, FirstFault, NothingLeftOut, NothingStops, OneAllTold, OneTold, OwnFaults, OwnLines, PlainStopped, PlainUnstopped, ToldStays, UnstoppedCloses};
 ghost use Rattle.cg_snap.specs.Headline.{EntriesOfTheBytes, ItemsOfTheBytes, OnePlanStop, OneStop};
 ghost use Rattle.cg_snap.specs.Laws.{ClosedOnce, ClosedPlanOnce, EntriesPrinted, ItemsPrinted, OneBegun, OneClosing, OneList, OnePlan, PlanIsOfItems, SnapIsOfEntries, SnapIsPrint, TwoProfiles};
 ghost use Rattle.cg_snap.specs.PlanDecoder.{PulledPlanIsClosed};
@@ -84,4 +85,27 @@ pub fn pulled_is_closed()
 /// them, and none of them stops the stream.
 pub fn pulled_plan_is_closed()
     ensures { PulledPlanIsClosed }
+{}
+
+/// What is told of a snapshot that is gone on with is one list, and what was told stays, however the bytes go on.
+///
+/// Where none of the bytes stops a snapshot, it is the entries that they close, or at the end all that they are the
+/// snapshot of, and nothing is left out; and where nothing is left out, none of them does. Where a byte stops plain
+/// reading, the first block that is left out is at fault at this byte and for this cause; before it are told the
+/// entries that plain reading gives, and at most one more, which the byte closes. Each entry is what plain reading
+/// gives of its block alone, and each block that is left out is at fault where plain reading of it alone stops.
+pub fn going_on()
+    ensures one_told { OneTold }
+    ensures one_all_told { OneAllTold }
+    ensures told_stays { ToldStays }
+    ensures plain_unstopped { PlainUnstopped }
+    ensures unstopped_closes { UnstoppedCloses }
+    ensures nothing_left_out { NothingLeftOut }
+    ensures all_are_told { AllAreTold }
+    ensures nothing_stops { NothingStops }
+    ensures all_are_decoded { AllAreDecoded }
+    ensures plain_stopped { PlainStopped }
+    ensures first_fault { FirstFault }
+    ensures own_lines { OwnLines }
+    ensures own_faults { OwnFaults }
 {}

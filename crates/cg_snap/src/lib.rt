@@ -9,6 +9,9 @@ pub mod decoder;
 pub mod encode;
 mod entry;
 pub mod event;
+pub mod going_on;
+pub mod going_on_decoder;
+mod going_on_records;
 pub mod laws;
 pub mod limits;
 mod meter;
@@ -24,10 +27,13 @@ mod snapshot_records;
 pub mod stop;
 
 pub use decode::{
-    StreamFault, decode_plan, decode_plan_pieces, decode_snapshot, decode_snapshot_pieces,
+    StreamFault, decode_plan, decode_plan_pieces, decode_snapshot, decode_snapshot_going_on,
+    decode_snapshot_pieces,
 };
 pub use decoder::{Decoder, PlanDecoder, PlanPulled, PlanWhat, Pulled, SnapshotDecoder, What};
 pub use encode::{EncodeFault, encode_plan, encode_snapshot};
 pub use event::{Event, Progress};
+pub use going_on::{Cause, Found, LeftOut};
+pub use going_on_decoder::GoingOnDecoder;
 pub use limits::Limits;
 pub use stop::{Stop, Why};

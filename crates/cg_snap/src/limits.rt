@@ -1,4 +1,6 @@
 //! Limits of streams.
+ghost use Rattle.std.specs.Prelude.{◌≡◌};
+ghost use Rattle.cg_snap.specs.GoingOn.{block_limits, stream_limits};
 
 /// How much of a stream is read at most.
 #[derive(Clone, Copy, Debug, PartialEq, Eq)]
@@ -18,4 +20,26 @@ impl Limits {
         max_lines: 1000000,
         max_stream: 1073741824,
     };
+
+    /// Those of a block alone, which is as long as it likes.
+    pub(crate) fn of_block(self) -> Limits
+        ensures { result ≡ block_limits self }
+    {
+        Limits {
+            max_record: self.max_record,
+            max_lines: self.max_lines,
+            max_stream: u64::MAX,
+        }
+    }
+
+    /// That of the whole stream alone.
+    pub(crate) fn of_stream(self) -> Limits
+        ensures { result ≡ stream_limits self }
+    {
+        Limits {
+            max_record: u64::MAX,
+            max_lines: u64::MAX,
+            max_stream: self.max_stream,
+        }
+    }
 }

@@ -1,5 +1,5 @@
 //! How much of a stream was consumed, and the limits of that.
-ghost use Rattle.std.specs.Prelude.{◌≡◌, ◌+◌, ◌-◌, ◌<◌, ◌≤◌, ◌++◌, ℕ, List, [], length};
+ghost use Rattle.std.specs.Prelude.{◌≡◌, ◌+◌, ◌-◌, ◌<◌, ◌≤◌, ◌++◌, ℕ, List, [], length, MatchBool};
 ghost use Rattle.cg_snap.specs.Course.{AreOfRecord};
 ghost use Rattle.cg_snap.specs.Meter.{IsCounted, LimitIs};
 
@@ -26,6 +26,23 @@ impl Meter {
             offset: 0,
             record_len: 0,
         }
+    }
+
+    /// Whether a byte more passes no limit of the record.
+    pub(crate) fn has_room(&self) -> bool
+        ensures { MatchBool result (self.now.record_len < self.now.limits.max_record)
+            (self.now.limits.max_record ≤ self.now.record_len) }
+    {
+        self.record_len < self.limits.max_record
+    }
+
+    /// Counts from the beginning of the record that is begun.
+    pub(crate) fn begin_at_record(&mut self)
+        ensures offset { self.new.offset ≡ self.old.record_len }
+        ensures record { self.new.record_len ≡ self.old.record_len }
+        ensures limits { self.new.limits ≡ self.old.limits }
+    {
+        self.offset = self.record_len;
     }
 
     /// The first limit that a byte passes, where it makes the records of one path too many if they are full.

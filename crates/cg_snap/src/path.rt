@@ -1,6 +1,6 @@
 //! The bytes of a path, and those of a line, which are taken many at once.
 ghost use Rattle.std.specs.Prelude.{◌≡◌, ◌<◌, ◌≤◌, ◌-◌, ◌↔◌, ◌++◌, length, take, get_or, IsTrue, MatchResult};
-ghost use Rattle.cg_snap.specs.PathBytes.{BeginsPath, IsPathFront};
+ghost use Rattle.cg_snap.specs.PathBytes.{BeginsPath, IsLineFront, IsPathFront};
 
 use cg_text::OutOfMemory;
 use memchr::memchr;
@@ -14,9 +14,16 @@ fn path_length(bytes: &[u8]) -> usize
         None => bytes.len(),
     };
     let (path, _) = bytes.split_at(nul);
-    match memchr(b'\n', path) {
+    line_length(path)
+}
+
+/// How many bytes come before the first newline, all where there is none.
+pub(crate) fn line_length(bytes: &[u8]) -> usize
+    ensures { IsLineFront bytes.now result }
+{
+    match memchr(b'\n', bytes) {
         Some(newline) => newline,
-        None => nul,
+        None => bytes.len(),
     }
 }
 

@@ -1,4 +1,5 @@
 //! The records of a plan.
+ghost use Rattle.std.specs.Prelude.{◌≡◌, []};
 ghost use Rattle.cg_snap.specs.PathBytes.{ArePathBytes, path_bytes_prop};
 
 use crate::event::Progress;
@@ -19,21 +20,14 @@ pub struct PlanRecords {
     ghost path: { ArePathBytes begun.items } by { path_bytes_prop begun.items },
 }
 
-impl Records for PlanRecords {
-    type Part = PlanItem;
+impl PlanRecords {
+    ghost use Rattle.cg_snap.specs.PlanState.{HasTakenItems};
 
-    ghost use Rattle.cg_snap.specs.PlanState.{items_closed, items_go_on};
-    ghost use Rattle.cg_snap.specs.Streams.{plan_stream};
-
-    ghost profile = { λ s. s.profile };
-
-    ghost stream = { plan_stream };
-
-    ghost closed = { items_closed };
-
-    ghost goes_on = { items_go_on };
-
-    fn new(alloc: Global, profile: Profile) -> PlanRecords {
+    /// No record came.
+    pub(crate) fn new(alloc: Global, profile: Profile) -> PlanRecords
+        ensures taken { HasTakenItems result profile [] [] }
+        ensures profile { result.profile ≡ profile }
+    {
         PlanRecords {
             alloc,
             profile,
@@ -41,6 +35,23 @@ impl Records for PlanRecords {
             present: None,
         }
     }
+}
+
+impl Records for PlanRecords {
+    type Part = PlanItem;
+
+    type Form = Profile;
+
+    ghost use Rattle.cg_snap.specs.PlanState.{items_closed, items_go_on};
+    ghost use Rattle.cg_snap.specs.Streams.{plan_stream};
+
+    ghost form_of = { λ s. s.profile };
+
+    ghost stream = { plan_stream };
+
+    ghost closed = { items_closed };
+
+    ghost goes_on = { items_go_on };
 
     fn refusal(&self, byte: u8) -> Option<Why> {
         match &self.present {

@@ -1,4 +1,9 @@
 //! The records of a snapshot.
+ghost use Rattle.std.specs.Prelude.{◌≡◌, ℕ, List, []};
+ghost use Rattle.cg_text.specs.Token.{told};
+ghost use Rattle.cg_value.specs.Entry.{EntryData};
+ghost use Rattle.cg_value.specs.declared.profile.Profile.{Profile};
+ghost use Rattle.cg_snap.specs.Closed.{IsHeldFor};
 ghost use Rattle.cg_snap.specs.PathBytes.{ArePathBytes, path_bytes_prop};
 
 use crate::event::Progress;
@@ -21,21 +26,18 @@ pub struct SnapshotRecords {
     ghost path: { ArePathBytes begun.items } by { path_bytes_prop begun.items },
 }
 
-impl Records for SnapshotRecords {
-    type Part = Entry;
+/// Lets go of an entry whose records have come.
+fn let_go(_present: Option<Present>) {}
 
-    ghost use Rattle.cg_snap.specs.DecoderState.{records_closed, records_go_on};
-    ghost use Rattle.cg_snap.specs.Streams.{snap_stream};
+impl SnapshotRecords {
+    ghost use Rattle.cg_snap.specs.Decoder.{held_by_records};
+    ghost use Rattle.cg_snap.specs.DecoderState.{HasTakenRecords};
 
-    ghost profile = { λ s. s.profile };
-
-    ghost stream = { snap_stream };
-
-    ghost closed = { records_closed };
-
-    ghost goes_on = { records_go_on };
-
-    fn new(alloc: Global, profile: Profile) -> SnapshotRecords {
+    /// No record came.
+    pub(crate) fn new(alloc: Global, profile: Profile) -> SnapshotRecords
+        ensures taken { HasTakenRecords result profile [] [] }
+        ensures profile { result.profile ≡ profile }
+    {
         SnapshotRecords {
             alloc,
             profile,
@@ -43,6 +45,47 @@ impl Records for SnapshotRecords {
             present: None,
         }
     }
+
+    /// Forgets what came.
+    pub(crate) fn clear(&mut self)
+        ensures taken { HasTakenRecords self.new self.old.profile [] [] }
+        ensures profile { self.new.profile ≡ self.old.profile }
+    {
+        self.begun.clear();
+        let_go(self.present.take());
+    }
+
+    /// The sum of the lengths of its vectors, or `u64::MAX` where that is more.
+    pub(crate) fn held(&self) -> u64
+        ensures exact { result ≡ told (held_by_records self.now) }
+        ensures held { (profile : Profile) (p : List ℕ) (es : List EntryData) →
+            HasTakenRecords self.now profile p es → IsHeldFor profile p es (held_by_records self.now) }
+    {
+        let begun = self.begun.len() as u64;
+        match &self.present {
+            None => begun,
+            Some(x) => begun
+                .saturating_add(x.path.len() as u64)
+                .saturating_add(x.reader.held()),
+        }
+    }
+}
+
+impl Records for SnapshotRecords {
+    type Part = Entry;
+
+    type Form = Profile;
+
+    ghost use Rattle.cg_snap.specs.DecoderState.{records_closed, records_go_on};
+    ghost use Rattle.cg_snap.specs.Streams.{snap_stream};
+
+    ghost form_of = { λ s. s.profile };
+
+    ghost stream = { snap_stream };
+
+    ghost closed = { records_closed };
+
+    ghost goes_on = { records_go_on };
 
     fn refusal(&self, byte: u8) -> Option<Why> {
         refusal(self.profile, &self.begun, &self.present, byte)

@@ -27,9 +27,9 @@ entries-preserved c =
       decoded = λ profile limits p es h.
           let b = c.entries.invariant.decoded profile limits p es h in
           let what = rw c.in-Given.is at (c.next-pulled.ensures.pulled (p ++ take at piece) (es ++ b.more) b.taken.stop b.taken.stands) in
-          let pulled = pulled_is was now profile limits (p ++ take at piece) (es ++ b.more) rest n b.taken c.next-pulled.ensures.profile c.next-pulled.ensures.limits (events.Given c.in-Given.field-0) what in
+          let pulled = pulled_is was now profile limits (p ++ take at piece) (es ++ b.more) rest n b.taken c.next-pulled.ensures.form c.next-pulled.ensures.limits (events.Given c.in-Given.field-0) what in
           decoded_entry profile limits p es piece was now rest at n c.entries.closed c.split_at.ensures.back c.entries.invariant.within c.next-pulled.ensures.used b
-          c.next-pulled.ensures.profile c.next-pulled.ensures.limits c.in-Given.field-0 pulled;
+          c.next-pulled.ensures.form c.next-pulled.ensures.limits c.in-Given.field-0 pulled;
     }
 
 pub returns-in-entries-clause-decoded : goal.returns-in-entries-clause-decoded
@@ -46,7 +46,7 @@ returns-in-entries-clause-decoded c profile limits p es h =
     let back = c.split_at.ensures.back in
     let inside = c.entries.invariant.within in
     let within = c.next-pulled.ensures.used in
-    let same_profile = c.next-pulled.ensures.profile in
+    let same_profile = c.next-pulled.ensures.form in
     let same_limits = c.next-pulled.ensures.limits in
     let seen = c.next-pulled.ensures.pulled front all b.taken.stop b.taken.stands in
     record {

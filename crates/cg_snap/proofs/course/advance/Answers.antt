@@ -1,4 +1,5 @@
-use Rattle.std.proofs.Common.{◌++◌, List, ℕ, append-nil, take, refl, sym, subst, arith}
+use Rattle.std.proofs.Common.{◌++◌, List, ℕ, append-nil, take, refl, sym, ap, subst, ◌∙◌, arith}
+use Rattle.std.proofs.lemmas.List.{take-take}
 use Rattle.cg_snap.specs.Course.{AreOfRecord}
 use Rattle.cg_snap.specs.Meter.{IsCounted}
 use Rattle.cg_snap.proofs.Courses.{advanced, front_advances, limit_stops, refused_stops}
@@ -31,3 +32,8 @@ returns-clause-advances g c form p es h =
     (advanced stream (λ s. g.R.Records.closed s form) (λ s. g.R.Records.goes_on s form) took.new.self c.args.meter.now c.count.new.self p front es used took.ensures.within h.counted counted c.count.ensures.limits h.unstopped
     (took.ensures.few form p es h.state) part (omega (arith, c.room.ensures.record, c.split_at.ensures.front_len)) (omega (arith, c.room.ensures.stream, c.split_at.ensures.front_len)) took.result.what
     (took.ensures.left form p es h.state h.counted.offset))
+
+pub returns-clause-of_record : goal.returns-clause-of_record
+returns-clause-of_record g c form p es h =
+    subst AreOfRecord {x = take c.take-progress.result.used c.split_at.result.0.now} (ap (λ (q : List ℕ). take c.take-progress.result.used q) c.split_at.ensures.front ∙ take-take c.take-progress.result.used c.room.result c.args.piece.now (omega (arith, c.take-progress.ensures.within, c.split_at.ensures.front_len)))
+    (c.take-progress.ensures.of_record form p es h.state)

@@ -12,7 +12,7 @@ loop-used-preserved g c = record {
       let w = rw c.in-NeedMore.is at (progress.ensures.advances form (p ++ take at piece) es (c.loop-used.invariant.along form p es h)) in
       rest_along (g.R.Records.stream form) progress.new.records progress.new.meter p piece c.split_at.result.1.now es at progress.result.used c.split_at.ensures.back es w;
   within = omega (arith, c.advance-progress.ensures.used, c.loop-used.invariant.within, ap length c.split_at.ensures.back, length-drop c.loop-used.used c.args.piece.now);
-  profile = c.advance-progress.ensures.profile ∙ c.loop-used.invariant.profile;
+  form = c.advance-progress.ensures.form ∙ c.loop-used.invariant.form;
   limits = c.advance-progress.ensures.limits ∙ c.loop-used.invariant.limits;
 }
 
@@ -26,6 +26,6 @@ returns-in_default g c = record {
       (progress.ensures.advances form (p ++ take at piece) es (c.loop-used.invariant.along form p es h));
   used = omega (arith, c.advance-progress.ensures.used, c.loop-used.invariant.within, ap length c.split_at.ensures.back, length-drop c.loop-used.used c.args.piece.now);
   progress = moved_by (length c.args.piece.now) (length c.split_at.result.1.now) c.loop-used.used c.advance-progress.result.used c.advance-progress.result.what c.in_default.not-NeedMore c.advance-progress.ensures.forward;
-  profile = c.advance-progress.ensures.profile ∙ c.loop-used.invariant.profile;
+  form = c.advance-progress.ensures.form ∙ c.loop-used.invariant.form;
   limits = c.advance-progress.ensures.limits ∙ c.loop-used.invariant.limits;
 }

@@ -14,7 +14,7 @@ returns-in-Ok-clause-found c form p parts h =
     let used = c.next-pulled.result.used in
     let what = rw c.in-Given.is at (c.next-pulled.ensures.pulled p h.given h.taken.stop h.taken.stands) in
     let pulled = pulled_is was.decoder now (form.0) (form.1) p h.given c.args.piece.now used h.taken
-    c.next-pulled.ensures.profile c.next-pulled.ensures.limits (events.Given c.in-Given.entry) what in
+    c.next-pulled.ensures.form c.next-pulled.ensures.limits (events.Given c.in-Given.entry) what in
     let more = c.in-Ok.ensures.kept ∙ ap (λ (e : EntryData). was.entries.items ++ ruled (e ∷ [])) c.in-Given.entry-is in
     no_more refl (record {
       given = h.given ++ c.in-Given.entry ∷ [];
@@ -30,7 +30,7 @@ returns-in-Err-clause-found c form p parts h =
     let used = c.next-pulled.result.used in
     let what = rw c.in-Given.is at (c.next-pulled.ensures.pulled p h.given h.taken.stop h.taken.stands) in
     let pulled = pulled_is was.decoder now (form.0) (form.1) p h.given c.args.piece.now used h.taken
-    c.next-pulled.ensures.profile c.next-pulled.ensures.limits (events.Given c.in-Given.entry) what in
+    c.next-pulled.ensures.form c.next-pulled.ensures.limits (events.Given c.in-Given.entry) what in
     no_more refl (keep_starved now (form.0) (form.1) p c.args.piece.now used (h.given ++ c.in-Given.entry ∷ []) parts pulled.0 c.next-pulled.ensures.used pulled.1 h.none)
 
 pub returns-in-OutOfMemory-clause-found : goal.returns-in-OutOfMemory-clause-found
@@ -38,7 +38,7 @@ returns-in-OutOfMemory-clause-found c form p parts h =
     let was = c.args.self.now in
     let what = rw c.in-OutOfMemory.is at (c.next-pulled.ensures.pulled p h.given h.taken.stop h.taken.stands) in
     let pulled = pulled_is was.decoder c.next-pulled.new.self (form.0) (form.1) p h.given c.args.piece.now c.next-pulled.result.used h.taken
-    c.next-pulled.ensures.profile c.next-pulled.ensures.limits events.OutOfMemory what in
+    c.next-pulled.ensures.form c.next-pulled.ensures.limits events.OutOfMemory what in
     no_more refl (inl (pulled.0, pulled.1, pulled.2, h.none))
 
 pub returns-in-NeedMore-clause-found : goal.returns-in-NeedMore-clause-found
@@ -46,7 +46,7 @@ returns-in-NeedMore-clause-found c form p parts h =
     let was = c.args.self.now in
     let what = rw c.in-NeedMore.is at (c.next-pulled.ensures.pulled p h.given h.taken.stop h.taken.stands) in
     let pulled = pulled_is was.decoder c.next-pulled.new.self (form.0) (form.1) p h.given c.args.piece.now c.next-pulled.result.used h.taken
-    c.next-pulled.ensures.profile c.next-pulled.ensures.limits events.NeedMore what in
+    c.next-pulled.ensures.form c.next-pulled.ensures.limits events.NeedMore what in
     no_more refl (record { given = h.given; taken = pulled; kept = h.kept; none = h.none })
 
 pub returns-in-Stopped-clause-found : goal.returns-in-Stopped-clause-found
@@ -54,5 +54,5 @@ returns-in-Stopped-clause-found c form p parts h =
     let was = c.args.self.now in
     let what = rw c.in-Stopped.is at (c.next-pulled.ensures.pulled p h.given h.taken.stop h.taken.stands) in
     let pulled = pulled_is was.decoder c.next-pulled.new.self (form.0) (form.1) p h.given c.args.piece.now c.next-pulled.result.used h.taken
-    c.next-pulled.ensures.profile c.next-pulled.ensures.limits (events.Stopped c.in-Stopped.stop) what in
+    c.next-pulled.ensures.form c.next-pulled.ensures.limits (events.Stopped c.in-Stopped.stop) what in
     no_more refl (pulled.0, pulled.1, pulled.2, h.none)

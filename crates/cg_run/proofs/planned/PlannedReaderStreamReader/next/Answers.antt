@@ -16,5 +16,5 @@ returns-clause-found c form p parts h =
     appended_is item_part (λ q items. HasTakenPlan now (form.0) (form.1) q items) (λ q items. ClosedPlan (form.0) q items) (IsPlanUnstopped (form.0) (form.1)) (PlanStopOf (form.0) (form.1))
     (taken_closed now (form.0) (form.1)) (taken_unstopped now (form.0) (form.1)) p (h.0) parts h.2 piece used c.args.out.now.items c.append_found.new.out.items
     what c.append_found.result
-    (pulled_is c.args.self.now.decoder now (form.0) (form.1) p (h.0) piece used h.1 c.next-pulled.ensures.profile c.next-pulled.ensures.limits
+    (pulled_is c.args.self.now.decoder now (form.0) (form.1) p (h.0) piece used h.1 c.next-pulled.ensures.form c.next-pulled.ensures.limits
     what (c.next-pulled.ensures.pulled p (h.0) h.1.stop h.1.stands)) c.append_found.ensures

@@ -1,0 +1,80 @@
+//! The decoder of a snapshot that leaves out what is at fault, and goes on.
+ghost use Rattle.std.specs.Prelude.{◌≡◌, ℕ, List, [], Some, None, Err, length};
+ghost use Rattle.cg_text.specs.Token.{told};
+ghost use Rattle.cg_snap.specs.GoingOn.{stream_limits};
+ghost use Rattle.cg_snap.specs.GoingOnDecoder.{GoingFinishIs, IsHeldOn, StandsOn, going_form_of, going_held_by, going_limits_of, going_stop_of};
+ghost use Rattle.cg_snap.specs.GoingOnState.{HasFound, form_of};
+ghost use Rattle.cg_snap.specs.declared.going_on.Found.{Found};
+ghost use Rattle.cg_snap.specs.declared.stop.Stop.{Stop};
+
+use crate::decoder::{Decoder, finish_records};
+use crate::going_on_records::GoingOnRecords;
+use crate::limits::Limits;
+use crate::stop::Stop;
+use cg_value::{Entry, Profile};
+use std::alloc::Global;
+
+/// A decoder of a snapshot that goes on past what is at fault. A block, which is the lines of one path that come one
+/// after another, or a line that has no path, is left out where `SnapshotDecoder` would stop in it; of every other it
+/// gives the entry. Only the limit of the whole stream stops it, and its end within a line.
+pub type GoingOnDecoder = Decoder<GoingOnRecords>;
+
+impl Decoder<GoingOnRecords> {
+    /// A decoder that consumed nothing. It takes no memory.
+    pub fn new(alloc: Global, profile: Profile, limits: Limits) -> GoingOnDecoder
+        ensures stands { StandsOn result [] [] }
+        ensures form { going_form_of result ≡ (profile, limits) }
+        ensures limits { going_limits_of result ≡ stream_limits limits }
+        ensures stop { going_stop_of result ≡ None }
+    {
+        Decoder::begin(
+            GoingOnRecords::new(alloc, profile, limits),
+            limits.of_stream(),
+        )
+    }
+
+    /// The sum of the lengths of its vectors, or `u64::MAX` where that is more. It takes no memory.
+    pub fn held(&self) -> u64
+        ensures exact { result ≡ told (going_held_by self.now) }
+        ensures held { (p : List ℕ) (found : List Found) → StandsOn self.now p found →
+            IsHeldOn (going_form_of self.now).0 (going_form_of self.now).1 p (going_held_by self.now) }
+    {
+        let block = self.records.block.held();
+        match &self.records.left_out {
+            None => block,
+            Some(path) => block.saturating_add(path.as_slice().len() as u64),
+        }
+    }
+
+    /// The entry that the end of the stream closes, if it closes one; or where a line is begun, `Cut` with the stream's
+    /// length; or the stop that came. It takes no memory.
+    pub fn finish(self) -> Result<Option<Entry>, Stop>
+        ensures finished { (p : List ℕ) (found : List Found) → going_stop_of self ≡ None → StandsOn self p found →
+            GoingFinishIs (going_form_of self).0 (going_form_of self).1 p found result }
+        ensures stuck { (s : Stop) → going_stop_of self ≡ Some s → result ≡ Err s }
+    {
+        let Decoder {
+            records,
+            meter,
+            stop,
+        } = self;
+        match stop {
+            Some(stop) => Err(stop),
+            None => finish_going_on(records, meter.offset),
+        }
+    }
+}
+
+/// What the end of a stream makes of the records.
+fn finish_going_on(records: GoingOnRecords, at: u64) -> Result<Option<Entry>, Stop>
+    ensures { (p : List ℕ) (found : List Found) → HasFound records (form_of records) p found → at ≡ length p →
+        GoingFinishIs (form_of records).0 (form_of records).1 p found result }
+{
+    if records.is_passing {
+        return Err(Stop::Cut { at });
+    }
+    match finish_records(records.block, records.meter.offset) {
+        Ok(last) => Ok(last),
+        Err(_) => Err(Stop::Cut { at }),
+    }
+}
