@@ -39,3 +39,4 @@ pub mod GoingOnLawsCloses
 pub mod GoingOnLawsKept
 pub mod GoingOnLawsTold
 pub mod GoingOnLawsFaults
+pub mod RecordPlaces

@@ -25,6 +25,7 @@ pub mod PlanState
 pub mod PlanStop
 pub mod ProfileLaws
 pub mod Pulled
+pub mod RecordPlace
 pub mod RoundTrip
 pub mod RowLaws
 pub mod Rows
