@@ -22,7 +22,7 @@ _cgfile() {
             ;;
         --max-record | --max-lines | --max-stream) return ;;
     esac
-    local options='--profile --max-record --max-lines --max-stream --help'
+    local options='--profile --max-record --max-lines --max-stream --explain --help'
     case $command in
         '')
             COMPREPLY=($(compgen -W "file setting show json plan check kinds $options --version" -- "$word"))

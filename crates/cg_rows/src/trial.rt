@@ -3,7 +3,7 @@ use crate::asked::{Asked, asked_by};
 use crate::closed::first_parts;
 use crate::row::{Claim, Faults, Reach, Row, RowFault, Told};
 use cg_print::CutSink;
-use cg_run::{CutSource, Outcome, run, run_words, status};
+use cg_run::{CutSource, Outcome, run_with, run_words, status};
 use cg_snap::Limits;
 use cg_text::ByteSet;
 use std::alloc::{AllocError, Global};
@@ -65,7 +65,15 @@ fn ran(
     source: &mut CutSource<'_>,
     sink: &mut CutSink,
 ) -> Outcome {
-    run(alloc, asked.profile, &asked.command, source, sink, limits)
+    run_with(
+        alloc,
+        asked.profile,
+        &asked.command,
+        source,
+        sink,
+        limits,
+        asked.options,
+    )
 }
 
 /// Whether these bytes stand somewhere in a text.

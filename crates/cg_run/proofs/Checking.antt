@@ -1,5 +1,6 @@
 -- What is right for a run that checks a snapshot.
-use Rattle.std.proofs.Common.{◌≡◌, ℕ, Bool, false, List, [], ◌∷◌, ◌++◌, length, map, Option, inl, inr, refl, sym, ap, subst, ◌∙◌, take, drop, ◌+◌, ◌<◌, take-append-drop, get_or}
+use Rattle.std.proofs.Common.{◌≡◌, ℕ, Bool, false, List, [], ◌∷◌, ◌++◌, length, map, Option, None, append-nil, inl, inr, refl, sym, ap, subst, ◌∙◌, take, drop, ◌+◌, ◌<◌, take-append-drop, get_or}
+use Rattle.std.proofs.Math.Seq.{take-length}
 use Rattle.std.proofs.lemmas.List.{map_more, map-append}
 use Rattle.std.specs.Io.KnownBytes.{Appends, IsAtEnd}
 use Rattle.cg_value.specs.Entry.{EntryData}
@@ -17,6 +18,7 @@ use Rattle.cg_tree.specs.RuledLaws.{told_of_ruled}
 use Rattle.cg_tree.specs.declared.finding.Finding.{Finding}
 use Rattle.cg_run.specs.Check.{HasNoParts, IsCheckRight, PartsOfAll, control_text, finding_line, finding_lines}
 use Rattle.cg_run.specs.Checked.{AreKept, AreLinesRight, HasWrittenLines, IsKeptFault}
+use Rattle.cg_run.specs.Explain.{IsInRecord, Tells, TellsSpot}
 use Rattle.cg_run.specs.Input.{Reading}
 use Rattle.cg_run.specs.Outcome.{last_line}
 use Rattle.cg_run.specs.Run.{IsCheckedRight, Wrote, joined}
@@ -73,7 +75,18 @@ nothing_written first now parts written e h = (subst (λ (ps : List (List ℕ)).
 
 -- ---- The end of the input
 
-module _ (profile : Profile) (limits : Limits) (read : List ℕ) (left : Option (List ℕ)) (failed : Bool) (first now : Option (List ℕ)) (write_failed : Bool)
+-- Lines that were written are no stop.
+lines_tell : (explain : Bool) (L : List ℕ → Type 0) (r : Reading) (lines : List (List ℕ)) (o : Outcome) (parts : List (List ℕ)) → AreLinesRight lines o parts → Tells L IsInRecord explain r o []
+lines_tell explain L r lines out.Done parts h = refl
+lines_tell explain L r lines (out.Findings n) parts h = refl
+lines_tell explain L r lines (out.Stopped s) parts h = absurd h
+lines_tell explain L r lines out.NotReadable parts h = refl
+lines_tell explain L r lines out.NotWritable parts h = refl
+lines_tell explain L r lines out.ReadFault parts h = refl
+lines_tell explain L r lines (out.WriteFault n) parts h = refl
+lines_tell explain L r lines out.OutOfMemory parts h = refl
+
+module _ (explain : Bool) (profile : Profile) (limits : Limits) (read : List ℕ) (left : Option (List ℕ)) (failed : Bool) (first now : Option (List ℕ)) (write_failed : Bool)
     (ended : IsAtEnd left) (works : failed ≡ false) (unstopped : IsSnapUnstopped profile limits read) where
   abbrev r : Reading
   r = record { bytes = read; left = left; failed = failed }
@@ -85,17 +98,19 @@ module _ (profile : Profile) (limits : Limits) (read : List ℕ) (left : Option 
   done es t = record { ended = (ended, works); unstopped = unstopped; whole = (es, t, refl) }
 
   lines_are : (es : List EntryData) (o : Outcome) → SnapText profile es read → HasWrittenLines (finding_lines es) first now write_failed o →
-      EndsSo (IsCheckedRight profile limits) read left failed first now write_failed o
+      EndsSo (IsCheckedRight profile limits) (Tells (Snap profile) IsInRecord explain) read left failed first now write_failed o
   lines_are es o t h = record {
     wanted = h.wanted;
     parts = h.parts;
     right = lines_checked Whole HasNoParts (IsSnapUnstopped profile limits) (SnapStopOf profile limits) r (finding_lines es) (done es t) h.wanted h.parts h.right;
-    wrote = h.wrote;
+    more = [];
+    tells = lines_tell explain (Snap profile) r (finding_lines es) h.wanted h.parts h.right;
+    wrote = subst (λ (t : List ℕ). Wrote first now write_failed (joined h.parts ++ t) h.wanted o) (sym (append-nil (last_line h.wanted))) h.wrote;
   }
 
   -- The lines of the findings were written.
   pub lines_end : (kept seen shown : List EntryData) (found told : List Finding) (o : Outcome) → AreKept profile read kept → seen ≡ kept → shown ≡ kept → found ≡ find seen → told ≡ found →
-      HasWrittenLines (map (finding_line shown) told) first now write_failed o → EndsSo (IsCheckedRight profile limits) read left failed first now write_failed o
+      HasWrittenLines (map (finding_line shown) told) first now write_failed o → EndsSo (IsCheckedRight profile limits) (Tells (Snap profile) IsInRecord explain) read left failed first now write_failed o
   lines_end kept seen shown found told o t e f g k h =
       let all : map (finding_line shown) told ≡ finding_lines t.given =
       ap (map (finding_line shown)) (k ∙ g) ∙ ap (λ xs. map (finding_line xs) (find seen)) f ∙ ap (λ xs. map (finding_line kept) (find xs)) e ∙ ap finding_lines t.kept_are ∙ lines_of_ruled t.given in
@@ -103,19 +118,28 @@ module _ (profile : Profile) (limits : Limits) (read : List ℕ) (left : Option 
 
   -- No memory was left for the entries of a snapshot, or for what they break.
   pub memory_end : (o : Outcome) → Snap profile read → Wrote first now write_failed (last_line out.OutOfMemory) out.OutOfMemory o →
-      EndsSo (IsCheckedRight profile limits) read left failed first now write_failed o
-  memory_end o t w = record { wanted = out.OutOfMemory; parts = []; right = inr (finding_lines t.0, done t.0 t.1); wrote = w }
+      EndsSo (IsCheckedRight profile limits) (Tells (Snap profile) IsInRecord explain) read left failed first now write_failed o
+  memory_end o t w = record { wanted = out.OutOfMemory; parts = []; right = inr (finding_lines t.0, done t.0 t.1); more = []; tells = refl; wrote = w }
 
   -- The input ended before a snapshot did.
-  pub cut_end : (s : Stop) (o : Outcome) → IsKeptFault profile read (faults.Stopped s) → Wrote first now write_failed (last_line (out.Stopped s)) (out.Stopped s) o →
-      EndsSo (IsCheckedRight profile limits) read left failed first now write_failed o
-  cut_end (stops.Refused at why) o f w = absurd f
-  cut_end (stops.TooLong at) o f w = absurd f
-  cut_end (stops.TooMany at) o f w = absurd f
-  cut_end (stops.TooMuch at) o f w = absurd f
-  cut_end (stops.Cut at) o f w = record {
-    wanted = out.Stopped (stops.Cut at);
-    parts = [];
-    right = record { ended = (ended, works); unstopped = unstopped; not_whole = λ all x. f.1 (x.0, x.1); at_end = f.0; closed = refl };
-    wrote = w;
-  }
+  pub cut_end : (at : ℕ) (o : Outcome) (more : List ℕ) → at ≡ length read → (Snap profile read → ⊥) → TellsSpot (Snap profile) IsInRecord explain read None (stops.Cut at) more →
+      Wrote first now write_failed (last_line (out.Stopped (stops.Cut at)) ++ more) (out.Stopped (stops.Cut at)) o →
+      EndsSo (IsCheckedRight profile limits) (Tells (Snap profile) IsInRecord explain) read left failed first now write_failed o
+  cut_end at o more e n t w =
+      let all : take at read ≡ read = ap (λ (k : ℕ). take k read) e ∙ take-length read in
+      record {
+        wanted = out.Stopped (stops.Cut at);
+        parts = [];
+        right = record { ended = (ended, works); unstopped = unstopped; not_whole = λ all x. n (x.0, x.1); at_end = e; closed = refl };
+        more = more;
+        tells = subst (λ (p : List ℕ). TellsSpot (Snap profile) IsInRecord explain p None (stops.Cut at) more) (sym all) t;
+        wrote = w;
+      }
+
+-- A whole snapshot isn't cut.
+pub never_kept : (profile : Profile) (read : List ℕ) (s : Stop) → Snap profile read → IsKeptFault profile read (faults.Stopped s) → ⊥
+never_kept profile read (stops.Refused at why) x h = h
+never_kept profile read (stops.TooLong at) x h = h
+never_kept profile read (stops.TooMany at) x h = h
+never_kept profile read (stops.TooMuch at) x h = h
+never_kept profile read (stops.Cut at) x h = h.1 x

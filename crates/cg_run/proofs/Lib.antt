@@ -24,3 +24,9 @@ pub mod Took
 pub mod WordsTold
 pub mod Written
 pub mod WrittenOut
+pub mod ByteTold
+pub mod Lined
+pub mod SpotTold
+pub mod Spots
+pub mod WithoutOptions
+pub mod Standing

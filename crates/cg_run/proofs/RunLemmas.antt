@@ -1,13 +1,14 @@
 -- What is right for a run.
-use Rattle.std.proofs.Common.{◌≡◌, ℕ, Bool, false, inr, List, [], Option, refl}
+use Rattle.std.proofs.Common.{◌≡◌, ℕ, Bool, false, inr, List, [], Option, refl, append-nil, sym, subst}
 use Rattle.std.specs.Io.KnownBytes.{IsAtEnd}
 use Rattle.cg_text.specs.Texts.{TextOf}
 use Rattle.cg_snap.specs.Stop.{IsTextUnstopped, TextStopOf}
 use Rattle.cg_snap.specs.declared.stop.Stop.{Stop}
 use Rattle.cg_snap.specs.declared.stop.Stop.TheVariants as stop
+use Rattle.cg_run.specs.Explain.{Tells}
 use Rattle.cg_run.specs.Outcome.{last_line}
 use Rattle.cg_run.specs.Input.{Reading}
-use Rattle.cg_run.specs.Run.{IsTextStop, IsTextRight, IsRealFault, Wrote, DidRun}
+use Rattle.cg_run.specs.Run.{IsTextStop, IsTextRight, IsRealFault, Wrote, DidRunWith}
 use Rattle.cg_run.specs.Ended.{IsEndRight}
 use Rattle.cg_run.specs.declared.outcome.Outcome.{Outcome}
 use Rattle.cg_run.specs.declared.outcome.Outcome.TheVariants as out
@@ -50,8 +51,8 @@ wrote_real taken now failed text wanted (out.WriteFault n) h = h.4
 wrote_real taken now failed text wanted out.OutOfMemory h = tt
 
 -- Nothing was read, and the last line alone was written.
-pub idle_ran : (Right : Reading → Outcome → List (List ℕ) → Type 0) (coming : Option (List ℕ)) (read_failed : Bool) (taken now : Option (List ℕ)) (write_failed : Bool) (wanted o : Outcome) →
-    Right (record { bytes = []; left = coming; failed = read_failed }) wanted [] → Wrote taken now write_failed (last_line wanted) wanted o →
-    DidRun Right coming coming read_failed taken now write_failed o
-idle_ran Right coming read_failed taken now write_failed wanted o right wrote =
-    record { read = []; consumed = Consumes-nil coming; wanted = wanted; parts = []; right = right; wrote = wrote }
+pub idle_ran : (Right : Reading → Outcome → List (List ℕ) → Type 0) (Tells : Reading → Outcome → List ℕ → Type 0) (coming : Option (List ℕ)) (read_failed : Bool) (taken now : Option (List ℕ)) (write_failed : Bool) (wanted o : Outcome) →
+    Right (record { bytes = []; left = coming; failed = read_failed }) wanted [] → Tells (record { bytes = []; left = coming; failed = read_failed }) wanted [] → Wrote taken now write_failed (last_line wanted) wanted o →
+    DidRunWith Right Tells coming coming read_failed taken now write_failed o
+idle_ran Right Tells coming read_failed taken now write_failed wanted o right tells wrote =
+    record { read = []; consumed = Consumes-nil coming; wanted = wanted; parts = []; right = right; more = []; tells = tells; wrote = subst (λ (t : List ℕ). Wrote taken now write_failed t wanted o) (sym (append-nil (last_line wanted))) wrote }

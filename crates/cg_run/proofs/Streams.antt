@@ -1,6 +1,7 @@
 -- What is right for a run over a stream.
-use Rattle.std.proofs.Common.{◌≡◌, ◌≢◌, ℕ, ◌+◌, ◌<◌, ◌≤◌, ◌⊎◌, Bool, true, false, List, [], ◌∷◌, ◌++◌, length, take, drop, Option, sym, ap, subst, ◌∙◌, append_assoc, append-nil, arith, inl, inr}
+use Rattle.std.proofs.Common.{◌≡◌, ◌≢◌, ℕ, ◌+◌, ◌<◌, ◌≤◌, ◌⊎◌, Bool, true, false, List, [], ◌∷◌, ◌++◌, length, take, drop, get_or, Option, Some, None, refl, sym, ap, subst, ◌∙◌, append_assoc, append-nil, arith, inl, inr}
 use Rattle.std.proofs.Common.{length-append, length-drop, length-take, take-append-drop}
+use Rattle.std.proofs.lemmas.List.{get_or-append-add}
 use Rattle.std.proofs.Math.Seq.{take-add, take-append-add, take-length}
 use Rattle.std.specs.Io.KnownBytes.{IsAtEnd}
 use Rattle.cg_snap.specs.Stop.{place_of}
@@ -8,6 +9,7 @@ use Rattle.cg_snap.specs.declared.event.Event.{Event}
 use Rattle.cg_snap.specs.declared.event.Event.TheVariants as events
 use Rattle.cg_snap.specs.declared.stop.Stop.{Stop}
 use Rattle.cg_snap.specs.declared.stop.Stop.TheVariants as stops
+use Rattle.cg_run.specs.Explain.{IsInRecord, Tells, TellsSpot, TellsStop}
 use Rattle.cg_run.specs.Input.{Reading}
 use Rattle.cg_run.specs.Outcome.{last_line}
 use Rattle.cg_run.specs.Output.{Holds}
@@ -34,6 +36,28 @@ some_part (first ∷ parts) part = λ e. cc
 some_more : (parts more : List (List ℕ)) → more ≢ [] → parts ++ more ≢ []
 some_more [] more some = some
 some_more (first ∷ parts) more some = λ e. cc
+
+-- A limit isn't explained.
+module _ (L : List ℕ → Type 0) (p : List ℕ) (what : Option ℕ) (place : ℕ) (more : List ℕ) where
+  long_tells : (explain : Bool) → TellsSpot L IsInRecord explain p what (stops.TooLong place) more → more ≡ []
+  long_tells true t = t
+  long_tells false t = t
+
+  many_tells : (explain : Bool) → TellsSpot L IsInRecord explain p what (stops.TooMany place) more → more ≡ []
+  many_tells true t = t
+  many_tells false t = t
+
+  much_tells : (explain : Bool) → TellsSpot L IsInRecord explain p what (stops.TooMuch place) more → more ≡ []
+  much_tells true t = t
+  much_tells false t = t
+
+-- A whole stream isn't cut.
+pub never_cut : (Whole : List ℕ → List (List ℕ) → Type 0) (p : List ℕ) (s : Stop) (all : List (List ℕ)) → Whole p all → IsCutAt Whole p s → ⊥
+never_cut Whole p (stops.Refused at why) all x h = h
+never_cut Whole p (stops.TooLong at) all x h = h
+never_cut Whole p (stops.TooMany at) all x h = h
+never_cut Whole p (stops.TooMuch at) all x h = h
+never_cut Whole p (stops.Cut at) all x h = h.1 all x
 
 module _ (Took Whole Closes : List ℕ → List (List ℕ) → Type 0) (Unstopped : List ℕ → Type 0) (StopsBy : List ℕ → Stop → Type 0) where
   abbrev Early : Reading → Outcome → List (List ℕ) → Type 0
@@ -97,14 +121,14 @@ module _ (Took Whole Closes : List ℕ → List (List ℕ) → Type 0) (Unstoppe
   goes_on read piece used all what (inl e) h = subst (LeadsTo Closes Unstopped Took StopsBy read all piece used) e h
   goes_on read piece used all what (inr e) h = subst (LeadsTo Closes Unstopped Took StopsBy read all piece used) e.1 h
 
-  -- ---- A piece, of which so many bytes were consumed
+  -- ---- A piece, of which so many bytes were consumed. L is the set of the streams.
 
-  module _ (read piece : List ℕ) (used : ℕ) (within : used ≤ length piece) (left : Option (List ℕ)) (failed : Bool) (first now : Option (List ℕ)) (write_failed : Bool) (parts : List (List ℕ)) (o : Outcome) where
+  module _ (explain : Bool) (L : List ℕ → Type 0) (read piece : List ℕ) (used : ℕ) (within : used ≤ length piece) (left : Option (List ℕ)) (failed : Bool) (first now : Option (List ℕ)) (write_failed : Bool) (parts : List (List ℕ)) (o : Outcome) where
     abbrev r : Reading
     r = record { bytes = read ++ piece; left = left; failed = failed }
 
     abbrev Ends : Type 0
-    Ends = EndsSo Early (read ++ piece) left failed first now write_failed o
+    Ends = EndsSo Early (Tells L IsInRecord explain) (read ++ piece) left failed first now write_failed o
 
     front : (m : ℕ) → take (length read + m) (read ++ piece) ≡ read ++ take m piece
     front m = take-append-add read piece m
@@ -129,6 +153,8 @@ module _ (Took Whole Closes : List ℕ → List (List ℕ) → Type 0) (Unstoppe
       wanted = out.OutOfMemory;
       parts = parts;
       right = starved [] u (rw (append-nil parts) c) (inr (rw (append-nil parts) some));
+      more = [];
+      tells = refl;
       wrote = w (last_line out.OutOfMemory) out.OutOfMemory;
     }
 
@@ -139,12 +165,31 @@ module _ (Took Whole Closes : List ℕ → List (List ℕ) → Type 0) (Unstoppe
     stop_right (stops.TooMuch place) b x c = record { stops = x; closed = c }
     stop_right (stops.Cut place) b x c = absurd b
 
-    pub stop_ends : (s : Stop) → LeadsTo Closes Unstopped Took StopsBy read parts piece used (events.Stopped s) →
-        Wrote first now write_failed (joined parts ++ last_line (out.Stopped s)) (out.Stopped s) o → Ends
-    stop_ends s h w = record {
+    -- The byte of the piece behind those that were consumed.
+    next_byte : get_or (read ++ piece) (length read + used) 0 ≡ get_or piece used 0
+    next_byte = get_or-append-add read piece used 0
+
+    -- What is told of a stop there is told of it in all bytes.
+    stop_tells : (s : Stop) (what : Option ℕ) (more : List ℕ) → IsByteStop s → place_of s ≡ length read + used → what ≡ Some (get_or piece used 0) → used < length piece →
+        TellsSpot L IsInRecord explain (read ++ take used piece) what s more → TellsStop L IsInRecord explain (read ++ piece) s more
+    stop_tells (stops.Refused place why) what more b e k some t =
+        let same : take place (read ++ piece) ≡ read ++ take used piece = ap (λ (n : ℕ). take n (read ++ piece)) e ∙ front used in
+        let byte : get_or (read ++ piece) place 0 ≡ get_or piece used 0 = ap (λ (n : ℕ). get_or (read ++ piece) n 0) e ∙ next_byte in
+        rw (same, byte, ← k) t
+    stop_tells (stops.TooLong place) what more b e k some t = long_tells L (read ++ take used piece) what place more explain t
+    stop_tells (stops.TooMany place) what more b e k some t = many_tells L (read ++ take used piece) what place more explain t
+    stop_tells (stops.TooMuch place) what more b e k some t = much_tells L (read ++ take used piece) what place more explain t
+    stop_tells (stops.Cut place) what more b e k some t = absurd b
+
+    pub stop_ends : (s : Stop) (what : Option ℕ) (more : List ℕ) → LeadsTo Closes Unstopped Took StopsBy read parts piece used (events.Stopped s) →
+        what ≡ Some (get_or piece used 0) → used < length piece → TellsSpot L IsInRecord explain (read ++ take used piece) what s more →
+        Wrote first now write_failed (joined parts ++ (last_line (out.Stopped s) ++ more)) (out.Stopped s) o → Ends
+    stop_ends s what more h k some t w = record {
       wanted = out.Stopped s;
       parts = parts;
       right = stop_right s h.0 h.1 (rw (h.2, front used) h.3);
+      more = more;
+      tells = stop_tells s what more h.0 h.2 k some t;
       wrote = w;
     }
 
@@ -155,18 +200,18 @@ module _ (Took Whole Closes : List ℕ → List (List ℕ) → Type 0) (Unstoppe
     memory_right (inr h) = starved (h.0) h.2 h.3 (inr (some_more parts (h.0) h.1))
 
     pub memory_ends : WantsMemory Closes Unstopped read parts piece used → Wrote first now write_failed (joined parts ++ last_line out.OutOfMemory) out.OutOfMemory o → Ends
-    memory_ends h w = record { wanted = out.OutOfMemory; parts = parts; right = memory_right h; wrote = w }
+    memory_ends h w = record { wanted = out.OutOfMemory; parts = parts; right = memory_right h; more = []; tells = refl; wrote = w }
 
   -- ---- The end of the input
 
-  module _ (read : List ℕ) (left : Option (List ℕ)) (failed : Bool) (first now : Option (List ℕ)) (write_failed : Bool) (parts : List (List ℕ)) (unstopped : Unstopped read) (closed : Closes read parts) where
-    pub read_fault_ends : (o : Outcome) → failed ≡ true → Wrote first now write_failed (joined parts ++ last_line out.ReadFault) out.ReadFault o → EndsSo Early read left failed first now write_failed o
-    read_fault_ends o f w = record { wanted = out.ReadFault; parts = parts; right = record { unstopped = unstopped; failed = f; closed = closed }; wrote = w }
+  module _ (explain : Bool) (L : List ℕ → Type 0) (read : List ℕ) (left : Option (List ℕ)) (failed : Bool) (first now : Option (List ℕ)) (write_failed : Bool) (parts : List (List ℕ)) (unstopped : Unstopped read) (closed : Closes read parts) where
+    pub read_fault_ends : (o : Outcome) → failed ≡ true → Wrote first now write_failed (joined parts ++ last_line out.ReadFault) out.ReadFault o → EndsSo Early (Tells L IsInRecord explain) read left failed first now write_failed o
+    read_fault_ends o f w = record { wanted = out.ReadFault; parts = parts; right = record { unstopped = unstopped; failed = f; closed = closed }; more = []; tells = refl; wrote = w }
 
     module _ (ended : IsAtEnd left) (works : failed ≡ false) where
       -- The stream is whole, and has these parts.
-      pub done_ends : (all : List (List ℕ)) (o : Outcome) → Whole read all → Wrote first now write_failed (joined all ++ []) out.Done o → EndsSo Right read left failed first now write_failed o
-      done_ends all o whole w = record { wanted = out.Done; parts = all; right = record { ended = (ended, works); unstopped = unstopped; whole = whole }; wrote = w }
+      pub done_ends : (all : List (List ℕ)) (o : Outcome) → Whole read all → Wrote first now write_failed (joined all ++ []) out.Done o → EndsSo Right (Tells L IsInRecord explain) read left failed first now write_failed o
+      done_ends all o whole w = record { wanted = out.Done; parts = all; right = record { ended = (ended, works); unstopped = unstopped; whole = whole }; more = []; tells = refl; wrote = w }
 
       cut_right : (s : Stop) → IsCutAt Whole read s → IsStreamStop Whole Closes Unstopped StopsBy (record { bytes = read; left = left; failed = failed }) s parts
       cut_right (stops.Refused place why) h = absurd h
@@ -175,12 +220,15 @@ module _ (Took Whole Closes : List ℕ → List (List ℕ) → Type 0) (Unstoppe
       cut_right (stops.TooMuch place) h = absurd h
       cut_right (stops.Cut place) h = record { ended = (ended, works); unstopped = unstopped; not_whole = h.1; at_end = h.0; closed = closed }
 
-      pub cut_ends : (s : Stop) (o : Outcome) → IsCutAt Whole read s → Wrote first now write_failed (joined parts ++ last_line (out.Stopped s)) (out.Stopped s) o → EndsSo Right read left failed first now write_failed o
-      cut_ends s o h w = record { wanted = out.Stopped s; parts = parts; right = cut_right s h; wrote = w }
+      pub cut_ends : (at : ℕ) (o : Outcome) (more : List ℕ) → IsCutAt Whole read (stops.Cut at) → TellsSpot L IsInRecord explain read None (stops.Cut at) more →
+          Wrote first now write_failed (joined parts ++ (last_line (out.Stopped (stops.Cut at)) ++ more)) (out.Stopped (stops.Cut at)) o → EndsSo Right (Tells L IsInRecord explain) read left failed first now write_failed o
+      cut_ends at o more h t w =
+          let all : take at read ≡ read = ap (λ (n : ℕ). take n read) h.0 ∙ take-length read in
+          record { wanted = out.Stopped (stops.Cut at); parts = parts; right = cut_right (stops.Cut at) h; more = more; tells = rw all t; wrote = w }
 
       pub last_memory_ends : (part : List ℕ) (o : Outcome) → Whole read (parts ++ part ∷ []) →
           Wrote first now write_failed (joined parts ++ last_line out.OutOfMemory) out.OutOfMemory o →
-          EndsSo Right read left failed first now write_failed o
+          EndsSo Right (Tells L IsInRecord explain) read left failed first now write_failed o
       last_memory_ends part o whole w = record {
         wanted = out.OutOfMemory;
         parts = parts;
@@ -192,5 +240,7 @@ module _ (Took Whole Closes : List ℕ → List (List ℕ) → Type 0) (Unstoppe
           has = inr (record { ended = (ended, works); unstopped = unstopped; whole = whole });
           wants = inr (some_part parts part);
         };
+        more = [];
+        tells = refl;
         wrote = w;
       }

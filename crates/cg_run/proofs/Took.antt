@@ -1,7 +1,7 @@
 -- How a piece is taken.
-use Rattle.std.proofs.Common.{◌≡◌, ℕ, zero, suc, Bool, ◌+◌, ◌-◌, ◌<◌, ◌≤◌, List, [], ◌∷◌, ◌++◌, take, drop, length, get_or, Option, Some, None, refl, sym, ap, ◌∙◌, append_assoc, append-nil, arith, length-append, length-drop, length-take}
-use Rattle.std.proofs.Math.Seq.{take-add, take-append_seam}
-use Rattle.std.proofs.lemmas.List.{get_or-drop, get_or-take, take_min}
+use Rattle.std.proofs.Common.{◌≡◌, ℕ, zero, suc, Bool, ◌+◌, ◌-◌, ◌<◌, ◌≤◌, List, [], ◌∷◌, ◌++◌, take, drop, length, get_or, Option, Some, None, refl, sym, ap, subst, ◌∙◌, append_assoc, append-nil, arith, length-append, length-drop, length-take}
+use Rattle.std.proofs.Math.Seq.{take-add, take-append-add, take-append_seam}
+use Rattle.std.proofs.lemmas.List.{get_or-append-add, get_or-drop, get_or-take, take_min}
 use Rattle.std.specs.Io.KnownBytes.{Consumes, Keeps}
 use Rattle.cg_text.specs.Texts.{Viable, Next}
 use Rattle.cg_line.specs.declared.push.PushFault.{PushFault}
@@ -12,9 +12,12 @@ use Rattle.cg_snap.specs.declared.stop.Stop.{Stop}
 use Rattle.cg_snap.specs.declared.stop.Stop.TheVariants.{Refused}
 use Rattle.cg_snap.specs.declared.stop.Why.TheVariants.{Line}
 use Rattle.cg_run.specs.Run.{IsTextStarved}
-use Rattle.cg_run.specs.Reading.{ending_of, GoesOn, TookPiece, EndsBy}
+use Rattle.cg_run.specs.Lines.{AreBehind}
+use Rattle.cg_run.specs.Reading.{AreBehindEnding, ending_of, GoesOn, TookPiece, EndsBy}
+use Rattle.cg_run.specs.declared.lines.Lines.{Lines}
 use Rattle.cg_run.specs.declared.reading.Ending.{Ending}
 use Rattle.cg_run.specs.declared.reading.Ending.TheVariants.{End, Stopped, ReadFault, OutOfMemory}
+use Rattle.cg_run.specs.Streaming.{HasWritten}
 use Rattle.cg_run.proofs.Stops.{unstopped, stop_refused, stop_longer, piece_at}
 
 -- L is the set of the texts, and Took says of some bytes that the reader took them.
@@ -50,6 +53,14 @@ module _ (Took : List ℕ → Type 0) (max : ℕ) (taken piece : List ℕ) where
 pub place_is : (taken piece : List ℕ) (i : ℕ) → i < length piece → length (taken ++ take i piece) ≡ length taken + i
 place_is taken piece i within = omega (arith, length-append taken (take i piece), length-take i piece)
 
+-- ---- The bytes up to one of the piece
+
+pub front_at : (taken piece : List ℕ) (n place : ℕ) → place ≡ length taken + n → take place (taken ++ piece) ≡ taken ++ take n piece
+front_at taken piece n place e = ap (λ (k : ℕ). take k (taken ++ piece)) e ∙ take-append-add taken piece n
+
+pub byte_at : (taken piece : List ℕ) (n place : ℕ) → place ≡ length taken + n → get_or (taken ++ piece) place 0 ≡ get_or piece n 0
+byte_at taken piece n place e = ap (λ (k : ℕ). get_or (taken ++ piece) k 0) e ∙ get_or-append-add taken piece n 0
+
 -- ---- A run of the piece's bytes: so many of those in front of what is left of it
 
 take_less : (n m : ℕ) (xs : List ℕ) → n ≤ m → take n (take m xs) ≡ take n xs
@@ -83,14 +94,34 @@ module _ (piece rest front : List ℕ) (used n : ℕ) (rest_is : rest ≡ drop u
   pub run_stopped : (L Took : List ℕ → Type 0) → ((taken : List ℕ) → Took taken → Viable L taken) →
       (max at place : ℕ) (taken : List ℕ) (fault : PushFault) → at ≡ length taken → place ≡ at + used →
       used ≤ length piece → place + length front ≤ max → n ≤ length front →
-      Took ((taken ++ take used piece) ++ take n front) → StopsAt L (taken ++ take used piece) front n (Some fault) → TookPiece L Took max taken piece (Some (ending_of fault (place + n)))
-  run_stopped L Took viable max at place taken push.Refused e f here room most h stops =
+      Took ((taken ++ take used piece) ++ take n front) → StopsAt L (taken ++ take used piece) front n (Some fault) → (byte : Option ℕ) → (used + n < length piece → byte ≡ Some (get_or piece (used + n) 0)) → TookPiece L Took max taken piece (Some (ending_of fault (place + n) byte))
+  run_stopped L Took viable max at place taken push.Refused e f here room most h stops byte b =
       let same : (taken ++ take used piece) ++ take n front ≡ taken ++ take (used + n) piece = append_assoc taken (take used piece) (take n front) ∙ ap (λ t. taken ++ t) (sym (run_front most)) in
       let goes = goes_run Took max taken most (omega (arith, e, f, room, most)) h in
-      piece_refused L Took viable max taken piece (used + n) (place + n) (omega (arith, stops.0, front_within, here)) (omega (arith, e, f)) goes (rw (same, front_byte stops.0) at stops.2)
-  run_stopped L Took viable max at place taken push.OutOfMemory e f here room most h stops =
+      let refused = piece_refused L Took viable max taken piece (used + n) (place + n) (omega (arith, stops.0, front_within, here)) (omega (arith, e, f)) goes (rw (same, front_byte stops.0) at stops.2) in
+      let back : place + n ≡ length taken + (used + n) = omega (arith, e, f) in
+      record {
+        stops = refused;
+        took = subst Took (sym (front_at taken piece (used + n) (place + n) back)) goes.0;
+        within = omega (arith, room, most);
+        byte_is = b (omega (arith, stops.0, front_within, here)) ∙ ap (λ (x : ℕ). Some x) (sym (byte_at taken piece (used + n) (place + n) back));
+      }
+  run_stopped L Took viable max at place taken push.OutOfMemory e f here room most h stops byte b =
       let same : (taken ++ take used piece) ++ take n front ≡ taken ++ take (used + n) piece = append_assoc taken (take used piece) (take n front) ∙ ap (λ t. taken ++ t) (sym (run_front most)) in
       piece_starved L max taken piece (used + n) (omega (arith, stops.0, front_within, here)) (omega (arith, e, f, room, stops.0)) (rw (same, front_byte stops.0) at stops.2)
+
+-- The lines up to a byte that wasn't taken.
+pub ended_behind : (taken piece : List ℕ) (n place : ℕ) (lines : Option Lines) (fault : PushFault) (byte : Option ℕ) → place ≡ length taken + n → AreBehind lines (taken ++ take n piece) →
+    AreBehindEnding lines (taken ++ piece) (ending_of fault place byte)
+ended_behind taken piece n place lines push.Refused byte e h = subst (AreBehind lines) (sym (front_at taken piece n place e)) h
+ended_behind taken piece n place lines push.OutOfMemory byte e h = tt
+
+-- The byte in front of what is behind so many.
+pub byte_behind : (piece rest : List ℕ) (k : ℕ) (byte : Option ℕ) → rest ≡ drop k piece → (0 < length rest → byte ≡ Some (get_or rest 0 0)) → k < length piece → byte ≡ Some (get_or piece k 0)
+byte_behind piece rest k byte e h within =
+    let left : length rest ≡ length (drop k piece) = ap length e in
+    let none : k + 0 ≡ k = omega arith in
+    h (omega (arith, left, length-drop k piece, within)) ∙ ap (λ (x : ℕ). Some x) (ap (λ (t : List ℕ). get_or t 0 0) e ∙ get_or-drop k piece 0 0 ∙ ap (λ (n : ℕ). get_or piece n 0) none)
 
 module _ (L : List ℕ → Type 0) (max : ℕ) (taken piece : List ℕ) where
   -- A stop at a byte of the piece.
@@ -101,9 +132,14 @@ module _ (L : List ℕ → Type 0) (max : ℕ) (taken piece : List ℕ) where
   -- Why a piece wasn't taken whole ends reading.
   pub ended_piece : (Took : List ℕ → Type 0) (left : Option (List ℕ)) (failed : Bool) (e : Ending) → TookPiece L Took max taken piece (Some e) → EndsBy L Took max (taken ++ piece) left failed e
   ended_piece Took left failed (End at) h = absurd h
-  ended_piece Took left failed (Stopped stop) h = h
+  ended_piece Took left failed (Stopped stop byte) h = h
   ended_piece Took left failed ReadFault h = absurd h
   ended_piece Took left failed OutOfMemory h = h
+
+-- What a sink took, of which nothing was written.
+pub nothing_written : (first : Option (List ℕ)) → HasWritten first first [] 0
+nothing_written None = (tt, refl)
+nothing_written (Some x) = (sym (append-nil x), refl)
 
 -- What a source gives.
 pub Consumes-nil : (a : Option (List ℕ)) → Consumes a a []

@@ -5,9 +5,7 @@ use Rattle.std.specs.declared.io.ErrorKind.{ErrorKind as IoKind}
 use Rattle.clap.specs.Words.{Row, Text, Kinds as Errors, IsAmong, fault_of, subcommand_of}
 use Rattle.clap.specs.declared.error.kind.ErrorKind.{ErrorKind}
 use Rattle.clap.specs.declared.error.kind.ErrorKind.TheVariants as errors
-use Rattle.cg_value.specs.declared.profile.Profile.{Profile}
-use Rattle.cg_snap.specs.declared.limits.Limits.{Limits}
-use Rattle.cg_run.specs.declared.words.Command.{Command}
+use Rattle.cg_run.specs.declared.words.Request.{Request}
 use Rattle.cg_run.specs.declared.words.UsageFault.{UsageFault}
 use Rattle.cg_run.specs.declared.words.UsageFault.TheVariants.{Help, Bad, OutOfMemory}
 use Rattle.cg_run.specs.CommandLine.{cgfile_app}
@@ -18,7 +16,7 @@ pub ok_always : {X E : Type 0} (r : Result X E) (P : Type 0) → P → IfOk r (�
 ok_always (Ok x) P p = p
 ok_always (Err e) P p = tt
 
-pub made_alike : (rows rows' : List Row) (sub sub' : Option (Text × List Row)) (r : Profile × Command × Limits) → rows ≡ rows' → sub ≡ sub' → IsMade rows sub r → IsMade rows' sub' r
+pub made_alike : (rows rows' : List Row) (sub sub' : Option (Text × List Row)) (r : Request) → rows ≡ rows' → sub ≡ sub' → IsMade rows sub r → IsMade rows' sub' r
 made_alike rows rows' sub sub' r e f made = rw (← e, ← f) made
 
 pub refusal_told : (kinds : Errors) (sub : Option (Text × List Row)) (fault : UsageFault) → kinds ≡ [] → IsRefusal sub fault → IsTold kinds sub fault
@@ -43,7 +41,7 @@ told_says kinds sub (Help text) told = told.2.1
 told_says kinds sub Bad told = omega arith
 told_says kinds sub OutOfMemory told = omega arith
 
-pub answer_says : (words : List Text) (answer : Result (Profile × Command × Limits) UsageFault) → Answers words answer → IfErr answer (λ fault. 0 < length (fault_text fault))
+pub answer_says : (words : List Text) (answer : Result Request UsageFault) → Answers words answer → IfErr answer (λ fault. 0 < length (fault_text fault))
 answer_says words (Ok asked_for) h = tt
 answer_says words (Err fault) h = told_says (fault_of (cgfile_app h.0) words) (subcommand_of (cgfile_app h.0) words) fault h.1.told
 

@@ -31,23 +31,24 @@ profile_rule names = record (new_rule (codes "profile")) {
   value_names = 1;
 }
 
--- `--known`, which has no value
-abbrev pub known_rule : Rule
-known_rule = record (new_rule (codes "known")) { long = Some (codes "known"); action = Some SetTrue }
+-- `--NAME`, which has no value
+abbrev pub flag_rule : Text → Rule
+flag_rule name = record (new_rule name) { long = Some name; action = Some SetTrue }
 
 abbrev pub name_rule : Rule
 name_rule = record (new_rule (codes "NAME")) { action = Some Set; required = true }
 
 -- the options that stand before a command's word and after it
 abbrev pub with_options : Lent → App → App
-with_options names a = with_rule (with_rule (with_rule (with_rule a (profile_rule names))
+with_options names a = with_rule (with_rule (with_rule (with_rule (with_rule a (profile_rule names))
     (count_rule (codes "max-record")))
     (count_rule (codes "max-lines")))
-    (count_rule (codes "max-stream"))
+    (count_rule (codes "max-stream")))
+    (flag_rule (codes "explain"))
 
 -- NAME and `--known`, where a file is named
 abbrev pub with_name : (takes_name : Bool) → App → App
-with_name takes_name a = if takes_name then with_rule (with_rule a name_rule) known_rule else a
+with_name takes_name a = if takes_name then with_rule (with_rule a name_rule) (flag_rule (codes "known")) else a
 
 -- the words of the commands, and which of them name a file
 abbrev pub commands : List (Text × Bool)

@@ -2,6 +2,8 @@
 use Rattle.std.specs.Prelude.{◌≡◌, ℕ, Bool, List, [], ◌∷◌, ◌++◌, length, Option}
 use Rattle.cg_text.specs.Texts.{TextOf}
 use Rattle.cg_snap.specs.declared.stop.Stop.TheVariants as stop
+use Rattle.cg_run.specs.Explain.{Tells}
+use Rattle.cg_run.specs.Input.{Reading}
 use Rattle.cg_run.specs.Outcome.{last_line}
 use Rattle.cg_run.specs.Run.{Wrote, joined}
 use Rattle.cg_run.specs.declared.outcome.Outcome.{Outcome}
@@ -15,8 +17,11 @@ module _ {V : Type 0} (Text : List ℕ → V → Type 0) (print : V → List ℕ
   IsEndRight bytes out.OutOfMemory parts = (v : V) × Text bytes v × (parts ≡ [])
   IsEndRight bytes o parts = ⊥
 
-  pub record HasEnded (bytes : List ℕ) (taken now : Option (List ℕ)) (failed : Bool) (o : Outcome) : Type 0 where
+  -- IsIn says where the next byte stands behind what is begun of a line.
+  pub record HasEnded (explain : Bool) (IsIn : List ℕ → Bool → List ℕ → ℕ → Type 0) (bytes : List ℕ) (taken now : Option (List ℕ)) (failed : Bool) (o : Outcome) : Type 0 where
     pub wanted : Outcome
     pub parts : List (List ℕ)
     pub right : IsEndRight bytes wanted parts
-    pub wrote : Wrote taken now failed (joined parts ++ last_line wanted) wanted o
+    pub more : List ℕ
+    pub tells : (r : Reading) → r.bytes ≡ bytes → Tells (TextOf Text) IsIn explain r wanted more
+    pub wrote : Wrote taken now failed (joined parts ++ (last_line wanted ++ more)) wanted o

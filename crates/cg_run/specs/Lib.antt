@@ -1,13 +1,16 @@
+pub mod ByteNames
 pub mod Check
 pub mod Checked
 pub mod CommandLine
 pub mod Decoded
 pub mod Ended
 pub mod Entries
+pub mod Explain
 pub mod FileReader
 pub mod Input
 pub mod Kept
 pub mod Kinds
+pub mod Lines
 pub mod Outcome
 pub mod Output
 pub mod Planned
@@ -18,6 +21,8 @@ pub mod Run
 pub mod Shown
 pub mod ShownBytes
 pub mod Source
+pub mod Spot
+pub mod Stood
 pub mod Stream
 pub mod Streaming
 pub mod TableNames

@@ -8,10 +8,12 @@ use Rattle.std.specs.declared.io.ErrorKind.TheVariants as io
 use Rattle.cg_snap.specs.declared.limits.Limits.{Limits}
 use Rattle.cg_value.specs.declared.profile.Profile.{Profile}
 use Rattle.cg_run.specs.Outcome.{status_of}
-use Rattle.cg_run.specs.Run.{IsIdle, Ran}
+use Rattle.cg_run.specs.Run.{IsIdle, RanWith}
 use Rattle.cg_run.specs.Words.{Answers}
 use Rattle.cg_run.specs.declared.outcome.Outcome.{Outcome}
 use Rattle.cg_run.specs.declared.words.Command.{Command}
+use Rattle.cg_run.specs.declared.options.Options.{Options}
+use Rattle.cg_run.specs.declared.words.Request.{Request}
 use Rattle.cg_run.specs.declared.words.UsageFault.{UsageFault}
 use Rattle.cg_run.specs.declared.words.UsageFault.TheVariants.{Help, Bad, OutOfMemory}
 
@@ -35,7 +37,7 @@ abbrev pub IsUnread : ErrorKind → UsageFault → Type 0
 IsUnread kind fault = ((kind ≡ io.OutOfMemory) × (fault ≡ OutOfMemory)) ⊎ ((kind ≢ io.OutOfMemory) × (fault ≡ Bad))
 
 -- What the words ask for, if they could be had.
-abbrev pub IsAsked : Result (Bor (List (String Global))) ErrorKind → Result (Profile × Command × Limits) UsageFault → Type 0
+abbrev pub IsAsked : Result (Bor (List (String Global))) ErrorKind → Result Request UsageFault → Type 0
 IsAsked (Ok words) answer = Answers (map (λ w. string_bytes w) words.now) answer
 IsAsked (Err kind) (Ok asked) = ⊥
 IsAsked (Err kind) (Err fault) = IsUnread kind fault
@@ -43,9 +45,9 @@ IsAsked (Err kind) (Err fault) = IsUnread kind fault
 -- The source before and after, with how often it was asked; and the sink.
 module _ (coming left : Option (List ℕ)) (read_failed : Bool) (asked asks : ℕ) (taken now : Option (List ℕ)) (write_failed : Bool) where
   -- The command was run.
-  pub record DidCommand (profile : Profile) (command : Command) (limits : Limits) (status : ℕ) : Type 0 where
+  pub record DidCommand (profile : Profile) (command : Command) (limits : Limits) (options : Options) (status : ℕ) : Type 0 where
     pub outcome : Outcome
-    pub ran : Ran profile command limits coming left read_failed taken now write_failed outcome
+    pub ran : RanWith profile command limits options coming left read_failed taken now write_failed outcome
     pub status_is : status ≡ status_of outcome
     pub few_asks : asks ≤ asked + limits.max_stream + 2
     pub unasked : IsIdle profile command → asks ≡ asked
@@ -58,12 +60,12 @@ module _ (coming left : Option (List ℕ)) (read_failed : Bool) (asked asks : �
     pub unread : Keeps coming left
     pub unasked : asks ≡ asked
 
-  abbrev pub Did : Result (Profile × Command × Limits) UsageFault → ℕ → Type 0
-  Did (Ok asked_for) status = DidCommand (asked_for.0) (asked_for.1) (asked_for.2) status
+  abbrev pub Did : Result Request UsageFault → ℕ → Type 0
+  Did (Ok asked_for) status = DidCommand asked_for.profile asked_for.command asked_for.limits asked_for.options status
   Did (Err fault) status = DidTell fault status
 
   -- All that the program does with its words, to its status.
   pub record DidWords (words : Result (Bor (List (String Global))) ErrorKind) (status : ℕ) : Type 0 where
-    pub answer : Result (Profile × Command × Limits) UsageFault
+    pub answer : Result Request UsageFault
     pub asked_for : IsAsked words answer
     pub did : Did answer status

@@ -4,7 +4,7 @@ use Rattle.clap.specs.Words.{Text, fault_of, matches_of, subcommand_of, takes}
 use Rattle.clap.specs.declared.error.kind.ErrorKind.{ErrorKind}
 use Rattle.clap.specs.declared.error.kind.ErrorKind.TheVariants.{DisplayHelp, DisplayVersion, MissingRequiredArgument, UnknownArgument}
 use Rattle.cg_run.specs.CommandLine.{Lent, cgfile_app}
-use Rattle.cg_run.specs.Words.{is_welcome, limits_of, name_in}
+use Rattle.cg_run.specs.Words.{is_welcome, limits_of, name_in, options_of}
 
 -- `clap` takes these words, with this NAME, and it may stand there or not
 abbrev pub IsNamed : Lent → List Text → (name : Text) → (welcome : Bool) → Type 0
@@ -43,4 +43,18 @@ FaultRows = (names : Lent)
     × Fails names (codes "--version" ∷ []) DisplayVersion
     × Fails names (codes "file" ∷ []) MissingRequiredArgument
     × Fails names (codes "show" ∷ codes "--known" ∷ []) UnknownArgument
+    × Fails names (codes "show" ∷ codes "--explained" ∷ []) UnknownArgument
     × Fails names (codes "show" ∷ codes "x" ∷ []) UnknownArgument
+
+-- `clap` takes these words, and the option is used or not
+abbrev pub IsExplained : Lent → List Text → (explain : Bool) → Type 0
+IsExplained names words explain = (takes (cgfile_app names) words ≡ true)
+    × IsSomeAnd (subcommand_of (cgfile_app names) words) (λ s. (options_of (matches_of (cgfile_app names) words) s.1).explain ≡ explain)
+
+abbrev pub ExplainRows : Type 0
+ExplainRows = (names : Lent)
+    → IsExplained names (codes "show" ∷ []) false
+    × IsExplained names (codes "--explain" ∷ codes "show" ∷ []) true
+    × IsExplained names (codes "kinds" ∷ codes "--explain" ∷ []) true
+    × IsExplained names (codes "file" ∷ codes "--explain" ∷ codes "--known" ∷ codes "cpu.weight" ∷ []) true
+    × IsExplained names (codes "file" ∷ codes "--" ∷ codes "--explain" ∷ []) false

@@ -12,19 +12,21 @@ use Rattle.cg_value.specs.declared.kind.ReadForm.{ReadForm}
 use Rattle.cg_value.specs.declared.kind.WriteForm.{WriteForm}
 use Rattle.cg_value.specs.declared.profile.Profile.{Profile}
 use Rattle.cg_snap.specs.Closed.{Closed}
-use Rattle.cg_snap.specs.Plan.{ClosedPlan, PlanText}
+use Rattle.cg_snap.specs.Plan.{ClosedPlan, Plan, PlanText}
 use Rattle.cg_snap.specs.PlanStop.{IsPlanUnstopped, PlanStopOf}
-use Rattle.cg_snap.specs.Snap.{SnapText}
+use Rattle.cg_snap.specs.Snap.{Snap, SnapText}
 use Rattle.cg_snap.specs.SnapStop.{IsSnapUnstopped, SnapStopOf}
 use Rattle.cg_snap.specs.Stop.{IsTextUnstopped, TextStopOf}
 use Rattle.cg_snap.specs.declared.limits.Limits.{Limits}
 use Rattle.cg_snap.specs.declared.stop.Stop.{Stop}
 use Rattle.cg_snap.specs.declared.stop.Stop.TheVariants as stop
 use Rattle.cg_run.specs.Check.{HasNoParts, IsCheckRight, PartsOfAll, finding_lines}
+use Rattle.cg_run.specs.Explain.{IsInRecord, IsInText, Tells}
 use Rattle.cg_run.specs.Input.{Reading, IsEnded}
 use Rattle.cg_run.specs.Kinds.{kinds_lines}
 use Rattle.cg_run.specs.Outcome.{last_line}
 use Rattle.cg_run.specs.Stream.{IsStreamRight, PartsOf, item_part, json_part, shown_part}
+use Rattle.cg_run.specs.declared.options.Options.{Options}
 use Rattle.cg_run.specs.declared.outcome.Outcome.{Outcome}
 use Rattle.cg_run.specs.declared.outcome.Outcome.TheVariants as out
 use Rattle.cg_run.specs.declared.words.Command.{Command}
@@ -165,9 +167,45 @@ pub record DidRun (Right : Reading → Outcome → List (List ℕ) → Type 0) (
   pub right : Right (record { bytes = read; left = left; failed = read_failed }) wanted parts
   pub wrote : Wrote taken now write_failed (joined parts ++ last_line wanted) wanted o
 
+-- The same, where Tells says what is written behind the last line.
+pub record DidRunWith (Right : Reading → Outcome → List (List ℕ) → Type 0) (Tells : Reading → Outcome → List ℕ → Type 0) (coming left : Option (List ℕ)) (read_failed : Bool)
+    (taken now : Option (List ℕ)) (write_failed : Bool) (o : Outcome) : Type 0 where
+  pub read : List ℕ
+  pub consumed : Consumes coming left read
+  pub wanted : Outcome
+  pub parts : List (List ℕ)
+  pub right : Right (record { bytes = read; left = left; failed = read_failed }) wanted parts
+  pub more : List ℕ
+  pub tells : Tells (record { bytes = read; left = left; failed = read_failed }) wanted more
+  pub wrote : Wrote taken now write_failed (joined parts ++ (last_line wanted ++ more)) wanted o
+
+-- What is written behind the last line of a command's run: of a file and of a write, by the form that the name has.
+abbrev pub TellsOfForm : {F : Type 0} → (F → Reading → Outcome → List ℕ → Type 0) → Option F → Reading → Outcome → List ℕ → Type 0
+TellsOfForm Tells None r o more = more ≡ []
+TellsOfForm Tells (Some form) r o more = Tells form r o more
+
+abbrev pub TellsOfFile : (explain : Bool) (name : List ℕ) → Option ReadForm → Reading → Outcome → List ℕ → Type 0
+TellsOfFile explain name = TellsOfForm (λ kind. Tells (TextOf (λ text v. KindText kind v text)) (IsInText name) explain)
+
+abbrev pub TellsOfWrite : (explain : Bool) (name : List ℕ) → Option WriteForm → Reading → Outcome → List ℕ → Type 0
+TellsOfWrite explain name = TellsOfForm (λ kind. Tells (TextOf (λ text s. WriteText kind s text)) (IsInText name) explain)
+
+abbrev pub TellsOf : Profile → Command → Options → Reading → Outcome → List ℕ → Type 0
+TellsOf profile (command.File name) options r o more = TellsOfFile options.explain name.items (read_form_of profile name.items) r o more
+TellsOf profile (command.Setting name) options r o more = TellsOfWrite options.explain name.items (write_form_of profile name.items) r o more
+TellsOf profile command.Kinds options r o more = more ≡ []
+TellsOf profile command.Show options r o more = Tells (Snap profile) IsInRecord options.explain r o more
+TellsOf profile command.Json options r o more = Tells (Snap profile) IsInRecord options.explain r o more
+TellsOf profile command.Check options r o more = Tells (Snap profile) IsInRecord options.explain r o more
+TellsOf profile command.Plan options r o more = Tells (Plan profile) IsInRecord options.explain r o more
+
 -- A whole run of a command.
 abbrev pub Ran : Profile → Command → Limits → Option (List ℕ) → Option (List ℕ) → Bool → Option (List ℕ) → Option (List ℕ) → Bool → Outcome → Type 0
 Ran profile c limits = DidRun (IsRight profile c limits)
+
+-- ... with the options.
+abbrev pub RanWith : Profile → Command → Limits → Options → Option (List ℕ) → Option (List ℕ) → Bool → Option (List ℕ) → Option (List ℕ) → Bool → Outcome → Type 0
+RanWith profile c limits options = DidRunWith (IsRight profile c limits) (TellsOf profile c options)
 
 -- A command that reads nothing and takes no memory: the list of the kinds, and one that names a file without the form.
 abbrev pub IsIdle : Profile → Command → Type 0

@@ -44,6 +44,13 @@ module _ (Closes : List ℕ → List (List ℕ) → Type 0) (Unstopped : List �
     pub out_is : new ≡ old ++ joined more
     pub leads : LeadsTo Took StopsBy p (parts ++ more) piece used found
 
+-- Behind a stop the reader stands where the byte at fault is next.
+abbrev pub StandsBehind : (List ℕ → Type 0) → List ℕ → List ℕ → ℕ → Event (Unit {0}) → Type 0
+StandsBehind Stood p piece used events.NeedMore = Unit {0}
+StandsBehind Stood p piece used (events.Given u) = Unit {0}
+StandsBehind Stood p piece used (events.Stopped s) = (used < length piece) × Stood (p ++ take used piece)
+StandsBehind Stood p piece used events.OutOfMemory = Unit {0}
+
 -- Where the stream goes on a byte was consumed, if the piece, which is so long, has one.
 abbrev pub IsFoundBy : ℕ → ℕ → Event (Unit {0}) → Type 0
 IsFoundBy whole used events.NeedMore = 0 < whole → 0 < used
@@ -72,6 +79,14 @@ EndIs Whole p parts old new (Ok u) = (last : Option (List ℕ)) × Whole p (part
 EndIs Whole p parts old new (Err (faults.Stopped s)) = IsCutAt Whole p s × (new ≡ old)
 EndIs Whole p parts old new (Err faults.OutOfMemory) = ((part : List ℕ) × Whole p (parts ++ part ∷ [])) × (new ≡ old)
 
+-- The writer took this text since it had taken first, and so many bytes are told of it.
+abbrev pub HasWrittenText : Option (List ℕ) → Option (List ℕ) → List ℕ → ℕ → Type 0
+HasWrittenText first now text written = Appends first now text × (written ≡ told (length text))
+
+-- It failed in this text, whatever was to come behind it.
+abbrev pub FailsAfter : Option (List ℕ) → Option (List ℕ) → Bool → List ℕ → Outcome → Type 0
+FailsAfter first now write_failed text fault = (rest : List ℕ) (wanted : Outcome) → Wrote first now write_failed (text ++ rest) wanted fault
+
 -- The writer took these parts since it had taken first, and so many bytes are told of them.
 abbrev pub HasWritten : Option (List ℕ) → Option (List ℕ) → List (List ℕ) → ℕ → Type 0
 HasWritten first now parts written = Appends first now (joined parts) × (written ≡ told (length (joined parts)))
@@ -81,13 +96,15 @@ abbrev pub FailsIn : Option (List ℕ) → Option (List ℕ) → Bool → List (
 FailsIn first now write_failed parts fault = (rest : List ℕ) (wanted : Outcome) → Wrote first now write_failed (joined parts ++ rest) wanted fault
 
 -- A run that ends after these bytes were read, however much the source has left: the outcome that is right, its parts, and
--- what was written.
-pub record EndsSo (Right : Reading → Outcome → List (List ℕ) → Type 0) (read : List ℕ) (left : Option (List ℕ)) (read_failed : Bool)
+-- what was written. Tells says what is written behind the last line.
+pub record EndsSo (Right : Reading → Outcome → List (List ℕ) → Type 0) (Tells : Reading → Outcome → List ℕ → Type 0) (read : List ℕ) (left : Option (List ℕ)) (read_failed : Bool)
     (first now : Option (List ℕ)) (write_failed : Bool) (o : Outcome) : Type 0 where
   pub wanted : Outcome
   pub parts : List (List ℕ)
   pub right : Right (record { bytes = read; left = left; failed = read_failed }) wanted parts
-  pub wrote : Wrote first now write_failed (joined parts ++ last_line wanted) wanted o
+  pub more : List ℕ
+  pub tells : Tells (record { bytes = read; left = left; failed = read_failed }) wanted more
+  pub wrote : Wrote first now write_failed (joined parts ++ (last_line wanted ++ more)) wanted o
 
 -- What was read and written before a piece.
 pub record Before (Took : List ℕ → List (List ℕ) → Type 0) (first now : Option (List ℕ)) (written : ℕ) (read : List ℕ) : Type 0 where

@@ -1,5 +1,5 @@
 -- What the words of a command line ask for: what is made of `clap`'s own function of the words.
-use Rattle.std.specs.Prelude.{ℕ, ◌≡◌, ◌⊎◌, List, [], ◌∷◌, Option, Some, None, true, false, codes, unwrap_or, Bool, not, ◌||◌, ◌&&◌, nat_lt, length, string_bytes, if◌then◌else◌, ◌<◌, ◌≢◌, IsSomeAnd, IfOk, IfErr, Result}
+use Rattle.std.specs.Prelude.{ℕ, ◌≡◌, ◌⊎◌, List, [], ◌∷◌, Option, Some, None, true, false, codes, unwrap_or, Bool, not, ◌||◌, ◌&&◌, nat_lt, length, string_bytes, if◌then◌else◌, ◌<◌, ◌≢◌, IsSomeAnd, IfOk, IfErr, Result, Ok, Err}
 use Rattle.std.specs.Char.{digit_value}
 use Rattle.std.specs.List.{list_all}
 use Rattle.std.specs.Str.{bytes_eq}
@@ -11,6 +11,8 @@ use Rattle.cg_run.specs.CommandLine.{Lent, cgfile_app, texts_of}
 use Rattle.cg_run.specs.TableNames.{is_in_table}
 use Rattle.cg_run.specs.declared.words.Command.{Command}
 use Rattle.cg_run.specs.declared.words.Command.TheVariants.{File, Setting, Show, Json, Check, Plan, Kinds}
+use Rattle.cg_run.specs.declared.options.Options.{Options}
+use Rattle.cg_run.specs.declared.words.Request.{Request}
 use Rattle.cg_run.specs.declared.words.UsageFault.{UsageFault}
 use Rattle.cg_run.specs.declared.words.UsageFault.TheVariants.{Help, Bad, OutOfMemory}
 use Rattle.clap.specs.Words.{Row, Text, Kinds as Errors, IsAmong, fault_of, first_of, one_of, matches_of, subcommand_of, takes}
@@ -50,6 +52,18 @@ profile_named given (Some name) = if bytes_eq name (codes "2") then Two else One
 abbrev pub profile_of : (before after : List Row) → Profile
 profile_of before after = profile_named (profile_named One (first_of (codes "profile") before)) (first_of (codes "profile") after)
 
+-- an option without a value is used
+abbrev pub is_set : Option Text → Bool
+is_set None = false
+is_set (Some text) = bytes_eq text (codes "true")
+
+abbrev pub is_used : (id : Text) → List Row → Bool
+is_used id rows = is_set (one_of id rows)
+
+-- the options before the command's word or after it
+abbrev pub options_of : (before after : List Row) → Options
+options_of before after = record { explain = is_used (codes "explain") before || is_used (codes "explain") after }
+
 -- ---- the command
 
 -- NAME of a subcommand, which is there as `clap` requires it
@@ -57,12 +71,8 @@ abbrev pub name_in : List Row → Text
 name_in rows = unwrap_or (first_of (codes "NAME") rows) []
 
 -- `--known` is used
-abbrev pub is_set : Option Text → Bool
-is_set None = false
-is_set (Some text) = bytes_eq text (codes "true")
-
 abbrev pub wants_known : List Row → Bool
-wants_known rows = is_set (one_of (codes "known") rows)
+wants_known rows = is_used (codes "known") rows
 
 -- NAME may stand there: with `--known` only a name of the file table may
 abbrev pub is_welcome : List Row → Bool
@@ -87,13 +97,14 @@ abbrev pub is_word : Text → Bool
 is_word name = bytes_eq name (codes "file") || (bytes_eq name (codes "setting") || is_plain_word name)
 
 -- what is made of the matches before a subcommand, and of the subcommand's name and matches
-pub record IsMadeFrom (before : List Row) (sub : Text × List Row) (r : Profile × Command × Limits) : Type 0 where
-  pub profile : r.0 ≡ profile_of before sub.1
-  pub limits : r.2 ≡ limits_of before sub.1
-  pub command : IsCommand sub.0 sub.1 r.1
+pub record IsMadeFrom (before : List Row) (sub : Text × List Row) (r : Request) : Type 0 where
+  pub profile : r.profile ≡ profile_of before sub.1
+  pub limits : r.limits ≡ limits_of before sub.1
+  pub options : r.options ≡ options_of before sub.1
+  pub command : IsCommand sub.0 sub.1 r.command
 
 -- ... where a subcommand is met
-abbrev pub IsMade : (before : List Row) → Option (Text × List Row) → Profile × Command × Limits → Type 0
+abbrev pub IsMade : (before : List Row) → Option (Text × List Row) → Request → Type 0
 IsMade before sub r = IsSomeAnd sub (λ s. IsMadeFrom before s r)
 
 -- the subcommand that is met has the word of a command
@@ -127,12 +138,22 @@ IsTold kinds sub Bad = ((kind : ErrorKind) × IsAmong kind kinds × IsToldOf kin
 -- The answer to these words, the profiles' names lying somewhere. It is made of what `clap`'s function of the words gives,
 -- and only where that gives no error; a fault is told as that function's errors say; and where `clap` takes the words, the
 -- only faults are want of memory and a name that isn't welcome.
-pub record IsAnswer (names : Lent) (words : List Text) (answer : Result (Profile × Command × Limits) UsageFault) : Type 0 where
+pub record IsAnswer (names : Lent) (words : List Text) (answer : Result Request UsageFault) : Type 0 where
   pub profiles : texts_of names ≡ codes "1" ∷ codes "2" ∷ []
   pub made : IfOk answer (IsMade (matches_of (cgfile_app names) words) (subcommand_of (cgfile_app names) words))
   pub right : IfOk answer (λ _. fault_of (cgfile_app names) words ≡ [])
   pub told : IfErr answer (IsTold (fault_of (cgfile_app names) words) (subcommand_of (cgfile_app names) words))
   pub taken : takes (cgfile_app names) words ≡ true → IfErr answer (IsRefusal (subcommand_of (cgfile_app names) words))
 
-abbrev pub Answers : (words : List Text) → Result (Profile × Command × Limits) UsageFault → Type 0
+abbrev pub Answers : (words : List Text) → Result Request UsageFault → Type 0
 Answers words answer = (names : Lent) × IsAnswer names words answer
+
+-- The same without the options: words that use one are a bad command line.
+abbrev pub IsPlainOf : Result Request UsageFault → Result (Profile × Command × Limits) UsageFault → Type 0
+IsPlainOf (Ok r) (Ok asked) = (r.options.explain ≡ false) × (asked ≡ (r.profile, r.command, r.limits))
+IsPlainOf (Ok r) (Err fault) = (r.options.explain ≡ true) × (fault ≡ Bad)
+IsPlainOf (Err fault) (Ok asked) = ⊥
+IsPlainOf (Err fault) (Err told) = told ≡ fault
+
+abbrev pub AnswersPlain : (words : List Text) → Result (Profile × Command × Limits) UsageFault → Type 0
+AnswersPlain words answer = (request : Result Request UsageFault) × Answers words request × IsPlainOf request answer

@@ -1,19 +1,26 @@
 //! A run that checks a snapshot: a line for each finding, after the end of input.
-ghost use Rattle.std.specs.Prelude.{◌≡◌, ◌≤◌, ◌+◌, ℕ, Bool, false, List, [], ◌∷◌, ◌++◌, Option, IfOk, OnOk, map};
+ghost use Rattle.std.specs.Prelude.{◌≡◌, ◌≤◌, ◌+◌, ℕ, Bool, false, List, [], ◌∷◌, ◌++◌, Option, IfOk, OnOk, is_some, map};
 ghost use Rattle.std.specs.Io.KnownBytes.{IsAtEnd};
+ghost use Rattle.cg_snap.specs.Snap.{Snap};
 ghost use Rattle.cg_run.specs.Check.{finding_line, word_at};
 ghost use Rattle.cg_run.specs.Checked.{HasWrittenLines};
 ghost use Rattle.cg_run.specs.Kept.{HasKept};
-ghost use Rattle.cg_run.specs.Run.{DidRun, IsCheckedRight, IsRealFault};
+ghost use Rattle.cg_run.specs.Explain.{IsInRecord, Tells};
+ghost use Rattle.cg_run.specs.Lines.{AreBehind};
+ghost use Rattle.cg_run.specs.Run.{DidRunWith, IsCheckedRight, IsRealFault};
 ghost use Rattle.cg_run.specs.Streaming.{Before, EndsSo, HasWritten};
 
+use crate::explain::write_stop;
 use crate::kept::KeptReader;
+use crate::lines::Lines;
 use crate::outcome::Outcome;
 use crate::source::Source;
+use crate::spot::stream_spot;
+use crate::stream_reader::StreamReader;
 use crate::streaming::read_stream;
 use crate::told::{write_after, write_part};
 use cg_print::Sink;
-use cg_snap::{Limits, StreamFault};
+use cg_snap::{Limits, Stop, StreamFault};
 use cg_text::OutOfMemory;
 use cg_tree::{Finding, findings};
 use cg_value::{Entry, Profile, Value};
@@ -96,14 +103,29 @@ fn write_lines<W: Sink>(
 }
 
 /// Writes what the entries of the snapshot break, once its input has ended.
-fn write_findings<W: Sink>(alloc: Global, kept: KeptReader, writer: &mut W) -> Outcome
+fn write_findings<W: Sink>(
+    alloc: Global,
+    kept: KeptReader,
+    writer: &mut W,
+    lines: Option<Lines>,
+    max: u64,
+) -> Outcome
     ensures ended { (form : Profile × Limits) (first : Option (List ℕ)) (read : List ℕ) (written : ℕ) →
+        form.1.max_stream ≡ max → AreBehind lines read →
         Before (HasKept kept form) first (W.taken writer.old) written read →
         (left : Option (List ℕ)) (failed : Bool) → IsAtEnd left → failed ≡ false →
-        EndsSo (IsCheckedRight (form.0) (form.1)) read left failed first (W.taken writer.new) (W.has_failed writer.new)
+        EndsSo (IsCheckedRight (form.0) (form.1)) (Tells (Snap (form.0)) IsInRecord (is_some lines))
+        read left failed first (W.taken writer.new) (W.has_failed writer.new)
         result }
     ensures real { IsRealFault result (W.has_failed writer.new) }
 {
+    if !kept.can_finish() {
+        let stop = Stop::Cut {
+            at: kept.consumed(),
+        };
+        let spot = stream_spot(&kept, lines, stop, None);
+        return write_stop(writer, 0, stop, spot);
+    }
     let entries = match kept.finish() {
         Ok(entries) => entries,
         Err(StreamFault::Stopped(stop)) => return write_after(writer, 0, Outcome::Stopped(stop)),
@@ -122,16 +144,26 @@ pub(crate) fn run_check<R: Source, W: Sink>(
     limits: Limits,
     reader: &mut R,
     writer: &mut W,
+    lines: Option<Lines>,
 ) -> Outcome
-    ensures ran { R.has_failed reader.old ≡ false → DidRun (IsCheckedRight profile limits)
+    ensures ran { R.has_failed reader.old ≡ false → AreBehind lines [] →
+        DidRunWith (IsCheckedRight profile limits) (Tells (Snap profile) IsInRecord (is_some lines))
         (R.coming reader.old) (R.coming reader.new) (R.has_failed reader.new)
         (W.taken writer.old) (W.taken writer.new) (W.has_failed writer.new) result }
     ensures real { IsRealFault result (W.has_failed writer.new) }
     ensures asks { R.asks reader.new ≤ R.asks reader.old + limits.max_stream + 1 }
 {
     let mut kept = KeptReader::new(alloc, profile, limits);
-    match read_stream(alloc, &mut kept, reader, writer, limits.max_stream) {
-        Ok(_) => write_findings(alloc, kept, writer),
+    let mut behind = lines;
+    match read_stream(
+        alloc,
+        &mut kept,
+        reader,
+        writer,
+        &mut behind,
+        limits.max_stream,
+    ) {
+        Ok(_) => write_findings(alloc, kept, writer, behind, limits.max_stream),
         Err(outcome) => outcome,
     }
 }

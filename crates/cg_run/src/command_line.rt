@@ -2,7 +2,7 @@
 ghost use Rattle.std.specs.Prelude.{◌≡◌, IfOk, false};
 ghost use Rattle.clap.specs.Words.{rule_of, app_of};
 ghost use Rattle.clap.specs.declared.builder.command.Command.TheViews.{out-Command as fields_of};
-ghost use Rattle.cg_run.specs.CommandLine.{cgfile_app, commands_of, count_rule, known_rule, name_rule, profile_rule, start_app, sub_app, with_commands, with_name, with_options};
+ghost use Rattle.cg_run.specs.CommandLine.{cgfile_app, commands_of, count_rule, flag_rule, name_rule, profile_rule, start_app, sub_app, with_commands, with_name, with_options};
 
 use crate::help::{self, Row};
 use crate::version::VERSION;
@@ -36,15 +36,15 @@ fn profile_option<'a>(alloc: Global, profiles: &'a [&'a str]) -> Arg<'a>
         .help(help::PROFILE)
 }
 
-/// The option that wants a name of the file table.
-fn known_option<'a>(alloc: Global) -> Arg<'a>
-    ensures rule { rule_of result ≡ known_rule }
+/// An option without a value.
+fn flag_option<'a>(alloc: Global, name: &'a str, text: &'a str) -> Arg<'a>
+    ensures rule { rule_of result ≡ flag_rule name.entry.now }
     ensures local { result.global ≡ false }
 {
-    Arg::new(alloc, "known")
-        .long("known")
+    Arg::new(alloc, name)
+        .long(name)
         .action(ArgAction::SetTrue)
-        .help(help::KNOWN)
+        .help(text)
 }
 
 /// A file's name.
@@ -72,7 +72,8 @@ fn optioned<'a>(
         .arg(profile_option(alloc, profiles))?
         .arg(count_option(alloc, "max-record", help::MAX_RECORD))?
         .arg(count_option(alloc, "max-lines", help::MAX_LINES))?
-        .arg(count_option(alloc, "max-stream", help::MAX_STREAM))
+        .arg(count_option(alloc, "max-stream", help::MAX_STREAM))?
+        .arg(flag_option(alloc, "explain", help::EXPLAIN))
 }
 
 /// A command with NAME and the option that goes with it, where it takes a name.
@@ -86,7 +87,9 @@ fn named<'a>(
         → IfOk result (λ c. (fields_of c).has_globals ≡ false) }
 {
     if takes_name {
-        command.arg(name_argument(alloc))?.arg(known_option(alloc))
+        command
+            .arg(name_argument(alloc))?
+            .arg(flag_option(alloc, "known", help::KNOWN))
     } else {
         Ok(command)
     }

@@ -4,8 +4,8 @@ ghost use Rattle.cg_run.specs.Stream.{json_part};
 ghost use Rattle.cg_run.specs.Streaming.{IsAppended};
 
 use crate::stream_reader::{LastPart, StreamReader};
-use cg_snap::{Event, Limits, Progress, SnapshotDecoder, StreamFault, What};
-use cg_text::OutOfMemory;
+use cg_snap::{Event, Limits, Progress, RecordPlace, SnapshotDecoder, StreamFault, What};
+use cg_text::{ByteSet, OutOfMemory};
 use cg_value::{Entry, Profile};
 use std::alloc::Global;
 
@@ -60,10 +60,11 @@ fn append_found(out: &mut Vec<u8>, line: &mut Vec<u8>, what: What) -> Event<()>
 impl StreamReader for EntryReader {
     type Form = (Profile, Limits);
 
+    ghost use Rattle.cg_run.specs.Stood.{HasSnapStood, parts_spelled, snap_stood, snap_within};
     ghost use Rattle.cg_run.specs.Entries.{HasTold, told_closed, told_counted, told_offset, told_passed};
     ghost use Rattle.cg_run.specs.Stream.{PartsOf, json_part};
     ghost use Rattle.cg_snap.specs.Closed.{Closed};
-    ghost use Rattle.cg_snap.specs.Snap.{SnapText};
+    ghost use Rattle.cg_snap.specs.Snap.{Snap, SnapText};
     ghost use Rattle.cg_snap.specs.SnapStop.{IsSnapUnstopped, SnapStopOf};
 
     ghost whole = { λ form. PartsOf json_part (λ bytes es. SnapText (form.0) es bytes) };
@@ -75,6 +76,16 @@ impl StreamReader for EntryReader {
     ghost stops = { λ form. SnapStopOf (form.0) (form.1) };
 
     ghost limit = { λ form. form.1.max_stream };
+
+    ghost language = { λ form. Snap (form.0) };
+
+    ghost stood = { λ s form. HasSnapStood s.decoder (form.0) (form.1) };
+
+    ghost spelled = { λ form p. parts_spelled json_part (λ bytes es. SnapText (form.0) es bytes) p };
+
+    ghost stands = { λ s form p parts h. snap_stood s.decoder (form.0) (form.1) p (h.0) h.1 };
+
+    ghost within = { λ s form p h. snap_within s.decoder (form.0) (form.1) p h };
 
     ghost offset = { told_offset };
 
@@ -92,6 +103,22 @@ impl StreamReader for EntryReader {
             used: pulled.used,
             what: append_found(out, &mut self.line, pulled.what),
         }
+    }
+
+    fn record_place(&self) -> RecordPlace<'_> {
+        self.decoder.record_place()
+    }
+
+    fn allowed(&self) -> ByteSet {
+        self.decoder.allowed()
+    }
+
+    fn can_finish(&self) -> bool {
+        self.decoder.can_finish()
+    }
+
+    fn consumed(&self) -> u64 {
+        self.decoder.offset()
     }
 }
 

@@ -143,6 +143,10 @@ impl TextReader for FileReader {
         self.reader.allowed()
     }
 
+    fn can_finish(&self) -> bool {
+        self.reader.can_finish()
+    }
+
     fn finish(self, alloc: Global) -> Result<Option<Vec<u8>>, OutOfMemory> {
         let FileReader { reader, text, .. } = self;
         let value = match reader.finish() {

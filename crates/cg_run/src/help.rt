@@ -145,4 +145,8 @@ pub(crate) const KNOWN: &str = "\
 Take a NAME that the file table doesn't have as a bad command line (without
 this option such a file is raw lines, and nearly all texts pass)";
 
+pub(crate) const EXPLAIN: &str = "\
+Where a byte is refused, or the input ends too early, tell in one more line
+where that is, what came there, and which bytes may come";
+
 pub(crate) const NAME: &str = "The file's name alone, without a folder, as `cgfile kinds` lists it";

@@ -5,8 +5,8 @@ ghost use Rattle.cg_tree.specs.Ruled.{is_ruled, ruled};
 ghost use Rattle.cg_run.specs.Checked.{AreKept, IsKeptFault};
 
 use crate::stream_reader::StreamReader;
-use cg_snap::{Event, Limits, Progress, SnapshotDecoder, StreamFault};
-use cg_text::OutOfMemory;
+use cg_snap::{Event, Limits, Progress, RecordPlace, SnapshotDecoder, StreamFault};
+use cg_text::{ByteSet, OutOfMemory};
 use cg_tree::is_ruled;
 use cg_value::{Entry, Profile};
 use std::alloc::Global;
@@ -62,9 +62,10 @@ fn keep(entries: &mut Vec<Entry>, entry: Entry) -> Result<(), OutOfMemory>
 impl StreamReader for KeptReader {
     type Form = (Profile, Limits);
 
+    ghost use Rattle.cg_run.specs.Stood.{HasSnapStood, all_spelled, snap_stood, snap_within};
     ghost use Rattle.cg_run.specs.Check.{HasNoParts, PartsOfAll, finding_lines};
     ghost use Rattle.cg_run.specs.Kept.{HasKept, kept_closed, kept_counted, kept_offset, kept_passed};
-    ghost use Rattle.cg_snap.specs.Snap.{SnapText};
+    ghost use Rattle.cg_snap.specs.Snap.{Snap, SnapText};
     ghost use Rattle.cg_snap.specs.SnapStop.{IsSnapUnstopped, SnapStopOf};
 
     ghost whole = { λ form. PartsOfAll finding_lines (λ bytes es. SnapText (form.0) es bytes) };
@@ -76,6 +77,16 @@ impl StreamReader for KeptReader {
     ghost stops = { λ form. SnapStopOf (form.0) (form.1) };
 
     ghost limit = { λ form. form.1.max_stream };
+
+    ghost language = { λ form. Snap (form.0) };
+
+    ghost stood = { λ s form. HasSnapStood s.decoder (form.0) (form.1) };
+
+    ghost spelled = { λ form p. all_spelled finding_lines (λ bytes es. SnapText (form.0) es bytes) p };
+
+    ghost stands = { λ s form p parts h. snap_stood s.decoder (form.0) (form.1) p h.given h.taken };
+
+    ghost within = { λ s form p h. snap_within s.decoder (form.0) (form.1) p h };
 
     ghost offset = { kept_offset };
 
@@ -115,5 +126,21 @@ impl StreamReader for KeptReader {
                 what: Event::OutOfMemory,
             },
         }
+    }
+
+    fn record_place(&self) -> RecordPlace<'_> {
+        self.decoder.record_place()
+    }
+
+    fn allowed(&self) -> ByteSet {
+        self.decoder.allowed()
+    }
+
+    fn can_finish(&self) -> bool {
+        self.decoder.can_finish()
+    }
+
+    fn consumed(&self) -> u64 {
+        self.decoder.offset()
     }
 }

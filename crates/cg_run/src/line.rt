@@ -54,7 +54,7 @@ impl Line {
 }
 
 /// A line with a number in it.
-fn numbered(before: &[u8], number: u64, after: &[u8]) -> Line
+pub(crate) fn numbered(before: &[u8], number: u128, after: &[u8]) -> Line
     requires before { length before.now ≤ 32 }
     requires after { length after.now ≤ 8 }
     ensures line { result ≡ before.now ++ decimal number ++ after.now }
@@ -97,7 +97,7 @@ fn words_of(why: Why) -> &'static [u8]
 fn refused(at: u64, why: Why) -> Line
     ensures { result ≡ codes "cgfile: refused at " ++ decimal at ++ (codes ": " ++ why_words why ++ codes "\n") }
 {
-    let mut line = numbered(b"cgfile: refused at ", at, b": ");
+    let mut line = numbered(b"cgfile: refused at ", at as u128, b": ");
     line.add(words_of(why));
     line.add(b"\n");
     line
@@ -109,10 +109,10 @@ fn line_of_stop(stop: Stop) -> Line
 {
     match stop {
         Stop::Refused { at, why } => refused(at, why),
-        Stop::TooLong { at } => numbered(b"cgfile: record too long at ", at, b"\n"),
-        Stop::TooMany { at } => numbered(b"cgfile: too many lines at ", at, b"\n"),
-        Stop::TooMuch { at } => numbered(b"cgfile: stream too long at ", at, b"\n"),
-        Stop::Cut { at } => numbered(b"cgfile: cut at ", at, b"\n"),
+        Stop::TooLong { at } => numbered(b"cgfile: record too long at ", at as u128, b"\n"),
+        Stop::TooMany { at } => numbered(b"cgfile: too many lines at ", at as u128, b"\n"),
+        Stop::TooMuch { at } => numbered(b"cgfile: stream too long at ", at as u128, b"\n"),
+        Stop::Cut { at } => numbered(b"cgfile: cut at ", at as u128, b"\n"),
     }
 }
 

@@ -2,12 +2,16 @@
 ghost use Rattle.std.specs.Prelude.{◌≡◌, ◌<◌, ◌++◌, ℕ, false, List, [], Option, MatchResult, IfErr, OnErr, OnOk, length};
 ghost use Rattle.cg_run.specs.Outcome.{last_line, is_write_fault};
 ghost use Rattle.cg_run.specs.Run.{Wrote, IsRealFault, joined};
+ghost use Rattle.cg_run.specs.Spot.{more_words};
 ghost use Rattle.cg_run.specs.declared.outcome.Outcome.{Outcome};
 
+use crate::explain::write_stop;
 use crate::outcome::Outcome;
 use crate::running::PIECE;
+use crate::spot::Spot;
 use crate::told::{write_after, write_part};
 use cg_print::Sink;
+use cg_snap::Stop;
 use std::alloc::Global;
 
 /// What a run over a stream has for its sink.
@@ -78,6 +82,26 @@ impl Output {
     {
         match self.write(writer) {
             Ok(()) => write_after(writer, self.written, outcome),
+            Err(fault) => fault,
+        }
+    }
+
+    /// Writes the texts, and then the last line of a stop, and the line that explains it where there is one.
+    pub(crate) fn stop<W: Sink>(
+        &mut self,
+        writer: &mut W,
+        stop: Stop,
+        spot: Option<Spot<'_>>,
+    ) -> Outcome
+        ensures wrote { (first : Option (List ℕ)) (parts : List (List ℕ)) →
+            Holds first (W.taken writer.old) parts self.old →
+            Wrote first (W.taken writer.new) (W.has_failed writer.new)
+            (joined parts ++ (last_line (Outcome.Stopped stop) ++ more_words spot.entry)) (Outcome.Stopped stop)
+            result }
+        ensures real { IsRealFault result (W.has_failed writer.new) }
+    {
+        match self.write(writer) {
+            Ok(()) => write_stop(writer, self.written, stop, spot),
             Err(fault) => fault,
         }
     }

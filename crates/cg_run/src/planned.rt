@@ -5,7 +5,8 @@ ghost use Rattle.cg_run.specs.Streaming.{IsAppended};
 
 use crate::stream_reader::{LastPart, StreamReader};
 use cg_print::append_item;
-use cg_snap::{Event, Limits, PlanDecoder, PlanWhat, Progress, StreamFault};
+use cg_snap::{Event, Limits, PlanDecoder, PlanWhat, Progress, RecordPlace, StreamFault};
+use cg_text::ByteSet;
 use cg_value::Profile;
 use std::alloc::Global;
 
@@ -46,9 +47,10 @@ fn append_found(out: &mut Vec<u8>, what: PlanWhat) -> Event<()>
 impl StreamReader for PlannedReader {
     type Form = (Profile, Limits);
 
+    ghost use Rattle.cg_run.specs.Stood.{HasPlanStood, parts_spelled, plan_stood, plan_within};
     ghost use Rattle.cg_run.specs.Planned.{HasPlanned, planned_closed, planned_counted, planned_offset, planned_passed};
     ghost use Rattle.cg_run.specs.Stream.{PartsOf};
-    ghost use Rattle.cg_snap.specs.Plan.{ClosedPlan, PlanText};
+    ghost use Rattle.cg_snap.specs.Plan.{ClosedPlan, Plan, PlanText};
     ghost use Rattle.cg_snap.specs.PlanStop.{IsPlanUnstopped, PlanStopOf};
 
     ghost whole = { λ form. PartsOf item_part (λ bytes items. PlanText (form.0) items bytes) };
@@ -60,6 +62,16 @@ impl StreamReader for PlannedReader {
     ghost stops = { λ form. PlanStopOf (form.0) (form.1) };
 
     ghost limit = { λ form. form.1.max_stream };
+
+    ghost language = { λ form. Plan (form.0) };
+
+    ghost stood = { λ s form. HasPlanStood s.decoder (form.0) (form.1) };
+
+    ghost spelled = { λ form p. parts_spelled item_part (λ bytes items. PlanText (form.0) items bytes) p };
+
+    ghost stands = { λ s form p parts h. plan_stood s.decoder (form.0) (form.1) p (h.0) h.1 };
+
+    ghost within = { λ s form p h. plan_within s.decoder (form.0) (form.1) p h };
 
     ghost offset = { planned_offset };
 
@@ -77,6 +89,22 @@ impl StreamReader for PlannedReader {
             used: pulled.used,
             what: append_found(out, pulled.what),
         }
+    }
+
+    fn record_place(&self) -> RecordPlace<'_> {
+        self.decoder.record_place()
+    }
+
+    fn allowed(&self) -> ByteSet {
+        self.decoder.allowed()
+    }
+
+    fn can_finish(&self) -> bool {
+        self.decoder.can_finish()
+    }
+
+    fn consumed(&self) -> u64 {
+        self.decoder.offset()
     }
 }
 

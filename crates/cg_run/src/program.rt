@@ -3,12 +3,10 @@ ghost use Rattle.std.specs.Prelude.{◌≡◌, ◌<◌, drop, false, length, IfE
 ghost use Rattle.cg_run.specs.Program.{DidWords, IsAsked, IsUnread, WroteText, fault_status, fault_text};
 
 use crate::outcome::status;
-use crate::running::run;
+use crate::running::run_with;
 use crate::source::Source;
-use crate::words::{Command, UsageFault, parse_words};
+use crate::words::{Request, UsageFault, parse_request};
 use cg_print::{Sink, write_text};
-use cg_snap::Limits;
-use cg_value::Profile;
 use std::alloc::Global;
 use std::io;
 
@@ -34,15 +32,12 @@ fn unread(kind: io::ErrorKind) -> UsageFault
 }
 
 /// What the words ask for, if they could be had.
-fn asked(
-    alloc: Global,
-    words: Result<&[String], io::ErrorKind>,
-) -> Result<(Profile, Command, Limits), UsageFault>
+fn asked(alloc: Global, words: Result<&[String], io::ErrorKind>) -> Result<Request, UsageFault>
     ensures asked { IsAsked words.entry result }
     ensures says { IfErr result (λ fault. 0 < length (fault_text fault)) }
 {
     match words {
-        Ok(words) => parse_words(alloc, words),
+        Ok(words) => parse_request(alloc, words),
         Err(kind) => Err(unread(kind)),
     }
 }
@@ -90,8 +85,14 @@ pub fn run_words<R: Source, W: Sink>(
         (W.taken writer.old) (W.taken writer.new) (W.has_failed writer.new) words.entry result }
 {
     match asked(alloc, words) {
-        Ok((profile, command, limits)) => {
-            let outcome = run(alloc, profile, &command, reader, writer, limits);
+        Ok(request) => {
+            let Request {
+                profile,
+                command,
+                limits,
+                options,
+            } = request;
+            let outcome = run_with(alloc, profile, &command, reader, writer, limits, options);
             status(&outcome)
         }
         Err(fault) => {

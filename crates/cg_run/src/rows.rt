@@ -1,5 +1,5 @@
 //! The definitions of the command line meet command lines written out.
-ghost use Rattle.cg_run.specs.Rows.{FaultRows, KnownRows, LimitRows};
+ghost use Rattle.cg_run.specs.Rows.{ExplainRows, FaultRows, KnownRows, LimitRows};
 
 /// With `--known` a name of the file table may stand there, and no other.
 pub fn known_rows()
@@ -14,4 +14,9 @@ pub fn limit_rows()
 /// Words that ask for the help or the version, and words that are wrong.
 pub fn fault_rows()
     ensures { FaultRows }
+{}
+
+/// Where `--explain` is used, before the command's word or after it.
+pub fn explain_rows()
+    ensures { ExplainRows }
 {}

@@ -1,20 +1,27 @@
 //! The program's run.
-ghost use Rattle.std.specs.Prelude.{◌≡◌, ◌≢◌, ◌≤◌, ◌+◌, ℕ, List, [], false, None, length};
+ghost use Rattle.std.specs.Prelude.{◌≡◌, ◌≢◌, ◌≤◌, ◌+◌, ℕ, List, [], false, None, is_some, length};
 ghost use Rattle.cg_value.specs.Table.{read_form_of, write_form_of};
-ghost use Rattle.cg_run.specs.Run.{Ran, DidRun, IsIdle, IsTextRight, IsFileRight, IsSnapshotRight, IsWriteRight, IsRealFault};
+ghost use Rattle.cg_text.specs.Texts.{TextOf};
+ghost use Rattle.cg_snap.specs.Snap.{Snap};
+ghost use Rattle.cg_run.specs.Explain.{IsInRecord, IsInText, Tells};
+ghost use Rattle.cg_run.specs.Lines.{AreBehind};
+ghost use Rattle.cg_run.specs.Run.{DidRunWith, Ran, RanWith, IsIdle, IsTextRight, IsFileRight, IsSnapshotRight, IsWriteRight, IsRealFault, TellsOfFile, TellsOfWrite};
 ghost use Rattle.cg_run.specs.Stream.{json_part, shown_part};
 ghost use Rattle.cg_run.specs.Ended.{HasEnded};
 
 use crate::checked::run_check;
 use crate::entries::EntryReader;
+use crate::explain::write_stop;
 use crate::file_reader::FileReader;
 use crate::kinds::told_kinds;
-use crate::line::last_line_of;
+use crate::lines::Lines;
+use crate::options::Options;
 use crate::outcome::Outcome;
 use crate::planned::PlannedReader;
 use crate::reading::{Ending, read_all};
 use crate::shown::ShownReader;
 use crate::source::Source;
+use crate::spot::text_spot;
 use crate::streaming::run_stream;
 use crate::text_reader::TextReader;
 use crate::told::{told, told_line};
@@ -30,12 +37,23 @@ pub(crate) const PIECE: usize = 32768;
 
 /// What is written once the input of a text has ended at this place.
 #[tactic(auto, using(crate::proofs::RunLemmas::wrote_real))]
-fn told_end<T: TextReader, W: Sink>(alloc: Global, text: T, at: u64, writer: &mut W) -> Outcome
+fn told_end<T: TextReader, W: Sink>(
+    alloc: Global,
+    text: T,
+    at: u64,
+    writer: &mut W,
+    name: &[u8],
+    lines: Option<Lines>,
+) -> Outcome
     ensures ended { (form : T.Form) (bytes : List ℕ) → T.took text form bytes → at ≡ length bytes →
-        HasEnded (T.text form) T.printed bytes (W.taken writer.old) (W.taken writer.new) (W.has_failed writer.new)
-        result }
+        AreBehind lines bytes → HasEnded (T.text form) T.printed (is_some lines) (IsInText name.now) bytes
+        (W.taken writer.old) (W.taken writer.new) (W.has_failed writer.new) result }
     ensures real { IsRealFault result (W.has_failed writer.new) }
 {
+    if !text.can_finish() {
+        let stop = Stop::Cut { at };
+        return write_stop(writer, 0, stop, text_spot(name, &text, lines, stop, None));
+    }
     match text.finish(alloc) {
         Ok(Some(text)) => told(writer, text.as_slice(), Outcome::Done),
         Ok(None) => told_line(writer, Outcome::Stopped(Stop::Cut { at })),
@@ -51,18 +69,25 @@ fn run_text<T: TextReader, R: Source, W: Sink>(
     reader: &mut R,
     writer: &mut W,
     max: u64,
+    name: &[u8],
+    lines: Option<Lines>,
 ) -> Outcome
-    ensures ran { (form : T.Form) → T.took text form [] → R.has_failed reader.old ≡ false →
-        DidRun (IsTextRight (T.text form) T.printed max)
+    ensures ran { (form : T.Form) → T.took text form [] → R.has_failed reader.old ≡ false → AreBehind lines [] →
+        DidRunWith (IsTextRight (T.text form) T.printed max)
+        (Tells (TextOf (T.text form)) (IsInText name.now) (is_some lines))
         (R.coming reader.old) (R.coming reader.new) (R.has_failed reader.new)
         (W.taken writer.old) (W.taken writer.new) (W.has_failed writer.new) result }
     ensures real { IsRealFault result (W.has_failed writer.new) }
     ensures asks { R.asks reader.new ≤ R.asks reader.old + max + 1 }
 {
     let mut buffer = [0; PIECE];
-    match read_all(&mut text, reader, &mut buffer, max) {
-        Ending::End { at } => told_end(alloc, text, at, writer),
-        Ending::Stopped(stop) => told_line(writer, Outcome::Stopped(stop)),
+    let mut behind = lines;
+    match read_all(&mut text, reader, &mut buffer, max, &mut behind) {
+        Ending::End { at } => told_end(alloc, text, at, writer, name, behind),
+        Ending::Stopped { stop, byte } => {
+            let spot = text_spot(name, &text, behind, stop, byte);
+            write_stop(writer, 0, stop, spot)
+        }
         Ending::ReadFault => told_line(writer, Outcome::ReadFault),
         Ending::OutOfMemory => told_line(writer, Outcome::OutOfMemory),
     }
@@ -77,8 +102,11 @@ fn run_file<R: Source, W: Sink>(
     reader: &mut R,
     writer: &mut W,
     max: u64,
+    lines: Option<Lines>,
 ) -> Outcome
-    ensures ran { R.has_failed reader.old ≡ false → DidRun (IsFileRight (read_form_of profile name.now) max)
+    ensures ran { R.has_failed reader.old ≡ false → AreBehind lines [] →
+        DidRunWith (IsFileRight (read_form_of profile name.now) max)
+        (TellsOfFile (is_some lines) name.now (read_form_of profile name.now))
         (R.coming reader.old) (R.coming reader.new) (R.has_failed reader.new)
         (W.taken writer.old) (W.taken writer.new) (W.has_failed writer.new) result }
     ensures real { IsRealFault result (W.has_failed writer.new) }
@@ -87,7 +115,15 @@ fn run_file<R: Source, W: Sink>(
     ensures no_memory { read_form_of profile name.now ≡ None → result ≢ Outcome.OutOfMemory }
 {
     match read_kind(profile, name) {
-        Ok(kind) => run_text(alloc, FileReader::new(alloc, kind), reader, writer, max),
+        Ok(kind) => run_text(
+            alloc,
+            FileReader::new(alloc, kind),
+            reader,
+            writer,
+            max,
+            name,
+            lines,
+        ),
         Err(_) => told_line(writer, Outcome::NotReadable),
     }
 }
@@ -101,8 +137,11 @@ fn run_setting<R: Source, W: Sink>(
     reader: &mut R,
     writer: &mut W,
     max: u64,
+    lines: Option<Lines>,
 ) -> Outcome
-    ensures ran { R.has_failed reader.old ≡ false → DidRun (IsWriteRight (write_form_of profile name.now) max)
+    ensures ran { R.has_failed reader.old ≡ false → AreBehind lines [] →
+        DidRunWith (IsWriteRight (write_form_of profile name.now) max)
+        (TellsOfWrite (is_some lines) name.now (write_form_of profile name.now))
         (R.coming reader.old) (R.coming reader.new) (R.has_failed reader.new)
         (W.taken writer.old) (W.taken writer.new) (W.has_failed writer.new) result }
     ensures real { IsRealFault result (W.has_failed writer.new) }
@@ -111,7 +150,15 @@ fn run_setting<R: Source, W: Sink>(
     ensures no_memory { write_form_of profile name.now ≡ None → result ≢ Outcome.OutOfMemory }
 {
     match write_kind(profile, name) {
-        Ok(kind) => run_text(alloc, SettingReader::new(alloc, kind), reader, writer, max),
+        Ok(kind) => run_text(
+            alloc,
+            SettingReader::new(alloc, kind),
+            reader,
+            writer,
+            max,
+            name,
+            lines,
+        ),
         Err(_) => told_line(writer, Outcome::NotWritable),
     }
 }
@@ -124,15 +171,17 @@ fn run_show<R: Source, W: Sink>(
     reader: &mut R,
     writer: &mut W,
     limits: Limits,
+    lines: Option<Lines>,
 ) -> Outcome
-    ensures ran { R.has_failed reader.old ≡ false → DidRun (IsSnapshotRight shown_part profile limits)
+    ensures ran { R.has_failed reader.old ≡ false → AreBehind lines [] →
+        DidRunWith (IsSnapshotRight shown_part profile limits) (Tells (Snap profile) IsInRecord (is_some lines))
         (R.coming reader.old) (R.coming reader.new) (R.has_failed reader.new)
         (W.taken writer.old) (W.taken writer.new) (W.has_failed writer.new) result }
     ensures real { IsRealFault result (W.has_failed writer.new) }
     ensures asks { R.asks reader.new ≤ R.asks reader.old + limits.max_stream + 1 }
 {
     let entries = ShownReader::new(alloc, profile, limits);
-    run_stream(alloc, entries, reader, writer, limits.max_stream)
+    run_stream(alloc, entries, reader, writer, lines, limits.max_stream)
 }
 
 /// Reads a snapshot, and tells each entry as a line of JSON.
@@ -143,18 +192,81 @@ fn run_json<R: Source, W: Sink>(
     reader: &mut R,
     writer: &mut W,
     limits: Limits,
+    lines: Option<Lines>,
 ) -> Outcome
-    ensures ran { R.has_failed reader.old ≡ false → DidRun (IsSnapshotRight json_part profile limits)
+    ensures ran { R.has_failed reader.old ≡ false → AreBehind lines [] →
+        DidRunWith (IsSnapshotRight json_part profile limits) (Tells (Snap profile) IsInRecord (is_some lines))
         (R.coming reader.old) (R.coming reader.new) (R.has_failed reader.new)
         (W.taken writer.old) (W.taken writer.new) (W.has_failed writer.new) result }
     ensures real { IsRealFault result (W.has_failed writer.new) }
     ensures asks { R.asks reader.new ≤ R.asks reader.old + limits.max_stream + 1 }
 {
     let entries = EntryReader::new(alloc, profile, limits);
-    run_stream(alloc, entries, reader, writer, limits.max_stream)
+    run_stream(alloc, entries, reader, writer, lines, limits.max_stream)
 }
 
-/// Runs a command: reads from the source by pieces, and writes to the sink.
+/// Lines are counted where a stop is to be explained.
+fn lines_of(options: Options) -> Option<Lines>
+    ensures behind { AreBehind result [] }
+    ensures same { is_some result ≡ options.explain }
+{
+    if options.explain {
+        Some(Lines::new())
+    } else {
+        None
+    }
+}
+
+/// Runs a command with the options: reads from the source by pieces, and writes to the sink.
+#[tactic(auto, using(crate::proofs::RunLemmas::wrote_real))]
+pub fn run_with<R: Source, W: Sink>(
+    alloc: Global,
+    profile: Profile,
+    command: &Command,
+    reader: &mut R,
+    writer: &mut W,
+    limits: Limits,
+    options: Options,
+) -> Outcome
+    ensures ran { R.has_failed reader.old ≡ false → RanWith profile command.now limits options
+        (R.coming reader.old) (R.coming reader.new) (R.has_failed reader.new)
+        (W.taken writer.old) (W.taken writer.new) (W.has_failed writer.new) result }
+    ensures real { IsRealFault result (W.has_failed writer.new) }
+    ensures asks { R.asks reader.new ≤ R.asks reader.old + limits.max_stream + 2 }
+    ensures unasked { IsIdle profile command.now → R.asks reader.new ≡ R.asks reader.old }
+    ensures no_memory { IsIdle profile command.now → result ≢ Outcome.OutOfMemory }
+{
+    let max = limits.max_stream;
+    let lines = lines_of(options);
+    match command {
+        Command::File { name } => run_file(
+            alloc,
+            profile,
+            name.as_slice(),
+            reader,
+            writer,
+            max,
+            lines,
+        ),
+        Command::Setting { name } => {
+            run_setting(alloc, profile, name.as_slice(), reader, writer, max, lines)
+        }
+        Command::Kinds => told_kinds(profile, writer),
+        Command::Plan => run_stream(
+            alloc,
+            PlannedReader::new(alloc, profile, limits),
+            reader,
+            writer,
+            lines,
+            max,
+        ),
+        Command::Show => run_show(alloc, profile, reader, writer, limits, lines),
+        Command::Json => run_json(alloc, profile, reader, writer, limits, lines),
+        Command::Check => run_check(alloc, profile, limits, reader, writer, lines),
+    }
+}
+
+/// Runs a command without an option.
 #[tactic(auto, using(crate::proofs::RunLemmas::wrote_real))]
 pub fn run<R: Source, W: Sink>(
     alloc: Global,
@@ -172,22 +284,13 @@ pub fn run<R: Source, W: Sink>(
     ensures unasked { IsIdle profile command.now → R.asks reader.new ≡ R.asks reader.old }
     ensures no_memory { IsIdle profile command.now → result ≢ Outcome.OutOfMemory }
 {
-    let max = limits.max_stream;
-    match command {
-        Command::File { name } => run_file(alloc, profile, name.as_slice(), reader, writer, max),
-        Command::Setting { name } => {
-            run_setting(alloc, profile, name.as_slice(), reader, writer, max)
-        }
-        Command::Kinds => told_kinds(profile, writer),
-        Command::Plan => run_stream(
-            alloc,
-            PlannedReader::new(alloc, profile, limits),
-            reader,
-            writer,
-            max,
-        ),
-        Command::Show => run_show(alloc, profile, reader, writer, limits),
-        Command::Json => run_json(alloc, profile, reader, writer, limits),
-        Command::Check => run_check(alloc, profile, limits, reader, writer),
-    }
+    run_with(
+        alloc,
+        profile,
+        command,
+        reader,
+        writer,
+        limits,
+        Options::NONE,
+    )
 }

@@ -3,11 +3,13 @@ ghost use Rattle.std.specs.Prelude.{◌≡◌, ◌≤◌, ℕ, List, [], length}
 ghost use Rattle.cg_value.specs.Entry.{EntryData};
 ghost use Rattle.cg_snap.specs.Decode.{HasTaken};
 ghost use Rattle.cg_run.specs.Decoded.{DecodedIs};
-ghost use Rattle.cg_run.specs.Streaming.{IsFoundBy};
+ghost use Rattle.cg_run.specs.Stood.{HasSnapStood};
+ghost use Rattle.cg_run.specs.Streaming.{IsFoundBy, StandsBehind};
 
 use crate::shown_text::{append_closed, append_shown, append_text};
 use crate::stream_reader::{LastPart, StreamReader};
-use cg_snap::{Event, Limits, Progress, SnapshotDecoder, StreamFault};
+use cg_snap::{Event, Limits, Progress, RecordPlace, SnapshotDecoder, StreamFault};
+use cg_text::ByteSet;
 use cg_value::Profile;
 use std::alloc::Global;
 
@@ -36,6 +38,9 @@ fn decode(decoder: &mut SnapshotDecoder, piece: &[u8]) -> Decoded
     ensures decoded { (profile : Profile) (limits : Limits) (p : List ℕ) (es : List EntryData) →
         HasTaken decoder.old profile limits p es →
         DecodedIs decoder.new profile limits p es piece.now result.used result.closed result.what }
+    ensures stood { (profile : Profile) (limits : Limits) (p : List ℕ) (es : List EntryData) →
+        HasTaken decoder.old profile limits p es →
+        StandsBehind (HasSnapStood decoder.new profile limits) p piece.now result.used result.what }
     ensures closed { result.closed ≤ result.used }
     ensures used { result.used ≤ length piece.now }
     ensures progress { IsFoundBy (length piece.now) result.used result.what }
@@ -76,10 +81,11 @@ impl ShownReader {
 impl StreamReader for ShownReader {
     type Form = (Profile, Limits);
 
+    ghost use Rattle.cg_run.specs.Stood.{HasSnapStood, parts_spelled, snap_stood, snap_within};
     ghost use Rattle.cg_run.specs.Shown.{HasShown, shown_closed, shown_counted, shown_offset, shown_passed};
     ghost use Rattle.cg_run.specs.Stream.{PartsOf, shown_part};
     ghost use Rattle.cg_snap.specs.Closed.{Closed};
-    ghost use Rattle.cg_snap.specs.Snap.{SnapText};
+    ghost use Rattle.cg_snap.specs.Snap.{Snap, SnapText};
     ghost use Rattle.cg_snap.specs.SnapStop.{IsSnapUnstopped, SnapStopOf};
 
     ghost whole = { λ form. PartsOf shown_part (λ bytes es. SnapText (form.0) es bytes) };
@@ -91,6 +97,16 @@ impl StreamReader for ShownReader {
     ghost stops = { λ form. SnapStopOf (form.0) (form.1) };
 
     ghost limit = { λ form. form.1.max_stream };
+
+    ghost language = { λ form. Snap (form.0) };
+
+    ghost stood = { λ s form. HasSnapStood s.decoder (form.0) (form.1) };
+
+    ghost spelled = { λ form p. parts_spelled shown_part (λ bytes es. SnapText (form.0) es bytes) p };
+
+    ghost stands = { λ s form p parts h. snap_stood s.decoder (form.0) (form.1) p h.es h.taken };
+
+    ghost within = { λ s form p h. snap_within s.decoder (form.0) (form.1) p h };
 
     ghost offset = { shown_offset };
 
@@ -131,6 +147,22 @@ impl StreamReader for ShownReader {
                 what,
             },
         }
+    }
+
+    fn record_place(&self) -> RecordPlace<'_> {
+        self.decoder.record_place()
+    }
+
+    fn allowed(&self) -> ByteSet {
+        self.decoder.allowed()
+    }
+
+    fn can_finish(&self) -> bool {
+        self.decoder.can_finish()
+    }
+
+    fn consumed(&self) -> u64 {
+        self.decoder.offset()
     }
 }
 

@@ -1,20 +1,24 @@
 //! A run over a stream: the parts that a piece of the input gives are written before the next piece is asked for, and
 //! nothing is held but these and the present part.
-ghost use Rattle.std.specs.Prelude.{◌≡◌, ◌≤◌, ◌+◌, ℕ, Bool, false, List, [], ◌++◌, Option, MatchResult, IfErr, OnOk};
+ghost use Rattle.std.specs.Prelude.{◌≡◌, ◌≤◌, ◌+◌, ℕ, Bool, false, List, [], ◌++◌, Option, MatchResult, IfErr, OnOk, is_some};
 ghost use Rattle.std.specs.Io.KnownBytes.{IsAtEnd};
-ghost use Rattle.cg_run.specs.Run.{DidRun, IsRealFault};
+ghost use Rattle.cg_run.specs.Explain.{IsInRecord, Tells};
+ghost use Rattle.cg_run.specs.Lines.{AreBehind};
+ghost use Rattle.cg_run.specs.Run.{DidRunWith, IsRealFault};
 ghost use Rattle.cg_run.specs.Stream.{IsEarlyRight, IsStreamRight};
 ghost use Rattle.cg_run.specs.Streaming.{Before, EndsSo};
 ghost use Rattle.cg_run.specs.Output.{BeforeNext, StreamedIs};
 
+use crate::lines::{Lines, lines_behind};
 use crate::outcome::Outcome;
 use crate::output::Output;
 use crate::running::PIECE;
 use crate::source::Source;
+use crate::spot::{next_byte, stream_spot};
 use crate::stream_reader::{LastPart, StreamReader};
 use crate::told::write_after;
 use cg_print::{Failed, Sink};
-use cg_snap::{Event, StreamFault};
+use cg_snap::{Event, Stop, StreamFault};
 use std::alloc::Global;
 
 /// Hands a piece to the reader, and writes the parts that it gives. The error is how the run ended.
@@ -23,13 +27,16 @@ fn take_parts<S: StreamReader, W: Sink>(
     piece: &[u8],
     output: &mut Output,
     writer: &mut W,
+    lines: Option<Lines>,
+    max: u64,
 ) -> Result<(), Outcome>
-    ensures took { (form : S.Form) (first : Option (List ℕ)) (read : List ℕ) →
+    ensures took { (form : S.Form) (first : Option (List ℕ)) (read : List ℕ) → S.limit form ≡ max →
         BeforeNext (S.took stream.old form) first (W.taken writer.old) output.old read →
         MatchResult result
         (λ _. Before (S.took stream.new form) first (W.taken writer.new) output.new.written (read ++ piece.now))
-        (λ o. (left : Option (List ℕ)) (failed : Bool) →
+        (λ o. AreBehind lines read → (left : Option (List ℕ)) (failed : Bool) →
         EndsSo (IsEarlyRight (S.whole form) (S.closes form) (S.unstopped form) (S.stops form))
+        (Tells (S.language form) IsInRecord (is_some lines))
         (read ++ piece.now) left failed first (W.taken writer.new) (W.has_failed writer.new) o) }
     ensures none { OnOk result (output.new.text.items ≡ []) }
     ensures real { IfErr result (λ o. IsRealFault o (W.has_failed writer.new)) }
@@ -41,7 +48,12 @@ fn take_parts<S: StreamReader, W: Sink>(
         used += progress.used;
         match progress.what {
             Event::NeedMore | Event::Given(()) => output.write_many(writer)?,
-            Event::Stopped(stop) => return Err(output.finish(writer, Outcome::Stopped(stop))),
+            Event::Stopped(stop) => {
+                let (front, rest) = piece.split_at(used);
+                let behind = lines_behind(lines, front);
+                let spot = stream_spot(stream, behind, stop, next_byte(rest));
+                return Err(output.stop(writer, stop, spot));
+            }
             Event::OutOfMemory => return Err(output.finish(writer, Outcome::OutOfMemory)),
         }
     }
@@ -49,14 +61,28 @@ fn take_parts<S: StreamReader, W: Sink>(
 }
 
 /// Writes what the end of the input leaves.
-fn write_end<S: LastPart, W: Sink>(stream: S, output: &mut Output, writer: &mut W) -> Outcome
-    ensures ended { (form : S.Form) (first : Option (List ℕ)) (read : List ℕ) →
-        BeforeNext (S.took stream form) first (W.taken writer.old) output.old read →
+fn write_end<S: LastPart, W: Sink>(
+    stream: S,
+    output: &mut Output,
+    writer: &mut W,
+    lines: Option<Lines>,
+    max: u64,
+) -> Outcome
+    ensures ended { (form : S.Form) (first : Option (List ℕ)) (read : List ℕ) → S.limit form ≡ max →
+        AreBehind lines read → BeforeNext (S.took stream form) first (W.taken writer.old) output.old read →
         (left : Option (List ℕ)) (failed : Bool) → IsAtEnd left → failed ≡ false →
         EndsSo (IsStreamRight (S.whole form) (S.closes form) (S.unstopped form) (S.stops form))
+        (Tells (S.language form) IsInRecord (is_some lines))
         read left failed first (W.taken writer.new) (W.has_failed writer.new) result }
     ensures real { IsRealFault result (W.has_failed writer.new) }
 {
+    if !stream.can_finish() {
+        let stop = Stop::Cut {
+            at: stream.consumed(),
+        };
+        let spot = stream_spot(&stream, lines, stop, None);
+        return output.stop(writer, stop, spot);
+    }
     match stream.finish(&mut output.text) {
         Ok(()) => output.finish(writer, Outcome::Done),
         Err(StreamFault::Stopped(stop)) => output.finish(writer, Outcome::Stopped(stop)),
@@ -71,14 +97,17 @@ pub(crate) fn read_stream<S: StreamReader, R: Source, W: Sink>(
     stream: &mut S,
     reader: &mut R,
     writer: &mut W,
+    lines: &mut Option<Lines>,
     max: u64,
 ) -> Result<Output, Outcome>
     requires { (form : S.Form) × S.took stream.old form [] [] × (S.limit form ≡ max) }
-    ensures read { (form : S.Form) → S.took stream.old form [] [] → R.has_failed reader.old ≡ false →
+    ensures read { (form : S.Form) → S.limit form ≡ max → S.took stream.old form [] [] →
+        R.has_failed reader.old ≡ false → AreBehind lines.old [] →
         StreamedIs (S.took stream.new form) (IsEarlyRight (S.whole form) (S.closes form) (S.unstopped form)
-        (S.stops form))
+        (S.stops form)) (Tells (S.language form) IsInRecord (is_some lines.old))
         (R.coming reader.old) (R.coming reader.new) (R.has_failed reader.new)
-        (W.taken writer.old) (W.taken writer.new) (W.has_failed writer.new) result }
+        (W.taken writer.old) (W.taken writer.new) (W.has_failed writer.new) lines.new result }
+    ensures same { is_some lines.new ≡ is_some lines.old }
     ensures real { IfErr result (λ o. IsRealFault o (W.has_failed writer.new)) }
     ensures asks { R.asks reader.new ≤ R.asks reader.old + max + 1 }
 {
@@ -93,7 +122,8 @@ pub(crate) fn read_stream<S: StreamReader, R: Source, W: Sink>(
             return Ok(output);
         }
         let (piece, _) = buffer.split_at(count);
-        take_parts(stream, piece, &mut output, writer)?;
+        take_parts(stream, piece, &mut output, writer, *lines, max)?;
+        *lines = lines_behind(*lines, piece);
     }
 }
 
@@ -103,18 +133,22 @@ pub(crate) fn run_stream<S: LastPart, R: Source, W: Sink>(
     mut stream: S,
     reader: &mut R,
     writer: &mut W,
+    lines: Option<Lines>,
     max: u64,
 ) -> Outcome
     requires { (form : S.Form) × S.took stream form [] [] × (S.limit form ≡ max) }
-    ensures ran { (form : S.Form) → S.took stream form [] [] → R.has_failed reader.old ≡ false →
-        DidRun (IsStreamRight (S.whole form) (S.closes form) (S.unstopped form) (S.stops form))
+    ensures ran { (form : S.Form) → S.limit form ≡ max → S.took stream form [] [] → R.has_failed reader.old ≡ false →
+        AreBehind lines [] →
+        DidRunWith (IsStreamRight (S.whole form) (S.closes form) (S.unstopped form) (S.stops form))
+        (Tells (S.language form) IsInRecord (is_some lines))
         (R.coming reader.old) (R.coming reader.new) (R.has_failed reader.new)
         (W.taken writer.old) (W.taken writer.new) (W.has_failed writer.new) result }
     ensures real { IsRealFault result (W.has_failed writer.new) }
     ensures asks { R.asks reader.new ≤ R.asks reader.old + max + 1 }
 {
-    match read_stream(alloc, &mut stream, reader, writer, max) {
-        Ok(mut output) => write_end(stream, &mut output, writer),
+    let mut behind = lines;
+    match read_stream(alloc, &mut stream, reader, writer, &mut behind, max) {
+        Ok(mut output) => write_end(stream, &mut output, writer, behind, max),
         Err(outcome) => outcome,
     }
 }

@@ -1,5 +1,5 @@
 //! What reads one text, of a file or of a write.
-ghost use Rattle.std.specs.Prelude.{◌≡◌, ◌≤◌, ◌<◌, ◌↔◌, ℕ, List, length, take, IfNone, MatchOption, MatchResult};
+ghost use Rattle.std.specs.Prelude.{◌≡◌, ◌≤◌, ◌<◌, ◌↔◌, ℕ, List, length, take, IfNone, IsTrue, MatchOption, MatchResult};
 ghost use Rattle.cg_text.specs.Bytes.{HasByte};
 ghost use Rattle.cg_text.specs.Texts.{TextOf, Viable, Next};
 ghost use Rattle.cg_run.specs.TextReader.{IsRunTaken};
@@ -51,6 +51,11 @@ pub(crate) trait TextReader: Drop {
         ensures { (form : Self.Form) (taken : List ℕ) → took self.now form taken → (byte : ℕ) → HasByte result byte ↔
             Next (TextOf (text form)) taken byte };
 
+    /// Whether the bytes are a whole text of the form.
+    fn can_finish(&self) -> bool
+        ensures { (form : Self.Form) (taken : List ℕ) → took self.now form taken →
+            (IsTrue result ↔ TextOf (text form) taken) };
+
     /// The canonical text of what the bytes spell, none where they are no whole text. `OutOfMemory` where they are one,
     /// and no memory is left for it.
     fn finish(self, alloc: Global) -> Result<Option<Vec<u8>>, OutOfMemory>
@@ -87,6 +92,10 @@ impl TextReader for SettingReader {
 
     fn allowed(&self) -> ByteSet {
         SettingReader::allowed(self)
+    }
+
+    fn can_finish(&self) -> bool {
+        SettingReader::can_finish(self)
     }
 
     fn finish(self, alloc: Global) -> Result<Option<Vec<u8>>, OutOfMemory> {

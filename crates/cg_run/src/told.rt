@@ -2,7 +2,7 @@
 ghost use Rattle.std.specs.Prelude.{◌≡◌, List, ℕ, false, [], ◌∷◌, ◌++◌, Option, MatchResult, IfErr};
 ghost use Rattle.cg_run.specs.Outcome.{last_line, is_write_fault};
 ghost use Rattle.cg_run.specs.Run.{Wrote, IsRealFault, joined};
-ghost use Rattle.cg_run.specs.Streaming.{FailsIn, HasWritten};
+ghost use Rattle.cg_run.specs.Streaming.{FailsAfter, FailsIn, HasWritten, HasWrittenText};
 ghost use Rattle.cg_run.specs.declared.outcome.Outcome.{Outcome};
 
 use crate::line::last_line_of;
@@ -57,6 +57,10 @@ pub(crate) fn write_part<W: Sink>(
         HasWritten first (W.taken writer.old) parts written.old →
         MatchResult result (λ _. HasWritten first (W.taken writer.new) (parts ++ part.now ∷ []) written.new)
         (FailsIn first (W.taken writer.new) (W.has_failed writer.new) (parts ++ part.now ∷ [])) }
+    ensures behind { (first : Option (List ℕ)) (text : List ℕ) →
+        HasWrittenText first (W.taken writer.old) text written.old →
+        MatchResult result (λ _. HasWrittenText first (W.taken writer.new) (text ++ part.now) written.new)
+        (FailsAfter first (W.taken writer.new) (W.has_failed writer.new) (text ++ part.now)) }
     ensures real { IfErr result (λ fault. IsRealFault fault (W.has_failed writer.new)) }
 {
     match write_text(writer, part) {

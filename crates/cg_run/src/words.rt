@@ -2,10 +2,11 @@
 ghost use Rattle.std.specs.Prelude.{◌≡◌, ◌<◌, ◌⊎◌, length, IfOk, IfErr, IfSome, Some, codes, false, is_some, string_bytes, true, map, []};
 ghost use Rattle.clap.specs.Words.{one_of, rows_of, found_of, first_of, takes, fault_of, kind_of, matches_of, subcommand_of, subcommand_rows_of};
 ghost use Rattle.cg_run.specs.CommandLine.{cgfile_app};
-ghost use Rattle.cg_run.specs.Words.{Answers, IsCommand, IsMade, IsRefusal, IsTold, IsToldOf, is_met, is_plain_word, is_welcome, is_word, limits_of, name_in, number_or, number_of, profile_named, wants_known};
+ghost use Rattle.cg_run.specs.Words.{Answers, AnswersPlain, IsCommand, IsMade, IsRefusal, IsTold, IsToldOf, is_met, is_plain_word, is_used, is_welcome, is_word, limits_of, name_in, number_or, number_of, options_of, profile_named};
 
 use crate::command_line::command_line;
 use crate::help;
+use crate::options::Options;
 use crate::table_names::is_in_table;
 use cg_snap::Limits;
 use cg_value::Profile;
@@ -31,6 +32,15 @@ pub enum Command {
     Plan,
     /// To list the kinds of files.
     Kinds,
+}
+
+/// What the words of a command line ask for.
+#[derive(Debug, Drop)]
+pub struct Request {
+    pub profile: Profile,
+    pub command: Command,
+    pub limits: Limits,
+    pub options: Options,
 }
 
 /// Why the words of a command line give no command.
@@ -67,12 +77,12 @@ fn name_given<'a>(matches: &ArgMatches<'a>) -> &'a [u8]
     }
 }
 
-/// Whether `--known` is used.
-fn wants_known(matches: &ArgMatches) -> bool
-    ensures { result ≡ wants_known (rows_of (found_of matches.now)) }
+/// Whether an option without a value is used.
+fn is_used(matches: &ArgMatches, id: &str) -> bool
+    ensures { result ≡ is_used id.now (rows_of (found_of matches.now)) }
 {
-    match matches.get_one::<bool>("known") {
-        Some(known) => known,
+    match matches.get_one::<bool>(id) {
+        Some(used) => used,
         None => false,
     }
 }
@@ -85,7 +95,7 @@ fn welcome_name(alloc: Global, matches: &ArgMatches) -> Result<Vec<u8>, UsageFau
         ⊎ ((e ≡ UsageFault.Bad) × (is_welcome (rows_of (found_of matches.now)) ≡ false))) }
 {
     let name = name_given(matches);
-    if wants_known(matches) && !is_in_table(name) {
+    if is_used(matches, "known") && !is_in_table(name) {
         return Err(UsageFault::Bad);
     }
     Ok(Vec::from_slice(alloc, name)?)
@@ -176,6 +186,15 @@ fn profile_at(matches: &ArgMatches, given: Profile) -> Profile
     }
 }
 
+/// The options before the command's word and after it.
+fn options_among(before: &ArgMatches, after: &ArgMatches) -> Options
+    ensures { result ≡ options_of (rows_of (found_of before.now)) (rows_of (found_of after.now)) }
+{
+    Options {
+        explain: is_used(before, "explain") || is_used(after, "explain"),
+    }
+}
+
 /// The text that `clap` has for the user. `clap` doesn't promise that it isn't empty: where it is, what the program is
 /// stands for it.
 fn text_for_user(alloc: Global, error: &clap::Error) -> Result<String, AllocError>
@@ -204,7 +223,7 @@ fn refused(alloc: Global, error: clap::Error) -> UsageFault
 }
 
 /// What the matches of a command line ask for.
-fn made(alloc: Global, matches: &ArgMatches) -> Result<(Profile, Command, Limits), UsageFault>
+fn made(alloc: Global, matches: &ArgMatches) -> Result<Request, UsageFault>
     ensures made { IfOk result
         (IsMade (rows_of (found_of matches.now)) (subcommand_rows_of matches.now)) }
     ensures known { is_met (subcommand_rows_of matches.now) ≡ true
@@ -213,9 +232,12 @@ fn made(alloc: Global, matches: &ArgMatches) -> Result<(Profile, Command, Limits
     let Some((name, inner)) = matches.subcommand() else {
         return Err(UsageFault::Bad);
     };
-    let limits = limits_among(matches, inner);
-    let profile = profile_at(inner, profile_at(matches, Profile::One));
-    Ok((profile, chosen(alloc, name, inner)?, limits))
+    Ok(Request {
+        profile: profile_at(inner, profile_at(matches, Profile::One)),
+        command: chosen(alloc, name, inner)?,
+        limits: limits_among(matches, inner),
+        options: options_among(matches, inner),
+    })
 }
 
 /// What the words ask for, with these names of the profiles.
@@ -223,7 +245,7 @@ fn parse_named<'a>(
     alloc: Global,
     profiles: &'a [&'a str],
     words: &'a [String],
-) -> Result<(Profile, Command, Limits), UsageFault>
+) -> Result<Request, UsageFault>
     ensures made { IfOk result
         (IsMade (matches_of (cgfile_app profiles.entry) (map (λ w. string_bytes w) words.entry.now))
         (subcommand_of (cgfile_app profiles.entry) (map (λ w. string_bytes w) words.entry.now))) }
@@ -248,12 +270,24 @@ fn parse_named<'a>(
 /// `Help` has the text that is to be printed, where they ask for help or for the version; `Bad` is
 /// answered where they are no command line of this program, or `--known` goes with a name that the
 /// file table doesn't have.
-pub fn parse_words(
-    alloc: Global,
-    words: &[String],
-) -> Result<(Profile, Command, Limits), UsageFault>
+pub fn parse_request(alloc: Global, words: &[String]) -> Result<Request, UsageFault>
     ensures { Answers (map (λ w. string_bytes w) words.now) result }
 {
     let profiles: [&str; 2] = ["1", "2"];
     parse_named(alloc, profiles.as_slice(), words)
+}
+
+/// Reads the words that follow the program's name, where they use no option that this answer has no place for: such
+/// words are a bad command line here.
+pub fn parse_words(
+    alloc: Global,
+    words: &[String],
+) -> Result<(Profile, Command, Limits), UsageFault>
+    ensures { AnswersPlain (map (λ w. string_bytes w) words.now) result }
+{
+    let request = parse_request(alloc, words)?;
+    if request.options.explain {
+        return Err(UsageFault::Bad);
+    }
+    Ok((request.profile, request.command, request.limits))
 }

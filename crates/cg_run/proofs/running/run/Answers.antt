@@ -1,64 +1,11 @@
-use Rattle.std.proofs.Common.{[], refl, append-nil}
-use Rattle.cg_run.specs.Kinds.{kinds_lines}
-use Rattle.cg_run.specs.Run.{joined}
-use Rattle.cg_run.specs.declared.outcome.Outcome.TheVariants as out
-use Rattle.cg_run.proofs.Took.{Consumes-nil}
+use Rattle.std.proofs.Common.{false, refl}
+use Rattle.cg_run.specs.Run.{IsRight, TellsOf}
+use Rattle.cg_run.proofs.WithoutOptions.{command_tells, plain_ran}
 use Rattle.cg_run.proofs.running.run.Goals as goal
 
-pub returns-in-Plan-clause-ran : goal.returns-in-Plan-clause-ran
-returns-in-Plan-clause-ran g c fresh =
-    let h = c.run_stream.ensures.ran (c.args.profile, c.args.limits) c.new.ensures fresh in
-    record {
-      read = h.read;
-      consumed = h.consumed;
-      wanted = h.wanted;
-      parts = h.parts;
-      right = rw c.in-Plan.is h.right;
-      wrote = h.wrote;
-    }
-
-pub returns-in-Show-clause-ran : goal.returns-in-Show-clause-ran
-returns-in-Show-clause-ran g c fresh =
-    let h = c.run_show.ensures.ran fresh in
-    record {
-      read = h.read;
-      consumed = h.consumed;
-      wanted = h.wanted;
-      parts = h.parts;
-      right = rw c.in-Show.is h.right;
-      wrote = h.wrote;
-    }
-
-pub returns-in-Json-clause-ran : goal.returns-in-Json-clause-ran
-returns-in-Json-clause-ran g c fresh =
-    let h = c.run_json.ensures.ran fresh in
-    record {
-      read = h.read;
-      consumed = h.consumed;
-      wanted = h.wanted;
-      parts = h.parts;
-      right = rw c.in-Json.is h.right;
-      wrote = h.wrote;
-    }
-
-pub returns-in-Check-clause-ran : goal.returns-in-Check-clause-ran
-returns-in-Check-clause-ran g c fresh =
-    let h = c.run_check.ensures.ran fresh in
-    record {
-      read = h.read;
-      consumed = h.consumed;
-      wanted = h.wanted;
-      parts = h.parts;
-      right = rw c.in-Check.is h.right;
-      wrote = h.wrote;
-    }
-
-pub returns-in-Kinds-clause-ran : goal.returns-in-Kinds-clause-ran
-returns-in-Kinds-clause-ran g c fresh = record {
-  read = [];
-  consumed = Consumes-nil (g.R.Source.coming c.args.reader.now);
-  wanted = out.Done;
-  parts = kinds_lines c.args.profile;
-  right = rw c.in-Kinds.is (record { outcome = refl; unread = refl; lines = refl });
-  wrote = rw (append-nil (joined (kinds_lines c.args.profile))) c.told_kinds.ensures;
-}
+pub returns-clause-ran : goal.returns-clause-ran
+returns-clause-ran g c fresh =
+    let command = c.args.command.now in
+    plain_ran (IsRight c.args.profile command c.args.limits) (TellsOf c.args.profile command (record { explain = false })) (command_tells c.args.profile command (record { explain = false }) refl)
+    (g.R.Source.coming c.args.reader.now) (g.R.Source.coming c.run_with.new.reader) (g.R.Source.has_failed c.run_with.new.reader)
+    (g.W.Sink.taken c.args.writer.now) (g.W.Sink.taken c.run_with.new.writer) (g.W.Sink.has_failed c.run_with.new.writer) c.run_with.result (c.run_with.ensures.ran fresh)

@@ -1,11 +1,15 @@
+use Rattle.std.specs.Prelude.{is_some}
 use Rattle.std.proofs.Common.{refl}
 use Rattle.cg_value.specs.Table.{write_form_of}
-use Rattle.cg_run.specs.Run.{IsWriteRight}
+use Rattle.cg_run.specs.Run.{IsWriteRight, TellsOfWrite}
 use Rattle.cg_run.specs.declared.outcome.Outcome.TheVariants as out
 use Rattle.cg_run.proofs.RunLemmas.{idle_ran}
 use Rattle.cg_run.proofs.running.run_setting.Goals as goal
 
 pub returns-in-Err-clause-ran : goal.returns-in-Err-clause-ran
-returns-in-Err-clause-ran g c fresh =
-    idle_ran (IsWriteRight (write_form_of c.args.profile c.args.name.now) c.args.max) _ _ _ _ _ out.NotWritable c.told_line.result
-    (rw c.in-Err.ensures.unwritable (record { outcome = refl; unread = refl; none = refl })) c.told_line.ensures
+returns-in-Err-clause-ran g c fresh lines =
+    idle_ran (IsWriteRight (write_form_of c.args.profile c.args.name.now) c.args.max) (TellsOfWrite (is_some c.args.lines) c.args.name.now (write_form_of c.args.profile c.args.name.now)) _ _ _ _ _ out.NotWritable c.told_line.result
+    (rw c.in-Err.ensures.unwritable (record { outcome = refl; unread = refl; none = refl })) (rw c.in-Err.ensures.unwritable refl) c.told_line.ensures
+
+pub returns-in-Ok-clause-ran : goal.returns-in-Ok-clause-ran
+returns-in-Ok-clause-ran g c fresh lines = rw c.in-Ok.ensures.writable (c.run_text.ensures.ran c.in-Ok.kind c.new.ensures.takes fresh lines)

@@ -1,4 +1,6 @@
-use Rattle.std.proofs.Common.{◌≡◌, ◌++◌, length, take, drop, ap, arith, length-drop}
+use Rattle.cg_snap.specs.Decoder.{Stands}
+use Rattle.cg_run.proofs.Streams.{text_on}
+use Rattle.std.proofs.Common.{◌≡◌, ◌++◌, ◌∙◌, ℕ, List, length, take, drop, ap, subst, arith, length-drop}
 use Rattle.cg_snap.specs.declared.event.Event.TheVariants as events
 use Rattle.cg_run.proofs.Decoding.{decoded_entry, decoded_none, left_none, left_starved, left_stopped}
 use Rattle.cg_run.proofs.Pulled.{pulled_is}
@@ -67,3 +69,30 @@ returns-in-entries-clause-decoded c profile limits p es h =
             rw w.what-is (left_starved profile limits p es piece was now rest at n c.entries.closed back inside within b same_profile same_limits pulled)
       ];
     }
+
+pub returns-in-entries-clause-stood : goal.returns-in-entries-clause-stood
+returns-in-entries-clause-stood c profile limits p es h =
+    let piece = c.args.piece.now in
+    let rest = c.split_at.result.1.now in
+    let at = c.entries.used in
+    let n = c.next-pulled.result.used in
+    let b = c.entries.invariant.decoded profile limits p es h in
+    let front = p ++ take at piece in
+    let back = c.split_at.ensures.back in
+    let seen = c.next-pulled.ensures.pulled front (es ++ b.more) b.taken.stop b.taken.stands in
+    elim c.match-pulled.branch [
+      | in-NeedMore w ↦ rw w.what-is tt
+      | in-Stopped w ↦
+          let what = rw w.in-Stopped.is at seen in
+          let left : length rest ≡ length (drop at piece) = ap length back in
+          rw w.what-is (
+            omega (arith, what.1, left, length-drop at piece, c.entries.invariant.within),
+            record {
+              parts = es ++ b.more;
+              stands = subst (λ (t : List ℕ). Stands c.next-pulled.new.self t (es ++ b.more)) (text_on p piece rest at n back) what.3;
+              profile_is = c.next-pulled.ensures.form ∙ b.taken.form_is;
+              limits_is = c.next-pulled.ensures.limits ∙ b.taken.limits_is;
+            },
+          )
+      | in-OutOfMemory w ↦ rw w.what-is tt
+    ]

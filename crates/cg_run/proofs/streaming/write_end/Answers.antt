@@ -1,51 +1,54 @@
-use Rattle.std.specs.Prelude.{option_to_list, Err}
-use Rattle.std.proofs.Common.{◌++◌, refl, subst}
+use Rattle.std.specs.Prelude.{option_to_list, Err, is_some}
+use Rattle.std.proofs.Common.{◌++◌, ◌≤◌, ◌∙◌, List, ℕ, length, refl, subst, sym, true≢false, arith}
 use Rattle.cg_snap.specs.declared.decode.StreamFault.{StreamFault}
-use Rattle.cg_snap.specs.declared.stop.Stop.{Stop}
-use Rattle.cg_run.specs.Outcome.{last_line}
-use Rattle.cg_run.specs.Run.{Wrote, joined}
 use Rattle.cg_run.specs.Streaming.{EndIs}
-use Rattle.cg_run.specs.declared.outcome.Outcome.TheVariants as out
 use Rattle.cg_run.specs.declared.output.Output.{Output}
-use Rattle.cg_run.proofs.Streams.{cut_ends, done_ends, last_memory_ends}
+use Rattle.cg_run.specs.Spot.{more_words}
+use Rattle.cg_run.proofs.Streams.{cut_ends, done_ends, last_memory_ends, never_cut}
 use Rattle.cg_run.proofs.Written.{holds_more, holds_same}
 use Rattle.cg_run.proofs.streaming.write_end.Goals as goal
 
 pub returns-in-Ok-clause-ended : goal.returns-in-Ok-clause-ended
-returns-in-Ok-clause-ended g c form first read b left failed ended works =
+returns-in-Ok-clause-ended g c form first read limit lines b left failed ended works =
     let s = c.args.stream in
     let e = c.in-Ok.ensures form read b.parts b.took in
     let all = b.parts ++ option_to_list e.0 in
     let output : Output = record { text = c.finish.new.out; written = c.args.output.now.written } in
     let holds = holds_more first (g.W.Sink.taken c.args.writer.now) b.parts c.args.output.now b.holds (option_to_list e.0) output e.2 refl in
     done_ends (g.S.StreamReader.took s form) (g.S.StreamReader.whole form) (g.S.StreamReader.closes form) (g.S.StreamReader.unstopped form) (g.S.StreamReader.stops form)
-    read left failed first (g.W.Sink.taken c.finish-in-Ok.new.writer) (g.W.Sink.has_failed c.finish-in-Ok.new.writer) b.parts
+    (is_some c.args.lines) (g.S.StreamReader.language form) read left failed first (g.W.Sink.taken c.finish-in-Ok.new.writer) (g.W.Sink.has_failed c.finish-in-Ok.new.writer) b.parts
     (g.met.S.StreamReader.passed s form read b.parts b.took) (g.met.S.StreamReader.closed s form read b.parts b.took) ended works
     all c.finish-in-Ok.result e.1 (c.finish-in-Ok.ensures.wrote first all holds)
 
 pub returns-in-Err-Stopped-clause-ended : goal.returns-in-Err-Stopped-clause-ended
-returns-in-Err-Stopped-clause-ended g c form first read b left failed ended works =
+returns-in-Err-Stopped-clause-ended g c form first read limit lines b left failed ended works =
     let s = c.args.stream in
-    let after = c.finish-in-Err-Stopped in
-    let now = g.W.Sink.taken after.new.writer in
-    let failing = g.W.Sink.has_failed after.new.writer in
     let e = subst (λ (f : StreamFault). EndIs (g.S.StreamReader.whole form) read b.parts c.args.output.now.text.items c.finish.new.out.items (Err f)) c.in-Err-Stopped.field-0-is (c.in-Err-Stopped.ensures form read b.parts b.took) in
-    let output : Output = record { text = c.finish.new.out; written = c.args.output.now.written } in
-    let holds = holds_same first (g.W.Sink.taken c.args.writer.now) b.parts c.args.output.now b.holds output e.1 refl in
-    let wrote = subst (λ (t : Stop). Wrote first now failing (joined b.parts ++ last_line (out.Stopped t)) (out.Stopped t) after.result) c.in-Err-Stopped.stop-is (after.ensures.wrote first b.parts holds) in
+    let stands = g.met.S.StreamReader.stands s form read b.parts b.took in
+    let all = (g.met.S.StreamReader.spelled form read).0 ((c.can_finish.ensures form read stands).0 c.if-not-can_finish.false) in
+    absurd (never_cut (g.S.StreamReader.whole form) read c.in-Err-Stopped.stop (all.0) all.1 e.0)
+
+pub returns-then-not-can_finish-clause-ended : goal.returns-then-not-can_finish-clause-ended
+returns-then-not-can_finish-clause-ended g c form first read limit lines b left failed ended works =
+    let s = c.args.stream in
+    let stands = g.met.S.StreamReader.stands s form read b.parts b.took in
+    let few : length read ≤ 18446744073709551615 = omega (arith, g.met.S.StreamReader.within s form read stands, limit, c.ranges.max.fits) in
+    let none = λ (all : List (List ℕ)) (x : g.S.StreamReader.whole form read all). true≢false (sym ((c.can_finish.ensures form read stands).1 ((g.met.S.StreamReader.spelled form read).1 (all, x))) ∙ c.if-not-can_finish.true) in
     cut_ends (g.S.StreamReader.took s form) (g.S.StreamReader.whole form) (g.S.StreamReader.closes form) (g.S.StreamReader.unstopped form) (g.S.StreamReader.stops form)
-    read left failed first now failing b.parts
+    (is_some c.args.lines) (g.S.StreamReader.language form) read left failed first (g.W.Sink.taken c.stop.new.writer) (g.W.Sink.has_failed c.stop.new.writer) b.parts
     (g.met.S.StreamReader.passed s form read b.parts b.took) (g.met.S.StreamReader.closed s form read b.parts b.took) ended works
-    c.in-Err-Stopped.stop after.result e.0 wrote
+    c.consumed.result c.stop.result (more_words c.stream_spot-spot.result) (c.consumed.ensures form read stands, none)
+    (c.stream_spot-spot.ensures form read stands few lines)
+    (c.stop.ensures.wrote first b.parts b.holds)
 
 pub returns-in-Err-OutOfMemory-clause-ended : goal.returns-in-Err-OutOfMemory-clause-ended
-returns-in-Err-OutOfMemory-clause-ended g c form first read b left failed ended works =
+returns-in-Err-OutOfMemory-clause-ended g c form first read limit lines b left failed ended works =
     let s = c.args.stream in
     let after = c.finish-in-Err-OutOfMemory in
     let e = subst (λ (f : StreamFault). EndIs (g.S.StreamReader.whole form) read b.parts c.args.output.now.text.items c.finish.new.out.items (Err f)) c.in-Err-OutOfMemory.field-0-is (c.in-Err-OutOfMemory.ensures form read b.parts b.took) in
     let output : Output = record { text = c.finish.new.out; written = c.args.output.now.written } in
     let holds = holds_same first (g.W.Sink.taken c.args.writer.now) b.parts c.args.output.now b.holds output e.1 refl in
     last_memory_ends (g.S.StreamReader.took s form) (g.S.StreamReader.whole form) (g.S.StreamReader.closes form) (g.S.StreamReader.unstopped form) (g.S.StreamReader.stops form)
-    read left failed first (g.W.Sink.taken after.new.writer) (g.W.Sink.has_failed after.new.writer) b.parts
+    (is_some c.args.lines) (g.S.StreamReader.language form) read left failed first (g.W.Sink.taken after.new.writer) (g.W.Sink.has_failed after.new.writer) b.parts
     (g.met.S.StreamReader.passed s form read b.parts b.took) (g.met.S.StreamReader.closed s form read b.parts b.took) ended works
     (e.0.0) after.result e.0.1 (after.ensures.wrote first b.parts holds)

@@ -1,16 +1,15 @@
-use Rattle.std.proofs.Common.{List, ap, map}
-use Rattle.std.specs.Borrow.{Bor}
-use Rattle.clap.specs.Words.{Text}
+use Rattle.std.specs.Prelude.{Ok, Err}
+use Rattle.std.proofs.Common.{refl}
+use Rattle.std.proofs.lemmas.Result.{err_from_is_err_and}
 use Rattle.cg_run.proofs.words.parse_words.Goals as goal
 
 pub returns : goal.returns
-returns c = (
-  c.as_slice.result,
-  record {
-    profiles = ap (λ (names : List (Bor Text)). map (λ name. name.now) names) c.as_slice.ensures;
-    made = c.parse_named.ensures.made;
-    right = c.parse_named.ensures.right;
-    told = c.parse_named.ensures.told;
-    taken = c.parse_named.ensures.taken;
-  },
-)
+returns c = (Ok c.in_ok-request.request, c.in_ok-request.ensures, (c.if-request.false, refl))
+
+pub returns-then-request : goal.returns-then-request
+returns-then-request c = (Ok c.in_ok-request.request, c.in_ok-request.ensures, (c.if-request.true, refl))
+
+pub returns-in_err-request : goal.returns-in_err-request
+returns-in_err-request c =
+    let e = err_from_is_err_and c.from_residual.result c.from_residual.ensures.1 in
+    rw (e.1, e.2) (Err c.in_err-request.field-0.0, c.in_err-request.ensures, refl)

@@ -56,3 +56,8 @@ returns-in-Stopped-clause-found c form p parts h =
     let pulled = pulled_is was.decoder c.next-pulled.new.self (form.0) (form.1) p h.given c.args.piece.now c.next-pulled.result.used h.taken
     c.next-pulled.ensures.form c.next-pulled.ensures.limits (events.Stopped c.in-Stopped.stop) what in
     no_more refl (pulled.0, pulled.1, pulled.2, h.none)
+
+pub returns-in-Stopped-clause-stood : goal.returns-in-Stopped-clause-stood
+returns-in-Stopped-clause-stood c form p parts h =
+    let what = rw c.in-Stopped.is at (c.next-pulled.ensures.pulled p h.given h.taken.stop h.taken.stands) in
+    (what.1, record { parts = h.given; stands = what.3; profile_is = c.next-pulled.ensures.form ∙ h.taken.form_is; limits_is = c.next-pulled.ensures.limits ∙ h.taken.limits_is })

@@ -87,3 +87,6 @@ returns-in_default-clause-found c form p parts h =
 
 pub returns-in_default-clause-progress : goal.returns-in_default-clause-progress
 returns-in_default-clause-progress c = c.decode-decoded.ensures.progress
+
+pub returns-in_default-clause-stood : goal.returns-in_default-clause-stood
+returns-in_default-clause-stood c form p parts h = c.decode-decoded.ensures.stood (form.0) (form.1) p h.es h.taken

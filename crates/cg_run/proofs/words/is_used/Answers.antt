@@ -1,6 +1,6 @@
 use Rattle.clap.proofs.WalkLemmas.{one_text-rows}
 use Rattle.cg_run.proofs.Flags.{set_some, set_none}
-use Rattle.cg_run.proofs.words.wants_known.Goals as goal
+use Rattle.cg_run.proofs.words.is_used.Goals as goal
 
 pub returns-in-Some : goal.returns-in-Some
 returns-in-Some c = rw (← one_text-rows _ _) (set_some _ _ c.in-Some.ensures.none c.in-Some.ensures.value)

@@ -1,0 +1,68 @@
+-- A run without the options.
+use Rattle.std.proofs.Common.{◌≡◌, ℕ, Bool, false, List, [], ◌++◌, Option, None, Some, append-nil, ap, subst, ◌∙◌}
+use Rattle.cg_text.specs.Texts.{TextOf}
+use Rattle.cg_value.specs.Files.{KindText}
+use Rattle.cg_value.specs.Settings.{WriteText}
+use Rattle.cg_value.specs.Table.{read_form_of, write_form_of}
+use Rattle.cg_value.specs.declared.profile.Profile.{Profile}
+use Rattle.cg_snap.specs.Plan.{Plan}
+use Rattle.cg_snap.specs.Snap.{Snap}
+use Rattle.cg_snap.specs.declared.stop.Stop.TheVariants as stop
+use Rattle.cg_run.specs.Explain.{IsInRecord, IsInText, Tells}
+use Rattle.cg_run.specs.Input.{Reading}
+use Rattle.cg_run.specs.Outcome.{last_line}
+use Rattle.cg_run.specs.Run.{DidRun, DidRunWith, TellsOf, TellsOfFile, TellsOfForm, TellsOfWrite, Wrote, joined}
+use Rattle.cg_run.specs.declared.options.Options.{Options}
+use Rattle.cg_run.specs.declared.outcome.Outcome.{Outcome}
+use Rattle.cg_run.specs.declared.outcome.Outcome.TheVariants as out
+use Rattle.cg_run.specs.declared.words.Command.{Command}
+use Rattle.cg_run.specs.declared.words.Command.TheVariants as command
+
+-- Without an option a run is a plain one.
+pub plain_ran : (Right : Reading → Outcome → List (List ℕ) → Type 0) (Tells : Reading → Outcome → List ℕ → Type 0) → ((r : Reading) (o : Outcome) (more : List ℕ) → Tells r o more → more ≡ []) →
+    (coming left : Option (List ℕ)) (read_failed : Bool) (taken now : Option (List ℕ)) (write_failed : Bool) (o : Outcome) →
+    DidRunWith Right Tells coming left read_failed taken now write_failed o → DidRun Right coming left read_failed taken now write_failed o
+plain_ran Right Tells none coming left read_failed taken now write_failed o h =
+    let r : Reading = record { bytes = h.read; left = left; failed = read_failed } in
+    let same : last_line h.wanted ++ h.more ≡ last_line h.wanted = ap (λ (t : List ℕ). last_line h.wanted ++ t) (none r h.wanted h.more h.tells) ∙ append-nil (last_line h.wanted) in
+    record {
+      read = h.read;
+      consumed = h.consumed;
+      wanted = h.wanted;
+      parts = h.parts;
+      right = h.right;
+      wrote = subst (λ (t : List ℕ). Wrote taken now write_failed (joined h.parts ++ t) h.wanted o) same h.wrote;
+    }
+
+-- Without the option nothing is written behind the last line.
+pub tells_none : (L : List ℕ → Type 0) (IsIn : List ℕ → Bool → List ℕ → ℕ → Type 0) (r : Reading) (o : Outcome) (more : List ℕ) → Tells L IsIn false r o more → more ≡ []
+tells_none L IsIn r out.Done more t = t
+tells_none L IsIn r (out.Findings n) more t = t
+tells_none L IsIn r (out.Stopped (stop.Refused at why)) more t = t
+tells_none L IsIn r (out.Stopped (stop.TooLong at)) more t = t
+tells_none L IsIn r (out.Stopped (stop.TooMany at)) more t = t
+tells_none L IsIn r (out.Stopped (stop.TooMuch at)) more t = t
+tells_none L IsIn r (out.Stopped (stop.Cut at)) more t = t
+tells_none L IsIn r out.NotReadable more t = t
+tells_none L IsIn r out.NotWritable more t = t
+tells_none L IsIn r out.ReadFault more t = t
+tells_none L IsIn r (out.WriteFault n) more t = t
+tells_none L IsIn r out.OutOfMemory more t = t
+
+form_tells : {F : Type 0} (Told : F → Reading → Outcome → List ℕ → Type 0) → ((form : F) (r : Reading) (o : Outcome) (more : List ℕ) → Told form r o more → more ≡ []) →
+    (form : Option F) (r : Reading) (o : Outcome) (more : List ℕ) → TellsOfForm Told form r o more → more ≡ []
+form_tells Told none None r o more t = t
+form_tells Told none (Some form) r o more t = none form r o more t
+
+pub command_tells : (profile : Profile) (c : Command) (options : Options) → options.explain ≡ false → (r : Reading) (o : Outcome) (more : List ℕ) → TellsOf profile c options r o more → more ≡ []
+command_tells profile (command.File name) options e r o more t =
+    form_tells (λ kind. Tells (TextOf (λ text v. KindText kind v text)) (IsInText name.items) false) (λ kind s p m u. tells_none (TextOf (λ text v. KindText kind v text)) (IsInText name.items) s p m u) (read_form_of profile name.items) r o more
+    (subst (λ (b : Bool). TellsOfFile b name.items (read_form_of profile name.items) r o more) e t)
+command_tells profile (command.Setting name) options e r o more t =
+    form_tells (λ kind. Tells (TextOf (λ text v. WriteText kind v text)) (IsInText name.items) false) (λ kind s p m u. tells_none (TextOf (λ text v. WriteText kind v text)) (IsInText name.items) s p m u) (write_form_of profile name.items) r o more
+    (subst (λ (b : Bool). TellsOfWrite b name.items (write_form_of profile name.items) r o more) e t)
+command_tells profile command.Kinds options e r o more t = t
+command_tells profile command.Show options e r o more t = tells_none (Snap profile) IsInRecord r o more (subst (λ (b : Bool). Tells (Snap profile) IsInRecord b r o more) e t)
+command_tells profile command.Json options e r o more t = tells_none (Snap profile) IsInRecord r o more (subst (λ (b : Bool). Tells (Snap profile) IsInRecord b r o more) e t)
+command_tells profile command.Check options e r o more t = tells_none (Snap profile) IsInRecord r o more (subst (λ (b : Bool). Tells (Snap profile) IsInRecord b r o more) e t)
+command_tells profile command.Plan options e r o more t = tells_none (Plan profile) IsInRecord r o more (subst (λ (b : Bool). Tells (Plan profile) IsInRecord b r o more) e t)

@@ -1,0 +1,52 @@
+//! Lines of the input, counted.
+ghost use Rattle.std.specs.Prelude.{◌≡◌, ◌∷◌, ◌++◌, ℕ, List, [], is_some};
+ghost use Rattle.cg_run.specs.Lines.{AreBehind, AreCounted};
+
+/// How many lines have ended, and how many bytes came of the next one. A number that is more than `u64::MAX` stays
+/// there.
+#[derive(Clone, Copy)]
+pub(crate) struct Lines {
+    pub(crate) ended: u64,
+    pub(crate) begun: u64,
+}
+
+impl Lines {
+    /// No byte came.
+    pub(crate) fn new() -> Lines
+        ensures { AreCounted result [] }
+    {
+        Lines { ended: 0, begun: 0 }
+    }
+
+    /// One more byte came.
+    fn behind(self, byte: u8) -> Lines
+        ensures { (p : List ℕ) → AreCounted self p → AreCounted result (p ++ byte ∷ []) }
+    {
+        if byte == b'\n' {
+            Lines {
+                ended: self.ended.saturating_add(1),
+                begun: 0,
+            }
+        } else {
+            Lines {
+                ended: self.ended,
+                begun: self.begun.saturating_add(1),
+            }
+        }
+    }
+}
+
+/// The lines behind more bytes, if they are counted.
+pub(crate) fn lines_behind(lines: Option<Lines>, bytes: &[u8]) -> Option<Lines>
+    ensures counted { (p : List ℕ) → AreBehind lines p → AreBehind result (p ++ bytes.now) }
+    ensures same { is_some result ≡ is_some lines }
+{
+    let Some(counted) = lines else {
+        return None;
+    };
+    let mut counted = counted;
+    for byte in bytes {
+        counted = counted.behind(*byte);
+    }
+    Some(counted)
+}
