@@ -5,7 +5,7 @@ use crate::script::{Script, Sign, add_mark, told};
 use crate::taker::{FileTaker, Found, Step, Taker, WriteTaker};
 use crate::trial::Way;
 use cg_run::Command;
-use cg_snap::{Limits, PlanDecoder, SnapshotDecoder, Stop};
+use cg_snap::{GoingOnDecoder, Limits, PlanDecoder, SnapshotDecoder, Stop};
 use cg_text::ByteSet;
 use std::alloc::{AllocError, Global};
 
@@ -301,6 +301,18 @@ pub(crate) fn sweep(alloc: Global, script: &Script, counts: &mut Counts) -> Resu
         Command::Plan => sweep_by::<PlanDecoder>(alloc, script, counts),
         Command::File { .. } => sweep_by::<FileTaker>(alloc, script, counts),
         Command::Setting { .. } => sweep_by::<WriteTaker>(alloc, script, counts),
+        _ => Err(RowFault::BadWord),
+    }
+}
+
+/// Makes all sweeps over a snapshot that is gone on with.
+pub(crate) fn sweep_going_on(
+    alloc: Global,
+    script: &Script,
+    counts: &mut Counts,
+) -> Result<(), RowFault> {
+    match &script.asked.command {
+        Command::Show => sweep_by::<GoingOnDecoder>(alloc, script, counts),
         _ => Err(RowFault::BadWord),
     }
 }

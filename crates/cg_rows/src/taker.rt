@@ -1,9 +1,10 @@
-//! What takes a text in pieces: the decoders of snapshots and of plans, and the readers of a file and of a write.
+//! What takes a text in pieces: the decoders of snapshots, of those that are gone on with, and of plans, and the
+//! readers of a file and of a write.
 use crate::asked::Asked;
 use cg_line::{PushFault, PushedRun, SettingReader, ValueReader};
-use cg_print::{print_entry, print_file, print_item, print_setting};
+use cg_print::{append_entry, print_entry, print_file, print_item, print_setting};
 use cg_run::Command;
-use cg_snap::{Event, PlanDecoder, SnapshotDecoder, Stop, Why};
+use cg_snap::{Event, Found as Told, GoingOnDecoder, PlanDecoder, SnapshotDecoder, Stop, Why};
 use cg_text::{ByteSet, OutOfMemory};
 use cg_value::{read_kind, write_kind};
 use std::alloc::Global;
@@ -130,6 +131,62 @@ impl Taker for PlanDecoder {
     fn end(self, alloc: Global) -> Found {
         match self.finish() {
             Ok(()) => Found::Text(Vec::new(alloc)),
+            Err(stop) => Found::Stopped(stop),
+        }
+    }
+}
+
+/// The records of the entry, and a line for what is left out.
+fn told_text(alloc: Global, told: Told) -> Result<Vec<u8>, OutOfMemory> {
+    let mut text = Vec::new(alloc);
+    if let Some(entry) = &told.entry {
+        append_entry(&mut text, entry)?;
+    }
+    if let Some(left_out) = &told.left_out {
+        let line = format!(in alloc; "left out at {}: {}", left_out.at, left_out.cause)?;
+        text.extend_from_slice(line.as_bytes())?;
+        if let Some(path) = &left_out.path {
+            text.extend_from_slice(b": ")?;
+            text.extend_from_slice(path.as_slice())?;
+        }
+        text.push(b'\n')?;
+    }
+    Ok(text)
+}
+
+impl Taker for GoingOnDecoder {
+    fn fresh(alloc: Global, asked: &Asked) -> Option<GoingOnDecoder> {
+        Some(GoingOnDecoder::new(alloc, asked.profile, asked.limits))
+    }
+
+    fn next(&mut self, alloc: Global, piece: &[u8]) -> Step {
+        let pulled = GoingOnDecoder::next(self, piece);
+        let used = pulled.used;
+        let found = match pulled.what {
+            Event::NeedMore => found_if(used == piece.len(), Found::More),
+            Event::OutOfMemory => Found::Wrong,
+            Event::Given(told) => text(told_text(alloc, told)),
+            Event::Stopped(stop) => Found::Stopped(stop),
+        };
+        Step { used, found }
+    }
+
+    fn allowed(&self) -> ByteSet {
+        GoingOnDecoder::allowed(self)
+    }
+
+    fn offset(&self) -> u64 {
+        GoingOnDecoder::offset(self)
+    }
+
+    fn takes_line(&self) -> Option<bool> {
+        None
+    }
+
+    fn end(self, alloc: Global) -> Found {
+        match self.finish() {
+            Ok(Some(entry)) => text(print_entry(alloc, &entry)),
+            Ok(None) => Found::Text(Vec::new(alloc)),
             Err(stop) => Found::Stopped(stop),
         }
     }
