@@ -28,9 +28,6 @@ split_longer (x ∷ a) b (y ∷ c) d e le =
     let s = split_longer a b c d (tails x y (a ++ b) (c ++ d) e) (omega (arith, le)) in
     (s.0, ap (λ (t : List ℕ). y ∷ t) s.1 ∙ ap (λ (z : ℕ). z ∷ (a ++ s.0)) (sym (heads x y (a ++ b) (c ++ d) e)), s.2)
 
-record_end_push : (bytes : List ℕ) → IsRecordEnd (bytes ++ 10 ∷ [])
-record_end_push bytes = inr (bytes, refl)
-
 -- A line without a path keeps none, whatever comes.
 no_path_more : (max : ℕ) (bytes more path : List ℕ) → Lacks 10 bytes → (IsOpen max bytes → ⊥) → ((q : List ℕ) → HasPath max bytes q → ⊥) → HasPath max (bytes ++ more) path → ⊥
 no_path_more max bytes more path plain known none h =

@@ -7,10 +7,9 @@ use Rattle.cg_line.specs.Takes.{held_of}
 use Rattle.cg_snap.specs.Streams.{plan_stream}
 use Rattle.cg_snap.specs.Plan.{ClosedPlan, Plan, PlanText}
 use Rattle.cg_snap.specs.PlanStop.{IsPlanUnstopped}
-use Rattle.cg_snap.specs.Pulled.{StandsFor, WhatCame}
+use Rattle.cg_snap.specs.Pulled.{StandsFor}
 use Rattle.cg_snap.specs.declared.limits.Limits.{Limits}
 use Rattle.cg_snap.specs.declared.decoder.Decoder.{Decoder}
-use Rattle.cg_snap.specs.declared.event.Event.{Event}
 use Rattle.cg_snap.specs.declared.plan_records.PlanRecords.{PlanRecords}
 use Rattle.cg_snap.specs.declared.plan.Writing.{Writing}
 use Rattle.cg_snap.specs.declared.stop.Stop.{Stop}
@@ -49,10 +48,6 @@ StandsForPlan d = StandsFor (plan_stream (plan_profile_of d)) d
 abbrev pub PulledPlanIsClosed : Type 0
 PulledPlanIsClosed = (d : PlanDecoder) (p : List ℕ) (items : List ItemData) → StandsForPlan d p items →
     ClosedPlan (plan_profile_of d) p items × Viable (Plan (plan_profile_of d)) p × IsPlanUnstopped (plan_profile_of d) (plan_limits_of d) p
-
--- What a call of next leaves that consumed so many bytes of the piece, and what it found.
-abbrev pub PlanWhatIs : PlanDecoder → List ℕ → List ItemData → List ℕ → ℕ → Event ItemData → Type 0
-PlanWhatIs new = WhatCame (plan_stream (plan_profile_of new)) new
 
 -- What finish answers of a decoder that didn't stop: the bytes are the plan of the items, or they are no plan.
 abbrev pub PlanFinishIs : Profile → List ℕ → List ItemData → Result (Unit {0}) Stop → Type 0

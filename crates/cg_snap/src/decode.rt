@@ -158,7 +158,7 @@ fn end_found(decoder: GoingOnDecoder, found: &mut Vec<Found>) -> Option<StreamFa
 /// The entries of the stream whose whole text these bytes are, and what is left out of it, in the order of the bytes
 /// that tell it.
 ///
-/// `Stopped` is `TooMuch`, the limit of the whole stream, or `Cut` where the bytes end within a line; `OutOfMemory` is a
+/// `Stopped` is `TooMuch`, the limit of the whole stream, or `Cut` where the bytes end within a line; `OutOfMemory` is
 /// want of memory. What was found before these, `GoingOnDecoder::next` gives.
 pub fn decode_snapshot_going_on(
     alloc: Global,

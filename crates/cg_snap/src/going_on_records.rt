@@ -180,8 +180,8 @@ impl GoingOnRecords {
         used + 1
     }
 
-    /// Passes over the line whose NUL came, where its path is that of the block that was left out; where it's another, no
-    /// further line of that block may come.
+    /// Passes over the line whose NUL came, where its path is that of the block that was left out; where it's another,
+    /// no further line of that block may come.
     fn settle(&mut self)
         ensures settled { (profile : Profile) (limits : Limits) (p : List ℕ) (told : List Told) →
             self.old.block.profile ≡ profile → self.old.meter.limits ≡ block_limits limits → self.old.limits ≡ limits →

@@ -35,9 +35,6 @@ pub bytes_of_lines : (lines : List (List ℕ)) → AllByRecursion IsRawLine line
 bytes_of_lines [] h = tt
 bytes_of_lines (line ∷ lines) h = bytes_append line (10 ∷ unlines lines) (raw_bytes line h.0) (omega arith, bytes_of_lines lines h.1)
 
-pub file_bytes : (kind : ReadForm) (text : List ℕ) → KindFile kind text → AreBytes text
-file_bytes kind text h = rw h.1.text_is (bytes_of_lines h.1.lines (raw_lines kind h.0 h.1.lines h.1.spelled))
-
 -- The first newline of two equal texts.
 first_newline : (line more front rest : List ℕ) → Lacks 10 line → line ++ 10 ∷ more ≡ front ++ 10 ∷ rest →
     ((line ≡ front) × (more ≡ rest)) ⊎ ((later : List ℕ) × (front ≡ line ++ 10 ∷ later) × (more ≡ later ++ 10 ∷ rest))
