@@ -80,12 +80,16 @@ impl Token for DeviceText {
 
     #[inline(always)]
     fn whole(&self, bytes: &[u8]) -> Option<(Device, usize)> {
-        let (numbers, count) = self.parts.whole(bytes)?;
-        let device = Device {
-            major: numbers.0 as u32,
-            minor: numbers.1.1 as u32,
-        };
-        Some((device, count))
+        match self.parts.whole(bytes) {
+            Some((numbers, count)) => {
+                let device = Device {
+                    major: numbers.0 as u32,
+                    minor: numbers.1.1 as u32,
+                };
+                Some((device, count))
+            }
+            None => None,
+        }
     }
 
     fn allows(&self, byte: u8) -> bool {

@@ -116,7 +116,10 @@ impl<V: Token, B: Follow<V>, C: Collection<V>> KeyedLines<V, B, C> {
         if !self.is_new_key() {
             return Ok(false);
         }
-        make_room(&mut self.ended)?;
+        match make_room(&mut self.ended) {
+            Ok(()) => {}
+            Err(e) => return Err(e),
+        }
         let key = renew(&mut self.key, &self.keys);
         put(&mut self.ended, key);
         self.stage = Stage::InValue;
@@ -142,7 +145,10 @@ impl<V: Token, B: Follow<V>, C: Collection<V>> KeyedLines<V, B, C> {
         if !self.is_new_key() {
             return Ok(false);
         }
-        self.pairs.reserve()?;
+        match self.pairs.reserve() {
+            Ok(()) => {}
+            Err(e) => return Err(e),
+        }
         let key = renew(&mut self.key, &self.keys);
         self.pairs.push(key, value);
         self.value = self.values.start();
@@ -213,7 +219,10 @@ impl<V: Token, B: Follow<V>, C: Collection<V>> KeyedLines<V, B, C> {
         if !self.value.can_end() {
             return Ok(false);
         }
-        self.pairs.reserve()?;
+        match self.pairs.reserve() {
+            Ok(()) => {}
+            Err(e) => return Err(e),
+        }
         let value = renew(&mut self.value, &self.values);
         match self.ended.pop() {
             Some(key) => self.pairs.push(key, value),
@@ -274,7 +283,10 @@ impl<V: Token, B: Follow<V>, C: Collection<V>> KeyedLines<V, B, C> {
         ensures size { IfSome result (λ r. ⟦<WordText as Token>⟧.value_size r.0 + (1 + V.value_size r.1)
             ≤ ⟦<WordText as Token>⟧.size self.now.key + (V.size self.now.value + length line.now)) }
     {
-        let (key, count) = self.key.whole(line)?;
+        let (key, count) = match self.key.whole(line) {
+            Some(found) => found,
+            None => return None,
+        };
         if count == line.len() || line[count] != self.mark {
             return None;
         }

@@ -54,10 +54,15 @@ impl<T: Token> Token for LabelText<T> {
 
     #[inline(always)]
     fn whole(&self, bytes: &[u8]) -> Option<(((), T::Out), usize)> {
-        let (_, count) = self.label.whole(bytes)?;
+        let count = match self.label.whole(bytes) {
+            Some((_, count)) => count,
+            None => return None,
+        };
         let (_, rest) = bytes.split_at(count);
-        let (value, more) = self.token.whole(rest)?;
-        Some((((), value), count + more))
+        match self.token.whole(rest) {
+            Some((value, more)) => Some((((), value), count + more)),
+            None => None,
+        }
     }
 
     fn allows(&self, byte: u8) -> bool {

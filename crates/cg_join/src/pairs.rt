@@ -142,7 +142,10 @@ impl<V: Token, B: Start<V>, F: Pairing<V>> DistinctPairs<V, B, F> {
         if is_old_word::<V, F>(&self.items, &self.word) {
             return Ok(false);
         }
-        self.items.reserve()?;
+        match self.items.reserve() {
+            Ok(()) => {}
+            Err(e) => return Err(e),
+        }
         let word = renew(&mut self.word, &self.words);
         self.items.push(F::begin(word));
         self.stage = Stage::InValue;
@@ -208,12 +211,18 @@ fn pair_in_front<V: Token, F: Pairing<V>>(
     ensures size { IfSome result (λ r. pair_size F.word_of F.value_of ⟦<WordText as Token>⟧.value_size V.value_size r.0
         + 1 ≤ ⟦<WordText as Token>⟧.size word.now + (V.size value.now + r.1)) }
 {
-    let (key, count) = word.whole(bytes)?;
+    let (key, count) = match word.whole(bytes) {
+        Some(found) => found,
+        None => return None,
+    };
     if count == bytes.len() || bytes[count] != mark {
         return None;
     }
     let (_, rest) = bytes.split_at(count + 1);
-    let (part, more) = value.whole(rest)?;
+    let (part, more) = match value.whole(rest) {
+        Some(found) => found,
+        None => return None,
+    };
     let mut pair = F::begin(key);
     F::complete(&mut pair, part);
     Some((pair, count + 1 + more))
@@ -269,7 +278,15 @@ impl<V: Token, B: Start<V>, F: Pairing<V>> Token for DistinctPairs<V, B, F> {
         if !self.is_first_word() {
             return None;
         }
-        let (pair, mut used) = pair_in_front::<V, F>(&self.word, &self.value, self.mark, bytes)?;
+        let (pair, mut used) = match pair_in_front::<V, F>(
+            &self.word,
+            &self.value,
+            self.mark,
+            bytes,
+        ) {
+            Some(found) => found,
+            None => return None,
+        };
         // Room for all pairs at once, where they are few.
         let room = (bytes.len() / PAIR).min(ROOM);
         let mut items = KeyedItems::with_room(self.words.alloc(), room);
@@ -280,7 +297,10 @@ impl<V: Token, B: Start<V>, F: Pairing<V>> Token for DistinctPairs<V, B, F> {
         let value = self.values.start();
         while used < bytes.len() && bytes[used] == self.separator {
             let (_, rest) = bytes.split_at(used + 1);
-            let (pair, count) = pair_in_front::<V, F>(&word, &value, self.mark, rest)?;
+            let (pair, count) = match pair_in_front::<V, F>(&word, &value, self.mark, rest) {
+                Some(found) => found,
+                None => return None,
+            };
             if items.push(pair).is_err() {
                 return None;
             }

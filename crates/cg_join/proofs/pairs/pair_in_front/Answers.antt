@@ -5,14 +5,14 @@ use Rattle.cg_join.proofs.pairs.pair_in_front.Goals as goal
 pub returns-clause-front : goal.returns-clause-front
 returns-clause-front g c =
     let bytes = c.args.bytes.now in
-    let n = c.in_ok-key.count in
-    let m = c.in_ok-part.more in
-    let first = c.in_ok-key.ensures.front in
-    let second = rw c.split_at.ensures.back at c.in_ok-part.ensures.front in
+    let n = c.in-Some.found.1 in
+    let m = c.in-Some-whole.found.1 in
+    let first = c.in-Some.ensures.front in
+    let second = rw c.split_at.ensures.back at c.in-Some-whole.ensures.front in
     let inside : n < length bytes = omega (arith, first.0, c.if-count-bytes.false) in
-    let word = ap g.F.Pairing.word_of c.complete.ensures ∙ g.F.Pairing.has_word (g.F.Pairing.word_of c.begin-pair.result) c.in_ok-part.part ∙ c.begin-pair.ensures.word in
-    let value = ap g.F.Pairing.value_of c.complete.ensures ∙ g.F.Pairing.has_value (g.F.Pairing.word_of c.begin-pair.result) c.in_ok-part.part in (
-      omega (arith, c.in_ok-part.ensures.front.0, c.split_at.ensures.back_len, inside),
+    let word = ap g.F.Pairing.word_of c.complete.ensures ∙ g.F.Pairing.has_word (g.F.Pairing.word_of c.begin-pair.result) c.in-Some-whole.found.0 ∙ c.begin-pair.ensures.word in
+    let value = ap g.F.Pairing.value_of c.complete.ensures ∙ g.F.Pairing.has_value (g.F.Pairing.word_of c.begin-pair.result) c.in-Some-whole.found.0 in (
+      omega (arith, c.in-Some-whole.ensures.front.0, c.split_at.ensures.back_len, inside),
       record {
         front = take n bytes;
         back = take m (drop (n + 1) bytes);

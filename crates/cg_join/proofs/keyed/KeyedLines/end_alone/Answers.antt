@@ -1,5 +1,4 @@
 use Rattle.std.proofs.Common.{◌≡◌, [], ◌∷◌, ◌++◌, map, length, Some, sym, ◌∙◌, ap}
-use Rattle.cg_text.specs.TokenLaws.{err_holds}
 use Rattle.cg_join.specs.Keyed.{IsKeyed}
 use Rattle.cg_join.specs.KeyedState.{is_begun}
 use Rattle.cg_join.specs.KeyedLaws.{distinct_added, distinct_first, keyed_alike, keyed_lacks, keyed_one, new_lacks, none_kept}
@@ -119,8 +118,8 @@ returns-clause-taken g c =
     p (rw hk kv) (is_alone ∙ ap Some (sym hv)) (g.C.Collection.pairs_of c.push.new.self) added F
     (keyed_alike k v alone old.mark (word_text.ghosts.means c.renew-key.new.token) (SpellsWord old.keys.controller) (g.V.Token.means c.start.result) (g.B.Start.texts old.values) c.renew-key.ensures.spells.is c.start.ensures.spells.is))
 
-pub returns-in_err-reserve-clause-last : goal.returns-in_err-reserve-clause-last
-returns-in_err-reserve-clause-last g c =
+pub returns-in-Err-clause-last : goal.returns-in-Err-clause-last
+returns-in-Err-clause-last g c =
     let old = c.args.self.now in
     let k = g.C.Collection.key_of in
     let v = g.C.Collection.value_of in
@@ -137,7 +136,7 @@ returns-in_err-reserve-clause-last g c =
     let one = word_text.ghosts.one_value old.key in
     let first = distinct_first (map k items) old.ended.items old.distinct in
     let lacks = keyed_lacks k v alone old.mark K D old.end old.apart old.key_end old.value_end in
-    err_holds c.from_residual.result (rw c.requires ((end_begins k v given items R K D alone old.mark old.end
+    rw c.requires ((end_begins k v given items R K D alone old.mark old.end
     (is_begun old.stage) f e is ended one g.C.Collection.paired g.C.Collection.has_key g.C.Collection.has_value
     first lacks c.in-Some.value (sym c.alone.ensures ∙ c.in-Some.is)).0
-    (sym c.is_new_key.ensures ∙ c.if-not-is_new_key.false)))
+    (sym c.is_new_key.ensures ∙ c.if-not-is_new_key.false))

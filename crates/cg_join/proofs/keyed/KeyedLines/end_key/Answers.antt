@@ -1,5 +1,4 @@
 use Rattle.std.proofs.Common.{◌≡◌, [], ◌∷◌, ◌++◌, map, length, sym, ◌∙◌, ap}
-use Rattle.cg_text.specs.TokenLaws.{unless_holds, err_holds}
 use Rattle.cg_join.specs.DistinctLaws.{distinct_push}
 use Rattle.cg_join.specs.Keyed.{IsKeyed}
 use Rattle.cg_join.specs.KeyedState.{is_begun}
@@ -29,9 +28,9 @@ returns-then-not-is_new_key-clause-refused g c =
     let one = word_text.ghosts.one_value old.key in
     rw c.requires (mark_refused k v given items R K D alone old.mark old.end (is_begun old.stage) f e is ended one old.key_mark old.apart (sym c.is_new_key.ensures ∙ c.if-not-is_new_key.true))
 
-pub returns-in_err-make_room-clause-same : goal.returns-in_err-make_room-clause-same
-returns-in_err-make_room-clause-same g c =
-    unless_holds c.from_residual.result (rw (c.make_room.ensures.items, c.requires) (λ rest y. (λ h. h, λ h. h)))
+pub returns-in-Err-clause-same : goal.returns-in-Err-clause-same
+returns-in-Err-clause-same g c =
+    rw (c.make_room.ensures.items, c.requires) (λ rest y. (λ h. h, λ h. h))
 
 pub invariant_of-self-2 : goal.invariant_of-self-2
 invariant_of-self-2 g c =
@@ -83,8 +82,8 @@ returns-clause-taken g c =
     let held : c.put.new.items.items ≡ key ∷ [] = c.put.ensures ∙ ap (λ x. x ++ key ∷ []) (c.make_room.ensures.items ∙ none) in
     rw c.requires (mark_step k v given items R K D alone old.mark old.end (is_begun old.stage) old.key_mark old.apart one key kv c.put.new.items.items held (word_text.ghosts.means c.renew-key.new.token))
 
-pub returns-in_err-make_room-clause-last : goal.returns-in_err-make_room-clause-last
-returns-in_err-make_room-clause-last g c =
+pub returns-in-Err-clause-last : goal.returns-in-Err-clause-last
+returns-in-Err-clause-last g c =
     let old = c.args.self.now in
     let k = g.C.Collection.key_of in
     let v = g.C.Collection.value_of in
@@ -100,7 +99,7 @@ returns-in_err-make_room-clause-last g c =
     let ended = word_text.ghosts.ends_is old.key in
     let one = word_text.ghosts.one_value old.key in
     let first = distinct_first (map k items) old.ended.items old.distinct in
-    err_holds c.from_residual.result (rw c.requires ((mark_begins k v given items R K D alone old.mark old.end
+    rw c.requires ((mark_begins k v given items R K D alone old.mark old.end
     (is_begun old.stage) f e is ended one g.C.Collection.paired g.C.Collection.has_key g.C.Collection.has_value
     first old.key_mark old.apart (g.V.Token.completes old.value)).0
-    (sym c.is_new_key.ensures ∙ c.if-not-is_new_key.false)))
+    (sym c.is_new_key.ensures ∙ c.if-not-is_new_key.false))

@@ -1,4 +1,4 @@
-use Rattle.cg_text.specs.TokenLaws.{if_err_as, err_holds}
+use Rattle.cg_text.specs.TokenLaws.{if_err_as}
 use Rattle.cg_join.specs.LinesLaws.{lacks_same}
 use Rattle.std.proofs.Common.{◌≡◌, true, [], ◌∷◌, ◌++◌, map, ◌∙◌, ap, sym}
 use Rattle.cg_join.specs.Keyed.{IsKeyed}
@@ -136,8 +136,8 @@ returns-then-byte-self-clause-last g c =
     g.C.Collection.has_key g.C.Collection.has_value old.distinct
     (rw c.requires at old.kept) c.args.byte c.if-byte-self.true).0 c.step.ensures.last)
 
-pub returns-in_err-reserve-clause-last : goal.returns-in_err-reserve-clause-last
-returns-in_err-reserve-clause-last g c =
+pub returns-in-Err-clause-last : goal.returns-in-Err-clause-last
+returns-in-Err-clause-last g c =
     let old = c.args.self.now in
     let k = g.C.Collection.key_of in
     let v = g.C.Collection.value_of in
@@ -147,10 +147,10 @@ returns-in_err-reserve-clause-last g c =
     let K = word_text.ghosts.means old.key in
     let D = g.V.Token.means old.value in
     let R = IsKeyed k v (SpellsWord old.keys.controller) (g.B.Start.texts old.values) alone old.mark in
-    err_holds c.from_residual.result (rw (c.requires, c.if-byte-self.false)
+    rw (c.requires, c.if-byte-self.false)
     ((over_begins k v given items R K D alone old.mark old.end true old.ended.items g.C.Collection.paired
     g.C.Collection.has_key g.C.Collection.has_value old.distinct (rw c.requires at old.kept) old.value_end).0
-    ((g.V.Token.ends_is old.value).0 (sym c.can_end.ensures ∙ c.if-not-can_end.false))))
+    ((g.V.Token.ends_is old.value).0 (sym c.can_end.ensures ∙ c.if-not-can_end.false)))
 
 pub invariant_of-self-2-clause-key_mark : goal.invariant_of-self-2-clause-key_mark
 invariant_of-self-2-clause-key_mark g c =

@@ -1,5 +1,5 @@
 use Rattle.std.proofs.Common.{◌≡◌, true, false, not, [], ◌∷◌, ◌++◌, map, refl, sym, ◌∙◌, ap, arith}
-use Rattle.cg_text.specs.TokenLaws.{if_err_as, unless_holds, err_holds}
+use Rattle.cg_text.specs.TokenLaws.{if_err_as}
 use Rattle.cg_join.specs.RepeatLaws.{size_pushed}
 use Rattle.cg_join.specs.Distinct.{any_value}
 use Rattle.cg_join.specs.DistinctLaws.{lacks_value}
@@ -107,9 +107,9 @@ returns-then-is_old_word-clause-refused g c =
     rw (c.requires, c.if-byte-self.false)
     (old_word_refused w v old.mark old.separator old.items.items R K D old.lacks (word_text.ghosts.one_value old.word) f (λ x t. (taken_is old.word.controller old.word.bytes.items old.word.sound x).0 t) there)
 
-pub returns-in_err-reserve-clause-same : goal.returns-in_err-reserve-clause-same
-returns-in_err-reserve-clause-same g c =
-    unless_holds c.from_residual.result (rw (c.reserve.ensures.items, c.requires) (λ rest all. (λ h. h, λ h. h)))
+pub returns-in-Err-clause-same : goal.returns-in-Err-clause-same
+returns-in-Err-clause-same g c =
+    rw (c.reserve.ensures.items, c.requires) (λ rest all. (λ h. h, λ h. h))
 
 pub push-requires-clause-new : goal.push-requires-clause-new
 push-requires-clause-new g c =
@@ -208,8 +208,8 @@ returns-then-byte-self-clause-last g c =
     rw c.requires (if_err_as c.step.result (word_begins w v paired hw hv old.mark old.separator old.items.items R K D old.distinct c.args.byte c.if-byte-self.true
     (λ h. word_new old.word.controller old.word.bytes.items (c.args.byte ∷ []) h (map w old.items.items)) (g.V.Token.completes old.value)).0 c.step.ensures.last)
 
-pub returns-in_err-reserve-clause-last : goal.returns-in_err-reserve-clause-last
-returns-in_err-reserve-clause-last g c =
+pub returns-in-Err-clause-last : goal.returns-in-Err-clause-last
+returns-in-Err-clause-last g c =
     let old = c.args.self.now in
     let w = g.F.Pairing.word_of in
     let v = g.F.Pairing.value_of in
@@ -221,8 +221,8 @@ returns-in_err-reserve-clause-last g c =
     let K = word_text.ghosts.means old.word in
     let f = is_taken old.word.bytes.items in
     let new : not (any_value f (map w old.items.items)) ≡ true = ap not (sym c.is_old_word.ensures ∙ c.if-is_old_word.false) in
-    err_holds c.from_residual.result (rw (c.requires, c.if-byte-self.false)
+    rw (c.requires, c.if-byte-self.false)
     ((mark_begins w v paired hw hv old.mark old.separator old.items.items R K D old.distinct old.lacks
     (word_text.ghosts.one_value old.word) f
     (taken_is old.word.controller old.word.bytes.items old.word.sound) true
-    (λ e. (word_text.ghosts.ends_is old.word).0 (sym c.can_end.ensures ∙ c.if-not-can_end.false), λ h. refl) (g.V.Token.completes old.value)).0 new))
+    (λ e. (word_text.ghosts.ends_is old.word).0 (sym c.can_end.ensures ∙ c.if-not-can_end.false), λ h. refl) (g.V.Token.completes old.value)).0 new)

@@ -12,14 +12,14 @@ use Rattle.cg_join.proofs.pairs.DistinctPairsToken.whole.Goals as goal
 
 pub loop-used-init : goal.loop-used-init
 loop-used-init g c =
-    let p = c.in_ok-pair.pair in
+    let p = c.in-Some.found.0 in
     let f = pair_size g.F.Pairing.word_of g.F.Pairing.value_of word_text.ghosts.value_size g.V.Token.value_size in
     let items : c.push.new.self ≡ p ∷ [] = pushed_last c.push.result c.if-is_err.ensures.value c.push.ensures.ok ∙ ap (λ xs. xs ++ p ∷ []) c.with_room-items.ensures in
     record {
-      within = c.in_ok-pair.ensures.front.0;
-      list = rw items c.in_ok-pair.ensures.front.1;
+      within = c.in-Some.ensures.front.0;
+      list = rw items c.in-Some.ensures.front.1;
       distinct = rw items (tt, tt);
-      size = (let e = ap (items_size f) items in omega (arith, e, c.in_ok-pair.ensures.size));
+      size = (let e = ap (items_size f) items in omega (arith, e, c.in-Some.ensures.size));
     }
 
 pub loop-used-preserved : goal.loop-used-preserved
@@ -27,8 +27,8 @@ loop-used-preserved g c =
     let self = c.args.self.now in
     let bytes = c.args.bytes.now in
     let used = c.loop-used.used in
-    let count = c.in_ok-pair-2.count in
-    let p = c.in_ok-pair-2.pair in
+    let found = c.in-Some-pair_in_front.found in
+    let p = found.0 in
     let word = g.F.Pairing.word_of in
     let value = g.F.Pairing.value_of in
     let P = IsPairText word value (word_text.ghosts.means self.word) (g.V.Token.means self.value) self.mark in
@@ -36,16 +36,16 @@ loop-used-preserved g c =
     let f = pair_size word value word_text.ghosts.value_size g.V.Token.value_size in
     let push = c.push-in-loop-used in
     let items : push.new.self ≡ c.loop-used.items ++ p ∷ [] = pushed_last push.result c.if-is_err-2.ensures.value push.ensures.ok in
-    let front = rw c.split_at.ensures.back at c.in_ok-pair-2.ensures.front in
-    let text = take count (drop (used + 1) bytes) in
+    let front = rw c.split_at.ensures.back at c.in-Some-pair_in_front.ensures.front in
+    let text = take found.1 (drop (used + 1) bytes) in
     let pair : R text p = pair_as word value self.mark (word_text.ghosts.means c.start-word.result) (SpellsWord self.words.controller) (g.V.Token.means c.start-value.result) (g.B.Start.texts self.values)
     (λ r v. (c.start-word.ensures.spells.is r v).0) (λ r v. (c.start-value.ensures.spells.is r v).0) text p front.1 in
     let lacks = rw g.met.F.Pairing.keyed at (not_among (g.F.Pair.HasKey.key_of p) (map g.F.Pair.HasKey.key_of c.loop-used.items) (sym push.ensures.repeated ∙ pushed_new push.result c.if-is_err-2.ensures.value)) in
     record {
-      within = omega (arith, c.in_ok-pair-2.ensures.front.0, c.split_at.ensures.back_len, c.loop-used-test.true);
-      list = rw (items, front_longer bytes used count self.separator c.loop-used-test.true c.if-bytes-used.true) (list_longer self.separator P R (take used bytes) text c.loop-used.items p c.loop-used.invariant.list pair);
+      within = omega (arith, c.in-Some-pair_in_front.ensures.front.0, c.split_at.ensures.back_len, c.loop-used-test.true);
+      list = rw (items, front_longer bytes used found.1 self.separator c.loop-used-test.true c.if-bytes-used.true) (list_longer self.separator P R (take used bytes) text c.loop-used.items p c.loop-used.invariant.list pair);
       distinct = rw items (words_push word c.loop-used.items p c.loop-used.invariant.distinct lacks);
-      size = omega (arith, size_pushed f push.new.self c.loop-used.items p items, c.loop-used.invariant.size, c.in_ok-pair-2.ensures.size, c.start-word.ensures.size, c.start-value.ensures.size);
+      size = omega (arith, size_pushed f push.new.self c.loop-used.items p items, c.loop-used.invariant.size, c.in-Some-pair_in_front.ensures.size, c.start-word.ensures.size, c.start-value.ensures.size);
     }
 
 pub returns-clause-front : goal.returns-clause-front
