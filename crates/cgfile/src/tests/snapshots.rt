@@ -1,6 +1,6 @@
-//! Whole snapshots, and entries that are written, with ample memory.
+//! Snapshots and their entries, and entries that are written, with ample memory.
 use cg_print::{CutSink, EntryWriteFault, write_entry};
-use cg_snap::{Limits, SnapshotDecoder, Stop, StreamFault, Why, decode_snapshot};
+use cg_snap::{Limits, SnapshotDecoder, Stop};
 use cg_text::{Items, Limit};
 use cg_value::{Entry, PlanItem, Profile, RawLines, Role, Setting, Value};
 use std::alloc::{AllocError, Global};
@@ -63,12 +63,6 @@ pub(crate) fn are_same(entries: &[Entry], wanted: &[Entry]) -> bool {
     entries.len() == wanted.len() && entries.iter().zip(wanted).all(is_same)
 }
 
-/// Process numbers.
-fn numbers(alloc: Global, all: &[u64]) -> Result<Value, AllocError> {
-    let held = Vec::from_slice(alloc, all)?;
-    Ok(Value::Numbers(Items::of(held)))
-}
-
 /// Lines that are kept as they are, each with its newline.
 fn raw(alloc: Global, text: &[u8]) -> Result<Value, Fail> {
     let held = Vec::from_slice(alloc, text)?;
@@ -86,16 +80,6 @@ fn invalid_root(alloc: Global, reason: &[u8]) -> Result<Value, AllocError> {
     })
 }
 
-/// The entries that come back to a path.
-fn paths_that_recur(alloc: Global) -> Result<Vec<Entry>, Fail> {
-    let first = entry(alloc, b"cpu.idle", Value::Number(0))?;
-    let one = numbers(alloc, &[1])?;
-    let second = entry(alloc, b"cgroup.procs", one)?;
-    let third = entry(alloc, b"cpu.idle", Value::Number(1))?;
-    let entries = vec![in alloc; first, second, third]?;
-    Ok(entries)
-}
-
 /// The entries of `RAW_AND_REASON`.
 pub(crate) fn raw_and_reason(alloc: Global) -> Result<Vec<Entry>, Fail> {
     let line = raw(alloc, b"max\n")?;
@@ -104,73 +88,6 @@ pub(crate) fn raw_and_reason(alloc: Global) -> Result<Vec<Entry>, Fail> {
     let second = entry(alloc, b"x/cpuset.cpus.partition", root)?;
     let entries = vec![in alloc; first, second]?;
     Ok(entries)
-}
-
-/// One entry of two lines.
-fn two_processes(alloc: Global) -> Result<Vec<Entry>, Fail> {
-    let both = numbers(alloc, &[1, 2])?;
-    let only = entry(alloc, b"p/cgroup.procs", both)?;
-    let entries = vec![in alloc; only]?;
-    Ok(entries)
-}
-
-/// What becomes of a snapshot whose entries have at most so many lines.
-fn decoded(alloc: Global, max_lines: u64, text: &[u8]) -> Result<Vec<Entry>, StreamFault> {
-    let limits = Limits {
-        max_lines,
-        ..Limits::DEFAULT
-    };
-    decode_snapshot(alloc, Profile::One, limits, text)
-}
-
-/// Whether a snapshot has these entries.
-fn has(alloc: Global, max_lines: u64, text: &[u8], wanted: &[Entry]) -> bool {
-    match decoded(alloc, max_lines, text) {
-        Ok(entries) => are_same(entries.as_slice(), wanted),
-        Err(_fault) => false,
-    }
-}
-
-/// Two lines of one entry.
-pub(crate) const TWO_LINES: &[u8] = b"p/cgroup.procs\01\np/cgroup.procs\02\n";
-
-#[test]
-fn whole_snapshots(rt: HostRuntime) -> Result<(), Fail> {
-    let alloc = rt.alloc();
-    let wanted = paths_that_recur(alloc)?;
-    let text = b"cpu.idle\00\ncgroup.procs\01\ncpu.idle\01\n";
-    assert!(rt; has(alloc, 1000000, text, wanted.as_slice()));
-    let wanted = raw_and_reason(alloc)?;
-    assert!(rt; has(alloc, 1000000, RAW_AND_REASON, wanted.as_slice()));
-    let wanted = two_processes(alloc)?;
-    assert!(rt; has(alloc, 2, TWO_LINES, wanted.as_slice()));
-    assert!(rt; has(alloc, 1000000, b"", &[]));
-    Ok(())
-}
-
-/// Why a text is no snapshot.
-fn fault_of(alloc: Global, max_lines: u64, text: &[u8]) -> Option<StreamFault> {
-    match decoded(alloc, max_lines, text) {
-        Ok(_entries) => None,
-        Err(fault) => Some(fault),
-    }
-}
-
-#[test]
-fn stopped_snapshots(rt: HostRuntime) {
-    let refused = Stop::Refused {
-        at: 26,
-        why: Why::NoMoreLines,
-    };
-    let rows: [(&[u8], u64, Stop); 3] = [
-        (b"cpu.max\0max 100000", 1000000, Stop::Cut { at: 18 }),
-        (LINE_TOO_MANY, 1000000, refused),
-        (TWO_LINES, 1, Stop::TooMany { at: 31 }),
-    ];
-    for (text, max_lines, stop) in rows {
-        let fault = fault_of(rt.alloc(), max_lines, text);
-        assert_eq!(rt; fault, Some(StreamFault::Stopped(stop)), "{text:?}");
-    }
 }
 
 /// The entry of `cpu.idle` with 1.

@@ -1,20 +1,36 @@
 //! Plans, and what becomes of entries, with the heap starved: after each refusal one block is given back, and the call
 //! is made again. Each answer is want of memory, or the answer with ample memory.
-use crate::tests::encoded::{entries_of, entry_of};
-use crate::tests::plans::{CONTROLLERS, LIMIT_PAIRS, PAIRS};
 use crate::tests::snapshots::{idle, memory_bound};
 use crate::tests::starved::{Blocks, hog, is_printed};
 use cg_json::{line, view};
 use cg_line::{UpgradeFault, upgrade};
 use cg_snap::{
     EncodeFault, Event, Limits, PlanDecoder, PlanPulled, Progress, Stop, StreamFault, Why,
-    decode_plan, encode_plan, encode_snapshot,
+    decode_plan, decode_snapshot, encode_plan, encode_snapshot,
 };
-use cg_text::{Items, Key, Limit, OutOfMemory};
+use cg_text::{Device, Items, Key, Limit, OutOfMemory};
 use cg_tree::{Finding, Rule, findings};
 use cg_value::{Entry, PlanItem, Profile, Setting, Toggle};
 use std::alloc::{AllocError, Global};
 use std::test::Fail;
+
+/// A plan of one write, whose pairs come in another order than they are printed in.
+const LIMIT_PAIRS: &[u8] = b"io.max\08:16 wiops=7 rbps=max\n";
+
+/// A plan of one write, with a word that comes again.
+const CONTROLLERS: &[u8] = b"cgroup.subtree_control\0+cpu -io +cpu\n";
+
+/// The setting of `LIMIT_PAIRS`.
+const PAIRS: Setting = Setting::DeviceLimits {
+    device: Device {
+        major: 8,
+        minor: 16,
+    },
+    rbps: Some(Limit::Max),
+    wbps: None,
+    riops: None,
+    wiops: Some(Limit::At(7)),
+};
 
 /// What a decoder tells of a piece, where it's called again with the rest of it after each refusal of memory, for which
 /// a block is given back. With it comes how many bytes were consumed.
@@ -208,6 +224,19 @@ const NODES: &[u8] = b"memory.numa_stat\0anon N0=1 N1=2\n";
 
 const TWICE: &[u8] = b"memory.numa_stat\0anon\nmemory.numa_stat\0anon\n";
 
+/// The entries of a snapshot.
+fn entries_of(alloc: Global, profile: Profile, text: &[u8]) -> Result<Vec<Entry>, Fail> {
+    let entries = decode_snapshot(alloc, profile, Limits::DEFAULT, text)?;
+    Ok(entries)
+}
+
+/// The entry of a snapshot of one.
+fn entry_of(alloc: Global, profile: Profile, text: &[u8]) -> Result<Entry, Fail> {
+    let mut entries = entries_of(alloc, profile, text)?;
+    let entry = entries.pop().ok_or("no entry")?;
+    Ok(entry)
+}
+
 /// Adds the entries that are upgraded: one of nested lines, one of two lines of one key, and one that is copied.
 fn add_upgrades(alloc: Global, calls: &mut Vec<Call>) -> Result<(), Fail> {
     let wanted = entry_of(alloc, Profile::Two, NODES)?;
@@ -231,7 +260,7 @@ fn other_calls(alloc: Global) -> Result<Vec<Call>, Fail> {
     let entry = idle(alloc)?;
     let entries = vec![in alloc; entry]?;
     calls.push(Call::EncodeSnapshot(entries))?;
-    let entries = entries_of(alloc, Profile::One, &[DELEGATED])?;
+    let entries = entries_of(alloc, Profile::One, DELEGATED)?;
     calls.push(Call::Find(entries))?;
     let tree = serde_json::Value::from_str(alloc, BOUND_LINE)?;
     let entry = entry_of(alloc, Profile::One, BOUND)?;

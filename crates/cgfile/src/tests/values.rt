@@ -1,6 +1,6 @@
 //! Sets, keys, pairs and values that no command makes otherwise than from a text.
 use cg_line::decode_file;
-use cg_text::{Amount, Device, Hundredths, Key, KeyFault, NumberSet, OutOfMemory};
+use cg_text::{Device, Key, KeyFault, NumberSet, OutOfMemory};
 use cg_value::{Flat, FlatBuilder, FlatRefused, Profile, Value};
 use std::alloc::Global;
 use std::test::Fail;
@@ -124,20 +124,6 @@ const OTHER: Device = Device {
     major: 8,
     minor: 16,
 };
-
-#[test]
-fn amounts_are_looked_up(rt: HostRuntime) -> Result<(), Fail> {
-    let text = b"8:0 rbytes=1 cost.vrate=100.00\n8:16\n8:0 rbytes=2\n";
-    let stats = value_of(rt.alloc(), b"io.stat", text)?;
-    let rate = Amount::Decimal(Hundredths { count: 10000 });
-    assert_eq!(rt; stats.amount_of(DISK, b"cost.vrate"), Some(rate));
-    assert_eq!(rt; stats.amount_of(DISK, b"rbytes"), Some(Amount::Whole(1)));
-    assert_eq!(rt; stats.amount_of(DISK, b"wbytes"), None);
-    assert_eq!(rt; stats.amount_of(OTHER, b"rbytes"), None);
-    assert_eq!(rt; stats.weight_of(DISK), None);
-    assert_eq!(rt; stats.line_count(), 3);
-    Ok(())
-}
 
 #[test]
 fn weights_are_looked_up(rt: HostRuntime) -> Result<(), Fail> {
