@@ -1,8 +1,11 @@
 # cgfile: `make` proves and builds the program and the C library and shows the program's first run; `make check` runs all tests;
 # `make quick` builds the program without a proof, for trying alone; `make install` installs the proved program, its manual page,
-# the completions of three shells, and the C library, below $(DESTDIR)$(PREFIX).
+# the completions of three shells, and the C library, below $(DESTDIR)$(PREFIX); the C library in $(DESTDIR)$(LIBDIR) and
+# $(DESTDIR)$(INCLUDEDIR).
 
 PREFIX ?= /usr/local
+LIBDIR ?= $(PREFIX)/lib
+INCLUDEDIR ?= $(PREFIX)/include
 BINDIR = $(DESTDIR)$(PREFIX)/bin
 SHAREDIR = $(DESTDIR)$(PREFIX)/share
 
@@ -11,16 +14,16 @@ SHAREDIR = $(DESTDIR)$(PREFIX)/share
 all: build/cgfile library
 	printf '10000\n' | build/cgfile file cpu.weight
 
-# The libraries: each is proved where it was never proved here, once those are that it stands on, and beside others that
-# stand on the same. Then the program over them, which proves again what has changed.
+# The libraries: each is proved where it wasn't proved of this text here, once those are that it stands on, and beside others;
+# as many at once as there are processors, and as 4 GiB of memory that is free. Then what stands on them.
 LIBRARIES = $(filter-out cgfile cg_rows cg_examples, $(shell sed -n 's/^\([a-z_]*\):.*/\1/p' crates.txt))
 below = $(filter $(LIBRARIES), $(shell sed -n 's/^$(1)://p' crates.txt))
-MAKEFLAGS += --jobs=$(shell nproc)
+MAKEFLAGS += --jobs=$(shell awk -v most=$$(nproc) '/^MemAvailable/ { n = int($$2 / 4194304) } END { print n < 1 ? 1 : n < most ? n : most }' /proc/meminfo)
 
 define library
 .PHONY: $(1)
 $(1): $(call below,$(1)) | version
-	cd crates/$(1) && { [ -e out/rlib/stamp ] || rt lib --jobs 2; }
+	scripts/library $(1)
 endef
 $(foreach it,$(LIBRARIES),$(eval $(call library,$(it))))
 
@@ -64,8 +67,6 @@ clean:
 
 # The C library: its calls as an archive and as a shared object, of which each shows the calls of include/cgfile.h alone, and
 # what pkg-config tells of them. The kit's allocator, over the C library's malloc, realloc and free, is in both.
-LIBDIR = $(DESTDIR)$(PREFIX)/lib
-INCLUDEDIR = $(DESTDIR)$(PREFIX)/include
 LIBRARY_VERSION = 0.1.0
 SONAME = libcgfile.so.0
 
@@ -89,7 +90,8 @@ build/libcgfile.so: build/cgfile.o
 
 build/cgfile.pc:
 	mkdir -p build
-	printf '%s\n' 'prefix=$(PREFIX)' 'libdir=$${prefix}/lib' 'includedir=$${prefix}/include' '' 'Name: cgfile' \
+	printf '%s\n' 'prefix=$(PREFIX)' 'libdir=$(patsubst $(PREFIX)/%,$${prefix}/%,$(LIBDIR))' \
+	    'includedir=$(patsubst $(PREFIX)/%,$${prefix}/%,$(INCLUDEDIR))' '' 'Name: cgfile' \
 	    'Description: reads the interface files of Linux control groups exactly' 'Version: $(LIBRARY_VERSION)' \
 	    'Libs: -L$${libdir} -lcgfile' 'Cflags: -I$${includedir}' > $@
 
@@ -98,13 +100,13 @@ check-library: library
 	tests/library
 
 install-library: library
-	install -D -m 644 include/cgfile.h $(INCLUDEDIR)/cgfile.h
-	install -D -m 644 build/libcgfile.a $(LIBDIR)/libcgfile.a
-	install -D -m 755 build/libcgfile.so $(LIBDIR)/libcgfile.so.$(LIBRARY_VERSION)
-	ln -sf libcgfile.so.$(LIBRARY_VERSION) $(LIBDIR)/$(SONAME)
-	ln -sf $(SONAME) $(LIBDIR)/libcgfile.so
-	install -D -m 644 build/cgfile.pc $(LIBDIR)/pkgconfig/cgfile.pc
+	install -D -m 644 include/cgfile.h $(DESTDIR)$(INCLUDEDIR)/cgfile.h
+	install -D -m 644 build/libcgfile.a $(DESTDIR)$(LIBDIR)/libcgfile.a
+	install -D -m 755 build/libcgfile.so $(DESTDIR)$(LIBDIR)/libcgfile.so.$(LIBRARY_VERSION)
+	ln -sf libcgfile.so.$(LIBRARY_VERSION) $(DESTDIR)$(LIBDIR)/$(SONAME)
+	ln -sf $(SONAME) $(DESTDIR)$(LIBDIR)/libcgfile.so
+	install -D -m 644 build/cgfile.pc $(DESTDIR)$(LIBDIR)/pkgconfig/cgfile.pc
 
 uninstall-library:
-	rm -f $(INCLUDEDIR)/cgfile.h $(LIBDIR)/libcgfile.a $(LIBDIR)/libcgfile.so $(LIBDIR)/$(SONAME) \
-	    $(LIBDIR)/libcgfile.so.$(LIBRARY_VERSION) $(LIBDIR)/pkgconfig/cgfile.pc
+	rm -f $(DESTDIR)$(INCLUDEDIR)/cgfile.h $(DESTDIR)$(LIBDIR)/libcgfile.a $(DESTDIR)$(LIBDIR)/libcgfile.so $(DESTDIR)$(LIBDIR)/$(SONAME) \
+	    $(DESTDIR)$(LIBDIR)/libcgfile.so.$(LIBRARY_VERSION) $(DESTDIR)$(LIBDIR)/pkgconfig/cgfile.pc
