@@ -1,6 +1,7 @@
 /* Each group's memory limits, from a snapshot on standard input, as `grep -rZ '' /sys/fs/cgroup` prints one: a line for each, its
  * path, a colon and a space, and the number of bytes or "max". The snapshot may be of any length: what is kept of it is the
- * entry that is being read. Where it is refused or cut, the place is told on standard error, and the status is 1.
+ * entry that is being read. Where it is refused or cut, the place is told on standard error, and the status is 1; after a
+ * read or a write that failed it is 3, and without memory 4.
  *
  *     cc -o limits limits.c $(pkg-config --cflags --libs cgfile)
  *     LC_ALL=C grep -rZ '' /sys/fs/cgroup 2> /dev/null | ./limits
@@ -69,7 +70,7 @@ int main(void) {
         uint32_t status;
         do {
             status = cgfile_first(1, snapshot.at + start, snapshot.len - start, is_end, false, text.at, text.room, &used,
-                                       &taken, &path_len, &at);
+                                  &taken, &path_len, &at);
             if (status == CGFILE_DONE) {
                 print_limit(snapshot.at + start, path_len, text.at, used);
                 start += taken;
@@ -78,7 +79,7 @@ int main(void) {
             }
         } while (status == CGFILE_DONE || status == CGFILE_NO_ROOM);
         if (status == CGFILE_END)
-            return 0;
+            return fflush(stdout) == 0 && !ferror(stdout) ? 0 : 3;
         if (status == CGFILE_NO_MEMORY) {
             fputs("out of memory\n", stderr);
             return 4;
@@ -93,6 +94,10 @@ int main(void) {
         if (snapshot.len > snapshot.room / 2)
             make_room(&snapshot, 2 * snapshot.room);
         size_t came = fread(snapshot.at + snapshot.len, 1, snapshot.room - snapshot.len, stdin);
+        if (ferror(stdin)) {
+            fputs("read fault\n", stderr);
+            return 3;
+        }
         snapshot.len += came;
         is_end = came == 0;
     }
