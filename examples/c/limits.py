@@ -13,7 +13,7 @@ library = ctypes.CDLL(sys.argv[1] if len(sys.argv) > 1 else "libcgfile.so.0")
 library.cgfile_number.restype = u32
 library.cgfile_number.argtypes = [u32, ctypes.c_char_p, size, ctypes.c_char_p, size, ctypes.c_char_p, size, pointer(u64), pointer(u64)]
 library.cgfile_first.restype = u32
-library.cgfile_first.argtypes = [u32, ctypes.c_char_p, size, ctypes.c_bool, ctypes.c_bool, ctypes.c_char_p, size] + [pointer(size)] * 3 + [pointer(u64)]
+library.cgfile_first.argtypes = [u32, ctypes.c_void_p, size, ctypes.c_bool, ctypes.c_bool, ctypes.c_char_p, size] + [pointer(size)] * 3 + [pointer(u64)]
 
 
 class Stopped(Exception):
@@ -31,15 +31,16 @@ def number(name, text):
     return {DONE: found.value, MAX: "max"}.get(status)
 
 
-def first(data, is_end):
-    """The first entry of the data, as its path, the text of its file and how many bytes it has; None where more must come, or
-    False where the stream has ended."""
+def first(data, start, is_end):
+    """The first entry of the data from this place on, as its path, the text of its file and how many bytes it has; None where
+    more must come, or False where the stream has ended."""
     used, taken, path_len, at, room = size(), size(), size(), u64(), 4096
+    begin = ctypes.cast(data, ctypes.c_void_p).value + start
     while True:
         out = ctypes.create_string_buffer(room)
-        status = library.cgfile_first(1, data, len(data), is_end, False, out, room, used, taken, path_len, at)
+        status = library.cgfile_first(1, begin, len(data) - start, is_end, False, out, room, used, taken, path_len, at)
         if status == DONE:
-            return data[: path_len.value], out.raw[: used.value], taken.value
+            return data[start : start + path_len.value], out[: used.value], taken.value
         if status == NO_MEMORY:
             raise MemoryError
         if status in (MORE, END):
@@ -54,19 +55,20 @@ def entries(file):
     data, dropped = b"", 0
     while True:
         piece = file.read(max(65536, len(data)))
-        data += piece
+        data, start = data + piece, 0
         while True:
             try:
-                entry = first(data, not piece)
+                entry = first(data, start, not piece)
             except Stopped as stopped:
-                raise Stopped(stopped.status, dropped + stopped.place) from None
+                raise Stopped(stopped.status, dropped + start + stopped.place) from None
             if not entry:
                 break
             path, text, taken = entry
             yield path, text
-            data, dropped = data[taken:], dropped + taken
+            start += taken
         if entry is False:
             return
+        data, dropped = data[start:], dropped + start
 
 
 def main():
