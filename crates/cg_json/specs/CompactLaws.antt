@@ -25,8 +25,8 @@ use Rattle.cg_value.specs.declared.value.StatLine.{StatLine}
 use Rattle.cg_value.specs.declared.value.TargetLine.{TargetLine}
 use Rattle.cg_value.specs.declared.value.WeightLine.{WeightLine}
 use Rattle.cg_json.specs.Compact.{led, joined, member_text, listed, ArePlain, IsPlainByte}
-use Rattle.cg_json.specs.Entry.{line_of}
-use Rattle.cg_json.specs.Json.{array_of, keyed, given_data, signed_data, text_data, limit_data, amount_data, device_data}
+use Rattle.cg_json.specs.Entry.{left_out_line, line_of}
+use Rattle.cg_json.specs.Json.{array_of, keyed, given_data, number_data, signed_data, text_data, limit_data, amount_data, device_data}
 use Rattle.cg_json.specs.Json.{cpu_max_data, stat_data, limits_data, weight_data, weights_data, target_data, partition_data, averages_data, pressure_data}
 use Rattle.cg_json.specs.Value.{kind_word, value_data}
 
@@ -153,6 +153,12 @@ pub entry_text : (e : EntryData)
     → line_of e ≡ codes "{\"kind\":" ++ (compact_text (string (kind_word e.value)) ++ (codes ",\"path\":" ++ (compact_text (text_data e.path) ++ (codes ",\"value\":" ++ (compact_text (value_data e.value) ++ 125 ∷ 10 ∷ [])))))
 unfolding serde_json_on_literals
 entry_text e = simp append_assoc
+
+pub left_out_text : (at : ℕ) (path : Option (List ℕ)) (why : List ℕ)
+    → left_out_line at path why ≡ codes "{\"at\":" ++ (compact_text (number_data at) ++ (codes ",\"kind\":\"left_out\",\"path\":" ++ (compact_text (given_data text_data path)
+    ++ (codes ",\"why\":" ++ (compact_text (string why) ++ 125 ∷ 10 ∷ [])))))
+unfolding serde_json_on_literals
+left_out_text at path why = simp append_assoc
 
 -- ---- Tokens
 

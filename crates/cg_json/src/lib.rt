@@ -8,6 +8,7 @@ pub mod entry;
 pub(crate) mod json;
 pub(crate) mod keyed;
 pub mod laws;
+pub mod left_out;
 pub(crate) mod pressure;
 pub mod rows;
 pub(crate) mod text;
@@ -15,3 +16,4 @@ pub(crate) mod tokens;
 pub(crate) mod value;
 
 pub use entry::{append_line, line, view};
+pub use left_out::append_left_out;
