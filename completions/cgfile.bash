@@ -25,7 +25,10 @@ _cgfile() {
     local options='--profile --max-record --max-lines --max-stream --explain --help'
     case $command in
         '')
-            COMPREPLY=($(compgen -W "file setting show json plan check kinds $options --version" -- "$word"))
+            COMPREPLY=($(compgen -W "file setting show json plan check kinds $options --keep-going --version" -- "$word"))
+            ;;
+        show | json | check)
+            COMPREPLY=($(compgen -W "$options --keep-going" -- "$word"))
             ;;
         file | setting)
             if [[ $word == -* ]]; then

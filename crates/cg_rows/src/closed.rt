@@ -1,5 +1,8 @@
 //! How much of the output the bytes that were read settle.
+use crate::asked::Asked;
 use cg_run::Command;
+use cg_snap::{Event, Found, GoingOnDecoder};
+use std::alloc::Global;
 
 /// The records and the entries of a snapshot that are closed.
 #[derive(Clone, Copy)]
@@ -34,9 +37,38 @@ fn closed_in(read: &[u8]) -> Closed {
     closed
 }
 
+/// How many lines of the output are of what was found in a snapshot that is gone on with.
+fn found_lines(command: &Command, found: &Found) -> usize {
+    let entry = match (command, &found.entry) {
+        (Command::Show, Some(entry)) => entry.value().line_count() as usize,
+        (Command::Json, Some(_)) => 1,
+        _ => 0,
+    };
+    entry.saturating_add(usize::from(found.left_out.is_some()))
+}
+
+/// How many lines of the output the bytes of one settle, as its decoder tells, which other rows judge.
+fn going_on_lines(alloc: Global, asked: &Asked, read: &[u8]) -> usize {
+    let mut decoder = GoingOnDecoder::new(alloc, asked.profile, asked.limits);
+    let mut rest = read;
+    let mut lines: usize = 0;
+    for _ in 0..=read.len() {
+        let pulled = decoder.next(rest);
+        let Event::Given(found) = pulled.what else {
+            return lines;
+        };
+        lines = lines.saturating_add(found_lines(&asked.command, &found));
+        rest = rest.get(pulled.used..).unwrap_or(b"");
+    }
+    lines
+}
+
 /// How many lines of the output the bytes settle.
-fn settled_lines(command: &Command, read: &[u8]) -> usize {
-    match command {
+fn settled_lines(alloc: Global, asked: &Asked, read: &[u8]) -> usize {
+    if asked.options.keep_going {
+        return going_on_lines(alloc, asked, read);
+    }
+    match &asked.command {
         Command::Show => closed_in(read).records,
         Command::Json => closed_in(read).entries,
         Command::Plan => read.iter().filter(|byte| **byte == b'\n').count(),
@@ -45,8 +77,13 @@ fn settled_lines(command: &Command, read: &[u8]) -> usize {
 }
 
 /// The first parts of the output, which these bytes settle whatever follows them.
-pub(crate) fn first_parts<'a>(command: &Command, read: &[u8], text: &'a [u8]) -> &'a [u8] {
-    let lines = settled_lines(command, read);
+pub(crate) fn first_parts<'a>(
+    alloc: Global,
+    asked: &Asked,
+    read: &[u8],
+    text: &'a [u8],
+) -> &'a [u8] {
+    let lines = settled_lines(alloc, asked, read);
     let mut len: usize = 0;
     for line in text.split_inclusive(|byte| *byte == b'\n').take(lines) {
         len = len.saturating_add(line.len());

@@ -27,8 +27,7 @@
 //!
 //! Rows of calls begin with a word that tells their form, and each table of them says how the fields are read:
 //!
-//!     sweep WORDS | TEXT | MARK ..            what each front of a text leads to (streams, stream_limits, samples)
-//!     going WORDS | TEXT | MARK ..            the same of a snapshot that is gone on with (going_on)
+//!     sweep WORDS | TEXT | MARK ..            what each front of a text leads to (streams, going_on, samples)
 //!     pull WORDS | CALL | ANSWER ..           what calls with pieces are answered, one after another (pulls)
 //!     token NAME | TEXT | VALUE               what a text spells of a single token (tokens)
 //!     upgrade, encode, amount, fault ..       what a call on values is answered (calls)

@@ -120,16 +120,22 @@ pub(crate) fn words_of(alloc: Global, field: &str) -> Result<Vec<String>, RowFau
     Ok(words)
 }
 
-/// The place of the byte that stops a run, which its last line names.
+/// The place of the byte that stops a run, if a line of the output names one. What is left out stops nothing.
 fn stop_of(output: &str) -> Option<usize> {
-    let (_, line) = output.split_once("cgfile: ")?;
-    let (what, rest) = line.split_once(" at ")?;
-    if what == "cut" {
-        return None;
+    for line in output.strip_suffix('$')?.split('$') {
+        match told_at(line) {
+            None | Some(("left out", _)) => {}
+            Some(("cut", _)) => return None,
+            Some((_, rest)) => return rest.split(':').next()?.parse::<usize>().ok(),
+        }
     }
-    let place = rest.strip_suffix('$')?;
-    let digits = place.split(':').next()?;
-    digits.parse::<usize>().ok()
+    None
+}
+
+/// What a line tells that isn't of the input, and of which place.
+fn told_at(line: &str) -> Option<(&str, &str)> {
+    let (_, told) = line.split_once("cgfile: ")?;
+    told.split_once(" at ")
 }
 
 /// What settles an answer.

@@ -297,22 +297,13 @@ fn sweep_by<T: Taker>(alloc: Global, script: &Script, counts: &mut Counts) -> Re
 /// Makes all sweeps over a text, by what the command takes it with.
 pub(crate) fn sweep(alloc: Global, script: &Script, counts: &mut Counts) -> Result<(), RowFault> {
     match &script.asked.command {
+        Command::Show if script.asked.options.keep_going => {
+            sweep_by::<GoingOnDecoder>(alloc, script, counts)
+        }
         Command::Show => sweep_by::<SnapshotDecoder>(alloc, script, counts),
         Command::Plan => sweep_by::<PlanDecoder>(alloc, script, counts),
         Command::File { .. } => sweep_by::<FileTaker>(alloc, script, counts),
         Command::Setting { .. } => sweep_by::<WriteTaker>(alloc, script, counts),
-        _ => Err(RowFault::BadWord),
-    }
-}
-
-/// Makes all sweeps over a snapshot that is gone on with.
-pub(crate) fn sweep_going_on(
-    alloc: Global,
-    script: &Script,
-    counts: &mut Counts,
-) -> Result<(), RowFault> {
-    match &script.asked.command {
-        Command::Show => sweep_by::<GoingOnDecoder>(alloc, script, counts),
         _ => Err(RowFault::BadWord),
     }
 }

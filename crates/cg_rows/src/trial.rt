@@ -135,7 +135,7 @@ fn is_met_reading(
         return is_told(told, sink.bytes(), status(&outcome));
     }
     let (read, _) = input.split_at_checked(budget).unwrap_or((input, b""));
-    let parts = first_parts(&asked.command, read, told.text.as_slice());
+    let parts = first_parts(alloc, asked, read, told.text.as_slice());
     outcome == Outcome::ReadFault
         && status(&outcome) == 3
         && sink.bytes().strip_suffix(READ_FAULT) == Some(parts)

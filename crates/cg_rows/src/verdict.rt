@@ -1,7 +1,7 @@
 //! Rows of all forms.
 use crate::row::{RowFault, fields_of, row_of};
 use crate::script::script_of;
-use crate::sweep::{Counts, sweep, sweep_going_on};
+use crate::sweep::{Counts, sweep};
 use crate::trial::{Way, difference_of};
 use crate::{call, pull, token};
 use std::alloc::Global;
@@ -9,17 +9,12 @@ use std::alloc::Global;
 /// The first run of a row's sweeps that differs.
 fn difference_of_sweep(
     alloc: Global,
-    is_going_on: bool,
     fields: &[&str],
     counts: &mut Counts,
 ) -> Result<Option<Way>, RowFault> {
     let script = script_of(alloc, fields)?;
     let mut own = Counts::NONE;
-    if is_going_on {
-        sweep_going_on(alloc, &script, &mut own)?;
-    } else {
-        sweep(alloc, &script, &mut own)?;
-    }
+    sweep(alloc, &script, &mut own)?;
     counts.merge(own);
     Ok(own.first)
 }
@@ -41,9 +36,8 @@ fn agrees(alloc: Global, form: &str, fields: &[&str]) -> Result<Option<bool>, Ro
 fn difference_in(alloc: Global, line: &str, counts: &mut Counts) -> Result<Option<Way>, RowFault> {
     let (form, rest) = line.split_once(' ').unwrap_or((line, ""));
     let fields = fields_of(alloc, rest)?;
-    let is_going_on = form == "going";
-    if form == "sweep" || is_going_on {
-        return difference_of_sweep(alloc, is_going_on, fields.as_slice(), counts);
+    if form == "sweep" {
+        return difference_of_sweep(alloc, fields.as_slice(), counts);
     }
     if let Some(agrees) = agrees(alloc, form, fields.as_slice())? {
         return Ok((!agrees).then_some(Way::Answer));

@@ -1,60 +1,63 @@
 -- What is right for a run that checks a snapshot.
-use Rattle.std.proofs.Common.{◌≡◌, ℕ, Bool, false, List, [], ◌∷◌, ◌++◌, length, map, Option, None, append-nil, inl, inr, refl, sym, ap, subst, ◌∙◌, take, drop, ◌+◌, ◌<◌, take-append-drop, get_or}
-use Rattle.std.proofs.Math.Seq.{take-length}
+use Rattle.std.proofs.Common.{◌≡◌, ℕ, Bool, true, false, List, [], ◌∷◌, ◌++◌, length, map, Option, None, append-nil, append_assoc, inl, inr, refl, sym, ap, subst, ◌∙◌, take, drop, ◌+◌, ◌<◌, take-append-drop, get_or}
+use Rattle.std.specs.Prelude.{nat_eq, if◌then◌else◌}
 use Rattle.std.proofs.lemmas.List.{map_more, map-append}
 use Rattle.std.specs.Io.KnownBytes.{Appends, IsAtEnd}
 use Rattle.cg_value.specs.Entry.{EntryData}
-use Rattle.cg_value.specs.declared.profile.Profile.{Profile}
-use Rattle.cg_snap.specs.Snap.{Snap, SnapText}
-use Rattle.cg_snap.specs.SnapStop.{IsSnapUnstopped, SnapStopOf}
-use Rattle.cg_snap.specs.declared.decode.StreamFault.TheVariants as faults
-use Rattle.cg_snap.specs.declared.limits.Limits.{Limits}
 use Rattle.cg_snap.specs.declared.stop.Stop.{Stop}
-use Rattle.cg_snap.specs.declared.stop.Stop.TheVariants as stops
 use Rattle.cg_tree.specs.Find.{find}
 use Rattle.cg_tree.specs.Finding.{rule_word}
 use Rattle.cg_tree.specs.Ruled.{ruled}
 use Rattle.cg_tree.specs.RuledLaws.{told_of_ruled}
 use Rattle.cg_tree.specs.declared.finding.Finding.{Finding}
-use Rattle.cg_run.specs.Check.{HasNoParts, IsCheckRight, PartsOfAll, control_text, finding_line, finding_lines}
-use Rattle.cg_run.specs.Checked.{AreKept, AreLinesRight, HasWrittenLines, IsKeptFault}
-use Rattle.cg_run.specs.Explain.{IsInRecord, Tells, TellsSpot}
+use Rattle.cg_run.specs.Check.{IsCheckRight, control_text, finding_line, finding_lines}
+use Rattle.cg_run.specs.Checked.{AreAllLines, AreLinesRight, HasWrittenLines, IsKept}
+use Rattle.cg_run.specs.Explain.{IsInRecord, Tells}
 use Rattle.cg_run.specs.Input.{Reading}
-use Rattle.cg_run.specs.Outcome.{last_line}
-use Rattle.cg_run.specs.Run.{IsCheckedRight, Wrote, joined}
-use Rattle.cg_run.specs.Stream.{IsEarlyRight, IsStreamDone}
+use Rattle.cg_run.specs.Outcome.{checked, gone_on, last_line}
+use Rattle.cg_run.specs.Run.{Wrote, joined}
+use Rattle.cg_run.specs.Stream.{IsStreamDone, IsStreamRight}
 use Rattle.cg_run.specs.Streaming.{EndsSo, HasWritten}
+use Rattle.cg_run.specs.declared.kept.Kept.{Kept}
 use Rattle.cg_run.specs.declared.outcome.Outcome.{Outcome}
 use Rattle.cg_run.specs.declared.outcome.Outcome.TheVariants as out
 
-module _ (Whole Closes : List ℕ → List (List ℕ) → Type 0) (Unstopped : List ℕ → Type 0) (StopsBy : List ℕ → Stop → Type 0) (r : Reading) where
-  -- What is right before the end is right.
-  pub early_checked : (o : Outcome) (parts : List (List ℕ)) → IsEarlyRight Whole Closes Unstopped StopsBy r o parts → IsCheckRight Whole Closes Unstopped StopsBy r o parts
-  early_checked out.Done parts h = absurd h
-  early_checked (out.Findings n) parts h = absurd h
-  early_checked (out.Stopped s) parts h = h
-  early_checked out.NotReadable parts h = absurd h
-  early_checked out.NotWritable parts h = absurd h
-  early_checked out.ReadFault parts h = h
-  early_checked (out.WriteFault n) parts h = absurd h
-  early_checked out.OutOfMemory parts h = inl h
+module _ (Whole : List ℕ → List (List ℕ) → Outcome → Type 0) (Closes : List ℕ → List (List ℕ) → Type 0) (Unstopped : List ℕ → Type 0) (StopsBy : List ℕ → Stop → Type 0) (r : Reading) where
+  -- What is right for a stream is right for one that is checked.
+  pub stream_checked : (o : Outcome) (parts : List (List ℕ)) → IsStreamRight Whole Closes Unstopped StopsBy r o parts → IsCheckRight Whole Closes Unstopped StopsBy r o parts
+  stream_checked out.Done parts h = h
+  stream_checked (out.Findings n) parts h = h
+  stream_checked (out.LeftOut n) parts h = h
+  stream_checked (out.Stopped s) parts h = h
+  stream_checked out.NotReadable parts h = h
+  stream_checked out.NotWritable parts h = h
+  stream_checked out.ReadFault parts h = h
+  stream_checked (out.WriteFault n) parts h = h
+  stream_checked out.OutOfMemory parts h = inl h
 
-  -- The lines of a whole stream.
-  pub lines_checked : (lines : List (List ℕ)) → IsStreamDone Whole Closes Unstopped StopsBy r lines → (o : Outcome) (parts : List (List ℕ)) → AreLinesRight lines o parts →
-      IsCheckRight Whole Closes Unstopped StopsBy r o parts
-  lines_checked lines d out.Done parts h = (subst (λ (ps : List (List ℕ)). IsStreamDone Whole Closes Unstopped StopsBy r ps) (sym h.0) d, h.1)
-  lines_checked lines d (out.Findings n) parts h = (subst (λ (ps : List (List ℕ)). IsStreamDone Whole Closes Unstopped StopsBy r ps) (sym h.0) d, h.1, h.2)
-  lines_checked lines d (out.Stopped s) parts h = absurd h
-  lines_checked lines d out.NotReadable parts h = absurd h
-  lines_checked lines d out.NotWritable parts h = absurd h
-  lines_checked lines d out.ReadFault parts h = absurd h
-  lines_checked lines d (out.WriteFault n) parts h = absurd h
-  lines_checked lines d out.OutOfMemory parts h = inr (h.0, subst (λ (ps : List (List ℕ)). IsStreamDone Whole Closes Unstopped StopsBy r ps) (sym h.1) d)
+  abbrev Done : Outcome → List (List ℕ) → Type 0
+  Done = IsStreamDone Whole Closes Unstopped StopsBy r
+
+  -- The lines of a whole stream, behind the parts that were given before.
+  module _ (before lines : List (List ℕ)) (left_out : ℕ) (d : Done (checked (length lines) left_out) (before ++ lines)) where
+    all_checked : (o : Outcome) (parts : List (List ℕ)) → AreAllLines before lines left_out o parts → Done o parts
+    all_checked o parts h = subst (λ (p : Outcome). Done p parts) (sym h.1) (subst (λ (ps : List (List ℕ)). Done (checked (length lines) left_out) ps) (sym h.0) d)
+
+    pub lines_checked : (o : Outcome) (parts : List (List ℕ)) → AreLinesRight before lines left_out o parts → IsCheckRight Whole Closes Unstopped StopsBy r o parts
+    lines_checked out.Done parts h = all_checked out.Done parts h
+    lines_checked (out.Findings n) parts h = all_checked (out.Findings n) parts h
+    lines_checked (out.LeftOut n) parts h = all_checked (out.LeftOut n) parts h
+    lines_checked (out.Stopped s) parts h = absurd h
+    lines_checked out.NotReadable parts h = absurd h
+    lines_checked out.NotWritable parts h = absurd h
+    lines_checked out.ReadFault parts h = absurd h
+    lines_checked (out.WriteFault n) parts h = absurd h
+    lines_checked out.OutOfMemory parts h = inr (h.0, checked (length lines) left_out, subst (λ (ps : List (List ℕ)). Done (checked (length lines) left_out) ps) (sym h.1) d)
 
 -- ---- The lines
 
 -- The entries that the rules speak of have the lines of all entries.
-lines_of_ruled : (es : List EntryData) → finding_lines (ruled es) ≡ finding_lines es
+pub lines_of_ruled : (es : List EntryData) → finding_lines (ruled es) ≡ finding_lines es
 lines_of_ruled es = told_of_ruled (λ rule entry word. rule_word rule ++ 32 ∷ (control_text entry word ++ 10 ∷ [])) es
 
 -- All lines but those that were written.
@@ -69,77 +72,86 @@ lines_after f xs i d line within e =
     ∙ ap (λ (ls : List (List ℕ)). ls ++ map f (drop (i + 1) xs)) (sym (map_more f xs i d within))
     ∙ lines_left f xs (i + 1)
 
--- Nothing was written where there are no parts.
-pub nothing_written : (first now : Option (List ℕ)) (parts : List (List ℕ)) (written : ℕ) → parts ≡ [] → HasWritten first now parts written → HasWritten first now [] 0
-nothing_written first now parts written e h = (subst (λ (ps : List (List ℕ)). Appends first now (joined ps)) e h.0, refl)
+-- Behind parts.
+pub left_behind : (before all : List (List ℕ)) (a b : List (List ℕ)) → a ++ b ≡ all → (before ++ a) ++ b ≡ before ++ all
+left_behind before all a b e = append_assoc before a b ∙ ap (λ (ls : List (List ℕ)). before ++ ls) e
+
+-- The outcome of all lines.
+all_so : (before lines : List (List ℕ)) (left_out : ℕ) (none nothing : Bool) → (if none then (if nothing then out.Done else out.LeftOut left_out) else out.Findings (length lines)) ≡ checked (length lines) left_out →
+    AreLinesRight before lines left_out (if none then (if nothing then out.Done else out.LeftOut left_out) else out.Findings (length lines)) (before ++ lines)
+all_so before lines left_out true true e = (refl, e)
+all_so before lines left_out true false e = (refl, e)
+all_so before lines left_out false nothing e = (refl, e)
+
+pub all_lines : (before lines : List (List ℕ)) (left_out : ℕ) → AreLinesRight before lines left_out (checked (length lines) left_out) (before ++ lines)
+all_lines before lines left_out = all_so before lines left_out (nat_eq (length lines) 0) (nat_eq left_out 0) refl
+
+-- All lines were written.
+wrote_so : (ps : List (List ℕ)) (n left_out : ℕ) (none nothing : Bool) (first now : Option (List ℕ)) (failed : Bool) → Appends first now (joined ps) →
+    Wrote first now failed (joined ps ++ last_line (if none then (if nothing then out.Done else out.LeftOut left_out) else out.Findings n))
+    (if none then (if nothing then out.Done else out.LeftOut left_out) else out.Findings n) (if none then (if nothing then out.Done else out.LeftOut left_out) else out.Findings n)
+wrote_so ps n left_out true true first now failed a = (refl, subst (Appends first now) (sym (append-nil (joined ps))) a)
+wrote_so ps n left_out true false first now failed a = (refl, subst (Appends first now) (sym (append-nil (joined ps))) a)
+wrote_so ps n left_out false nothing first now failed a = (refl, subst (Appends first now) (sym (append-nil (joined ps))) a)
+
+pub all_written : (before lines : List (List ℕ)) (left_out n : ℕ) (first now : Option (List ℕ)) (failed : Bool) (written : ℕ) (o : Outcome) → n ≡ length lines → o ≡ checked n left_out →
+    HasWritten first now (before ++ lines) written → HasWrittenLines before lines left_out first now failed o
+all_written before lines left_out n first now failed written o e f h =
+    let m = length lines in
+    record {
+      wanted = checked m left_out;
+      parts = before ++ lines;
+      right = all_lines before lines left_out;
+      wrote = subst (λ (x : Outcome). Wrote first now failed (joined (before ++ lines) ++ last_line (checked m left_out)) (checked m left_out) x) (sym (f ∙ ap (λ (k : ℕ). checked k left_out) e))
+          (wrote_so (before ++ lines) m left_out (nat_eq m 0) (nat_eq left_out 0) first now failed h.0);
+    }
 
 -- ---- The end of the input
 
 -- Lines that were written are no stop.
-lines_tell : (explain : Bool) (L : List ℕ → Type 0) (r : Reading) (lines : List (List ℕ)) (o : Outcome) (parts : List (List ℕ)) → AreLinesRight lines o parts → Tells L IsInRecord explain r o []
-lines_tell explain L r lines out.Done parts h = refl
-lines_tell explain L r lines (out.Findings n) parts h = refl
-lines_tell explain L r lines (out.Stopped s) parts h = absurd h
-lines_tell explain L r lines out.NotReadable parts h = refl
-lines_tell explain L r lines out.NotWritable parts h = refl
-lines_tell explain L r lines out.ReadFault parts h = refl
-lines_tell explain L r lines (out.WriteFault n) parts h = refl
-lines_tell explain L r lines out.OutOfMemory parts h = refl
+lines_tell : (explain : Bool) (L : List ℕ → Type 0) (r : Reading) (before lines : List (List ℕ)) (left_out : ℕ) (o : Outcome) (parts : List (List ℕ)) → AreLinesRight before lines left_out o parts → Tells L IsInRecord explain r o []
+lines_tell explain L r before lines left_out out.Done parts h = refl
+lines_tell explain L r before lines left_out (out.Findings n) parts h = refl
+lines_tell explain L r before lines left_out (out.LeftOut n) parts h = refl
+lines_tell explain L r before lines left_out (out.Stopped s) parts h = absurd h
+lines_tell explain L r before lines left_out out.NotReadable parts h = refl
+lines_tell explain L r before lines left_out out.NotWritable parts h = refl
+lines_tell explain L r before lines left_out out.ReadFault parts h = refl
+lines_tell explain L r before lines left_out (out.WriteFault n) parts h = refl
+lines_tell explain L r before lines left_out out.OutOfMemory parts h = refl
 
-module _ (explain : Bool) (profile : Profile) (limits : Limits) (read : List ℕ) (left : Option (List ℕ)) (failed : Bool) (first now : Option (List ℕ)) (write_failed : Bool)
-    (ended : IsAtEnd left) (works : failed ≡ false) (unstopped : IsSnapUnstopped profile limits read) where
+module _ (Whole : List ℕ → List (List ℕ) → Outcome → Type 0) (Closes : List ℕ → List (List ℕ) → Type 0) (Unstopped : List ℕ → Type 0) (StopsBy : List ℕ → Stop → Type 0)
+    (explain : Bool) (L : List ℕ → Type 0) (read : List ℕ) (left : Option (List ℕ)) (failed : Bool) (first now : Option (List ℕ)) (write_failed : Bool)
+    (parts : List (List ℕ)) (unstopped : Unstopped read) (closed : Closes read parts) (ended : IsAtEnd left) (works : failed ≡ false) where
   abbrev r : Reading
   r = record { bytes = read; left = left; failed = failed }
 
-  abbrev Whole : List ℕ → List (List ℕ) → Type 0
-  Whole = PartsOfAll finding_lines (λ bytes es. SnapText profile es bytes)
+  abbrev Ended : Outcome → Type 0
+  Ended = EndsSo (IsCheckRight Whole Closes Unstopped StopsBy) (Tells L IsInRecord explain) read left failed first now write_failed
 
-  done : (es : List EntryData) → SnapText profile es read → IsStreamDone Whole HasNoParts (IsSnapUnstopped profile limits) (SnapStopOf profile limits) r (finding_lines es)
-  done es t = record { ended = (ended, works); unstopped = unstopped; whole = (es, t, refl) }
-
-  lines_are : (es : List EntryData) (o : Outcome) → SnapText profile es read → HasWrittenLines (finding_lines es) first now write_failed o →
-      EndsSo (IsCheckedRight profile limits) (Tells (Snap profile) IsInRecord explain) read left failed first now write_failed o
-  lines_are es o t h = record {
-    wanted = h.wanted;
-    parts = h.parts;
-    right = lines_checked Whole HasNoParts (IsSnapUnstopped profile limits) (SnapStopOf profile limits) r (finding_lines es) (done es t) h.wanted h.parts h.right;
-    more = [];
-    tells = lines_tell explain (Snap profile) r (finding_lines es) h.wanted h.parts h.right;
-    wrote = subst (λ (t : List ℕ). Wrote first now write_failed (joined h.parts ++ t) h.wanted o) (sym (append-nil (last_line h.wanted))) h.wrote;
-  }
+  done : (all : List (List ℕ)) (o : Outcome) → Whole read all o → IsStreamDone Whole Closes Unstopped StopsBy r o all
+  done all o h = record { ended = (ended, works); unstopped = unstopped; whole = h }
 
   -- The lines of the findings were written.
-  pub lines_end : (kept seen shown : List EntryData) (found told : List Finding) (o : Outcome) → AreKept profile read kept → seen ≡ kept → shown ≡ kept → found ≡ find seen → told ≡ found →
-      HasWrittenLines (map (finding_line shown) told) first now write_failed o → EndsSo (IsCheckedRight profile limits) (Tells (Snap profile) IsInRecord explain) read left failed first now write_failed o
-  lines_end kept seen shown found told o t e f g k h =
-      let all : map (finding_line shown) told ≡ finding_lines t.given =
-      ap (map (finding_line shown)) (k ∙ g) ∙ ap (λ xs. map (finding_line xs) (find seen)) f ∙ ap (λ xs. map (finding_line kept) (find xs)) e ∙ ap finding_lines t.kept_are ∙ lines_of_ruled t.given in
-      lines_are t.given o t.whole (subst (λ (lines : List (List ℕ)). HasWrittenLines lines first now write_failed o) all h)
-
-  -- No memory was left for the entries of a snapshot, or for what they break.
-  pub memory_end : (o : Outcome) → Snap profile read → Wrote first now write_failed (last_line out.OutOfMemory) out.OutOfMemory o →
-      EndsSo (IsCheckedRight profile limits) (Tells (Snap profile) IsInRecord explain) read left failed first now write_failed o
-  memory_end o t w = record { wanted = out.OutOfMemory; parts = []; right = inr (finding_lines t.0, done t.0 t.1); more = []; tells = refl; wrote = w }
-
-  -- The input ended before a snapshot did.
-  pub cut_end : (at : ℕ) (o : Outcome) (more : List ℕ) → at ≡ length read → (Snap profile read → ⊥) → TellsSpot (Snap profile) IsInRecord explain read None (stops.Cut at) more →
-      Wrote first now write_failed (last_line (out.Stopped (stops.Cut at)) ++ more) (out.Stopped (stops.Cut at)) o →
-      EndsSo (IsCheckedRight profile limits) (Tells (Snap profile) IsInRecord explain) read left failed first now write_failed o
-  cut_end at o more e n t w =
-      let all : take at read ≡ read = ap (λ (k : ℕ). take k read) e ∙ take-length read in
+  pub lines_end : (kept : Kept) (seen shown : List EntryData) (found told : List Finding) (left_out : ℕ) (o : Outcome) → IsKept Whole read parts kept → seen ≡ kept.entries.items → shown ≡ kept.entries.items →
+      found ≡ find seen → told ≡ found → left_out ≡ kept.left_out → HasWrittenLines parts (map (finding_line shown) told) left_out first now write_failed o → Ended o
+  lines_end kept seen shown found told left_out o t e f g k n h =
+      let es = kept.entries.items in
+      let all : map (finding_line shown) told ≡ finding_lines es = ap (map (finding_line shown)) (k ∙ g) ∙ ap (λ xs. map (finding_line xs) (find seen)) f ∙ ap (λ xs. map (finding_line es) (find xs)) e in
+      let w = subst (λ (m : ℕ). HasWrittenLines parts (finding_lines es) m first now write_failed o) n (subst (λ (lines : List (List ℕ)). HasWrittenLines parts lines left_out first now write_failed o) all h) in
       record {
-        wanted = out.Stopped (stops.Cut at);
-        parts = [];
-        right = record { ended = (ended, works); unstopped = unstopped; not_whole = λ all x. n (x.0, x.1); at_end = e; closed = refl };
-        more = more;
-        tells = subst (λ (p : List ℕ). TellsSpot (Snap profile) IsInRecord explain p None (stops.Cut at) more) (sym all) t;
-        wrote = w;
+        wanted = w.wanted;
+        parts = w.parts;
+        right = lines_checked Whole Closes Unstopped StopsBy r parts (finding_lines es) kept.left_out (done (parts ++ finding_lines es) (checked (length (finding_lines es)) kept.left_out) t) w.wanted w.parts w.right;
+        more = [];
+        tells = lines_tell explain L r parts (finding_lines es) kept.left_out w.wanted w.parts w.right;
+        wrote = subst (λ (t : List ℕ). Wrote first now write_failed (joined w.parts ++ t) w.wanted o) (sym (append-nil (last_line w.wanted))) w.wrote;
       }
 
--- A whole snapshot isn't cut.
-pub never_kept : (profile : Profile) (read : List ℕ) (s : Stop) → Snap profile read → IsKeptFault profile read (faults.Stopped s) → ⊥
-never_kept profile read (stops.Refused at why) x h = h
-never_kept profile read (stops.TooLong at) x h = h
-never_kept profile read (stops.TooMany at) x h = h
-never_kept profile read (stops.TooMuch at) x h = h
-never_kept profile read (stops.Cut at) x h = h.1 x
+  -- No memory was left for the entries of a snapshot, or for what they break.
+  pub memory_end : (more : List (List ℕ)) (all : Outcome) (o : Outcome) → Whole read (parts ++ more) all → Wrote first now write_failed (joined parts ++ last_line out.OutOfMemory) out.OutOfMemory o → Ended o
+  memory_end more all o t w = record { wanted = out.OutOfMemory; parts = parts; right = inr (more, all, done (parts ++ more) all t); more = []; tells = refl; wrote = w }
+
+  -- A run that ends as is right for a stream.
+  pub ends_checked : (o : Outcome) → EndsSo (IsStreamRight Whole Closes Unstopped StopsBy) (Tells L IsInRecord explain) read left failed first now write_failed o → Ended o
+  ends_checked o e = record { wanted = e.wanted; parts = e.parts; right = stream_checked Whole Closes Unstopped StopsBy r e.wanted e.parts e.right; more = e.more; tells = e.tells; wrote = e.wrote }

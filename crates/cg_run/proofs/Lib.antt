@@ -6,6 +6,7 @@ pub mod Entered
 pub mod FileText
 pub mod Finds
 pub mod Flags
+pub mod GoingOn
 pub mod Keeping
 pub mod KindsLemmas
 pub mod LetGo

@@ -1,6 +1,5 @@
 -- What a decoder finds that took some bytes.
 use Rattle.std.proofs.Common.{◌≡◌, ℕ, ◌+◌, ◌-◌, ◌<◌, List, [], ◌∷◌, ◌++◌, length, take, None, subst, ◌∙◌}
-use Rattle.cg_value.specs.declared.profile.Profile.{Profile}
 use Rattle.cg_snap.specs.Course.{Stream}
 use Rattle.cg_snap.specs.Pulled.{HasPulled, StandsFor, WhatCame}
 use Rattle.cg_snap.specs.Stop.{place_of}
@@ -22,21 +21,21 @@ module _ {E : Type 0} (Taken Closed : List ℕ → List E → Type 0) (Unstopped
   PulledBy events.OutOfMemory =
       (used < length piece) × Unstopped (p ++ take used piece) × Unstopped (p ++ take (used + 1) piece) × Closed (p ++ take used piece) es
 
-module _ {R Part : Type 0} {stream : Profile → Stream R Part} {profile_of : R → Profile} (was now : Decoder R) (profile : Profile) (limits : Limits) (p : List ℕ) (es : List Part) (piece : List ℕ) (used : ℕ)
-    (h : HasPulled stream profile_of was profile limits p es) (same_profile : profile_of now.records ≡ profile_of was.records) (same_limits : now.meter.limits ≡ was.meter.limits) where
-  taken : (q : List ℕ) (fs : List Part) → now.stop ≡ None → StandsFor (stream (profile_of now.records)) now q fs → HasPulled stream profile_of now profile limits q fs
-  taken q fs n s = record { stands = s; stop = n; form_is = same_profile ∙ h.form_is; limits_is = same_limits ∙ h.limits_is }
+module _ {R Form Part : Type 0} {stream : Form → Stream R Part} {form_of : R → Form} (was now : Decoder R) (form : Form) (limits : Limits) (p : List ℕ) (es : List Part) (piece : List ℕ) (used : ℕ)
+    (h : HasPulled stream form_of was form limits p es) (same_form : form_of now.records ≡ form_of was.records) (same_limits : now.meter.limits ≡ was.meter.limits) where
+  taken : (q : List ℕ) (fs : List Part) → now.stop ≡ None → StandsFor (stream (form_of now.records)) now q fs → HasPulled stream form_of now form limits q fs
+  taken q fs n s = record { stands = s; stop = n; form_is = same_form ∙ h.form_is; limits_is = same_limits ∙ h.limits_is }
 
-  of_form : (P : Profile → Limits → Type 0) → P (profile_of now.records) now.meter.limits → P profile limits
-  of_form P x = subst (λ (l : Limits). P profile l) (same_limits ∙ h.limits_is) (subst (λ (q : Profile). P q now.meter.limits) (same_profile ∙ h.form_is) x)
+  of_form : (P : Form → Limits → Type 0) → P (form_of now.records) now.meter.limits → P form limits
+  of_form P x = subst (λ (l : Limits). P form l) (same_limits ∙ h.limits_is) (subst (λ (q : Form). P q now.meter.limits) (same_form ∙ h.form_is) x)
 
-  abbrev IsUnstopped : Profile → Limits → List ℕ → Type 0
+  abbrev IsUnstopped : Form → Limits → List ℕ → Type 0
   IsUnstopped q l = IsStreamUnstopped (stream q).language (stream q).breaks (stream q).many l
 
-  abbrev IsStopOf : Profile → Limits → List ℕ → Stop → Type 0
+  abbrev IsStopOf : Form → Limits → List ℕ → Stop → Type 0
   IsStopOf q l = StreamStopOf (stream q).language (stream q).breaks (stream q).many l
 
-  byte_stop : (bytes : List ℕ) (s : Stop) → IsStopOf (profile_of now.records) now.meter.limits bytes s → IsByteStop s
+  byte_stop : (bytes : List ℕ) (s : Stop) → IsStopOf (form_of now.records) now.meter.limits bytes s → IsByteStop s
   byte_stop bytes (stops.Refused at why) x = tt
   byte_stop bytes (stops.TooLong at) x = tt
   byte_stop bytes (stops.TooMany at) x = tt
@@ -44,9 +43,9 @@ module _ {R Part : Type 0} {stream : Profile → Stream R Part} {profile_of : R 
   byte_stop bytes (stops.Cut at) x = absurd x.stops
 
   abbrev pub PulledIs : Event Part → Type 0
-  PulledIs = PulledBy (HasPulled stream profile_of now profile limits) (stream profile).closes (IsUnstopped profile limits) (IsStopOf profile limits) p es piece used
+  PulledIs = PulledBy (HasPulled stream form_of now form limits) (stream form).closes (IsUnstopped form limits) (IsStopOf form limits) p es piece used
 
-  pub pulled_is : (what : Event Part) → WhatCame (stream (profile_of now.records)) now p es piece used what → PulledIs what
+  pub pulled_is : (what : Event Part) → WhatCame (stream (form_of now.records)) now p es piece used what → PulledIs what
   pulled_is events.NeedMore w = taken (p ++ take used piece) es w.0 w.2
   pulled_is (events.Given e) w = (w.1, taken (p ++ take used piece) (es ++ e ∷ []) w.0 w.3, of_form (λ q l. (stream q).closes (p ++ take (used - 1) piece) es) w.2)
   pulled_is (events.Stopped stop) w = (

@@ -28,6 +28,7 @@ module _ {V : Type 0} (Text : List ℕ → V → Type 0) (print : V → List ℕ
       (o : Outcome) (parts : List (List ℕ)) → IsEndRight Text print r.bytes o parts → IsTextRight Text print max r o parts
   end_right ended works unstopped out.Done parts h = (print h.0, record { ended = (ended, works); unstopped = unstopped; value = h.0; spelled = h.1; part_is = refl }, h.2)
   end_right ended works unstopped (out.Findings n) parts h = absurd h
+  end_right ended works unstopped (out.LeftOut n) parts h = absurd h
   end_right ended works unstopped (out.Stopped (stop.Refused at why)) parts h = absurd h
   end_right ended works unstopped (out.Stopped (stop.TooLong at)) parts h = absurd h
   end_right ended works unstopped (out.Stopped (stop.TooMany at)) parts h = absurd h
@@ -43,6 +44,7 @@ module _ {V : Type 0} (Text : List ℕ → V → Type 0) (print : V → List ℕ
 pub wrote_real : (taken now : Option (List ℕ)) (failed : Bool) (text : List ℕ) (wanted o : Outcome) → Wrote taken now failed text wanted o → IsRealFault o failed
 wrote_real taken now failed text wanted out.Done h = tt
 wrote_real taken now failed text wanted (out.Findings n) h = tt
+wrote_real taken now failed text wanted (out.LeftOut n) h = tt
 wrote_real taken now failed text wanted (out.Stopped s) h = tt
 wrote_real taken now failed text wanted out.NotReadable h = tt
 wrote_real taken now failed text wanted out.NotWritable h = tt

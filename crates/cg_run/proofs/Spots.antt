@@ -1,5 +1,6 @@
 -- Where a stop is.
 use Rattle.std.proofs.Common.{◌≡◌, ◌↔◌, ℕ, ◌≤◌, Bool, true, false, not, List, [], ◌∷◌, ◌++◌, length, take, get_or, Option, Some, refl, sym, ap, subst, ◌∙◌, true≢false, arith, length-append}
+use Rattle.std.specs.Prelude.{◌&&◌}
 use Rattle.cg_text.specs.Bytes.{HasByte}
 use Rattle.cg_text.specs.Texts.{Next}
 use Rattle.cg_text.specs.Token.{told}
@@ -73,6 +74,11 @@ limit_tells L IsIn true p what (stop.Cut at) e = absurd (true≢false e)
 limit_tells L IsIn true p what (stop.TooLong at) e = refl
 limit_tells L IsIn true p what (stop.TooMany at) e = refl
 limit_tells L IsIn true p what (stop.TooMuch at) e = refl
+
+-- Nor is a stop where lines aren't counted.
+pub no_lines : (L : List ℕ → Type 0) (IsIn : List ℕ → Bool → List ℕ → ℕ → Type 0) (explains : Bool) (p : List ℕ) (what : Option ℕ) (s : Stop) → TellsSpot L IsIn (explains && false) p what s []
+no_lines L IsIn true p what s = refl
+no_lines L IsIn false p what s = refl
 
 -- What is told of a stop behind the bytes before it is told of it in all bytes.
 module _ (L : List ℕ → Type 0) (IsIn : List ℕ → Bool → List ℕ → ℕ → Type 0) where

@@ -1,6 +1,6 @@
 -- Where a reader stands behind a stop.
-use Rattle.std.proofs.Common.{◌≡◌, ℕ, List}
-use Rattle.cg_value.specs.declared.profile.Profile.{Profile}
+use Rattle.std.proofs.Common.{◌≡◌, ◌↔◌, ℕ, List, Bool, true, false, not, IsTrue, refl, sym, true≢false}
+use Rattle.std.specs.Prelude.{MatchBool}
 use Rattle.cg_snap.specs.Course.{Stream}
 use Rattle.cg_snap.specs.Pulled.{WhatCame}
 use Rattle.cg_snap.specs.declared.decoder.Decoder.{Decoder}
@@ -8,17 +8,24 @@ use Rattle.cg_snap.specs.declared.event.Event.{Event}
 use Rattle.cg_snap.specs.declared.event.Event.TheVariants as events
 use Rattle.cg_snap.specs.declared.limits.Limits.{Limits}
 use Rattle.cg_run.specs.Stood.{HasStood}
-use Rattle.cg_run.specs.Streaming.{IsAppended, StandsBehind}
+use Rattle.cg_run.specs.Streaming.{HasNoWhole, HasWhole, IsAppended, StandsBehind}
+use Rattle.cg_run.specs.declared.outcome.Outcome.{Outcome}
 
-module _ {R Part : Type 0} (stream : Profile → Stream R Part) (profile_of : R → Profile) (now : Decoder R) (profile : Profile) (limits : Limits) (same_profile : profile_of now.records ≡ profile) (same_limits : now.meter.limits ≡ limits)
+module _ {R Form Part : Type 0} (stream : Form → Stream R Part) (form_of : R → Form) (now : Decoder R) (form : Form) (limits : Limits) (same_form : form_of now.records ≡ form) (same_limits : now.meter.limits ≡ limits)
     (p : List ℕ) (es : List Part) (piece : List ℕ) (used : ℕ) where
   -- What a decoder came to, if it appends nothing.
-  pub came_stood : (what : Event Part) (found : Event (Unit {0})) (part : Part → List ℕ) (old new : List ℕ) → WhatCame (stream (profile_of now.records)) now p es piece used what → IsAppended part what old new found →
-      StandsBehind (HasStood stream profile_of now profile limits) p piece used found
+  pub came_stood : (what : Event Part) (found : Event (Unit {0})) (part : Part → List ℕ) (old new : List ℕ) → WhatCame (stream (form_of now.records)) now p es piece used what → IsAppended part what old new found →
+      StandsBehind (HasStood stream form_of now form limits) p piece used found
   came_stood what events.NeedMore part old new w e = tt
   came_stood what (events.Given u) part old new w e = tt
   came_stood what events.OutOfMemory part old new w e = tt
   came_stood events.NeedMore (events.Stopped s) part old new w e = absurd e
   came_stood (events.Given x) (events.Stopped s) part old new w e = absurd e
   came_stood events.OutOfMemory (events.Stopped s) part old new w e = absurd e
-  came_stood (events.Stopped t) (events.Stopped s) part old new w e = (w.1, record { parts = es; stands = w.3; profile_is = same_profile; limits_is = same_limits })
+  came_stood (events.Stopped t) (events.Stopped s) part old new w e = (w.1, record { parts = es; stands = w.3; form_is = same_form; limits_is = same_limits })
+
+-- Whether the bytes are a whole stream, as its decoder tells.
+pub cut_is : (L : List ℕ → Type 0) (Whole : List ℕ → List (List ℕ) → Outcome → Type 0) (p : List ℕ) (can_finish : Bool) → (IsTrue can_finish ↔ L p) → (L p ↔ HasWhole Whole p) →
+    MatchBool (not can_finish) (HasNoWhole Whole p) (true ≡ true → HasWhole Whole p)
+cut_is L Whole p true f s = λ e. s.0 (f.0 refl)
+cut_is L Whole p false f s = λ all o x. true≢false (sym (f.1 (s.1 (all, o, x))))

@@ -3,6 +3,7 @@ use Rattle.std.proofs.Common.{◌≡◌, ◌≢◌, ℕ, ◌+◌, ◌<◌, ◌�
 use Rattle.std.proofs.Common.{length-append, length-drop, length-take, take-append-drop}
 use Rattle.std.proofs.lemmas.List.{get_or-append-add}
 use Rattle.std.proofs.Math.Seq.{take-add, take-append-add, take-length}
+use Rattle.std.specs.Prelude.{◌&&◌, nat_eq, if◌then◌else◌}
 use Rattle.std.specs.Io.KnownBytes.{IsAtEnd}
 use Rattle.cg_snap.specs.Stop.{place_of}
 use Rattle.cg_snap.specs.declared.event.Event.{Event}
@@ -11,11 +12,11 @@ use Rattle.cg_snap.specs.declared.stop.Stop.{Stop}
 use Rattle.cg_snap.specs.declared.stop.Stop.TheVariants as stops
 use Rattle.cg_run.specs.Explain.{IsInRecord, Tells, TellsSpot, TellsStop}
 use Rattle.cg_run.specs.Input.{Reading}
-use Rattle.cg_run.specs.Outcome.{last_line}
+use Rattle.cg_run.specs.Outcome.{gone_on, last_line}
 use Rattle.cg_run.specs.Output.{Holds}
 use Rattle.cg_run.specs.Run.{Wrote, joined}
 use Rattle.cg_run.specs.Stream.{IsEarlyRight, IsStreamRight, IsStreamStarved, IsStreamStop}
-use Rattle.cg_run.specs.Streaming.{EndsSo, FailsIn, FoundIs, IsByteStop, IsCutAt, LeadsTo, WantsMemory}
+use Rattle.cg_run.specs.Streaming.{EndsSo, FailsIn, FoundIs, HasWhole, IsByteStop, IsCutAt, LeadsTo, WantsMemory}
 use Rattle.cg_run.specs.declared.outcome.Outcome.{Outcome}
 use Rattle.cg_run.specs.declared.outcome.Outcome.TheVariants as out
 use Rattle.cg_run.specs.declared.output.Output.{Output}
@@ -28,10 +29,6 @@ text_on read piece rest at n e =
 
 pub text_all : (read piece rest : List ℕ) (at : ℕ) → rest ≡ drop at piece → (read ++ take at piece) ++ rest ≡ read ++ piece
 text_all read piece rest at e = ap (λ (r : List ℕ). (read ++ take at piece) ++ r) e ∙ append_assoc read (take at piece) (drop at piece) ∙ ap (λ (t : List ℕ). read ++ t) (take-append-drop at piece)
-
-some_part : (parts : List (List ℕ)) (part : List ℕ) → parts ++ part ∷ [] ≢ []
-some_part [] part = λ e. cc
-some_part (first ∷ parts) part = λ e. cc
 
 some_more : (parts more : List (List ℕ)) → more ≢ [] → parts ++ more ≢ []
 some_more [] more some = some
@@ -52,14 +49,19 @@ module _ (L : List ℕ → Type 0) (p : List ℕ) (what : Option ℕ) (place : �
   much_tells false t = t
 
 -- A whole stream isn't cut.
-pub never_cut : (Whole : List ℕ → List (List ℕ) → Type 0) (p : List ℕ) (s : Stop) (all : List (List ℕ)) → Whole p all → IsCutAt Whole p s → ⊥
-never_cut Whole p (stops.Refused at why) all x h = h
-never_cut Whole p (stops.TooLong at) all x h = h
-never_cut Whole p (stops.TooMany at) all x h = h
-never_cut Whole p (stops.TooMuch at) all x h = h
-never_cut Whole p (stops.Cut at) all x h = h.1 all x
+pub never_cut : (Whole : List ℕ → List (List ℕ) → Outcome → Type 0) (p : List ℕ) (s : Stop) → HasWhole Whole p → IsCutAt Whole p s → ⊥
+never_cut Whole p (stops.Refused at why) x h = h
+never_cut Whole p (stops.TooLong at) x h = h
+never_cut Whole p (stops.TooMany at) x h = h
+never_cut Whole p (stops.TooMuch at) x h = h
+never_cut Whole p (stops.Cut at) x h = h.1 (x.0) (x.1) x.2
 
-module _ (Took Whole Closes : List ℕ → List (List ℕ) → Type 0) (Unstopped : List ℕ → Type 0) (StopsBy : List ℕ → Stop → Type 0) where
+-- A reader that doesn't tell where it stands explains nothing.
+pub not_explained : (explains counted : Bool) → (explains ≡ true → ⊥) → (explains && counted) ≡ false
+not_explained true counted n = absurd (n refl)
+not_explained false counted n = refl
+
+module _ (Took : List ℕ → List (List ℕ) → Type 0) (Whole : List ℕ → List (List ℕ) → Outcome → Type 0) (Closes : List ℕ → List (List ℕ) → Type 0) (Unstopped : List ℕ → Type 0) (StopsBy : List ℕ → Stop → Type 0) where
   abbrev Early : Reading → Outcome → List (List ℕ) → Type 0
   Early = IsEarlyRight Whole Closes Unstopped StopsBy
 
@@ -70,6 +72,7 @@ module _ (Took Whole Closes : List ℕ → List (List ℕ) → Type 0) (Unstoppe
   pub early_right : (r : Reading) (o : Outcome) (parts : List (List ℕ)) → Early r o parts → Right r o parts
   early_right r out.Done parts h = absurd h
   early_right r (out.Findings n) parts h = absurd h
+  early_right r (out.LeftOut n) parts h = absurd h
   early_right r (out.Stopped s) parts h = h
   early_right r out.NotReadable parts h = absurd h
   early_right r out.NotWritable parts h = absurd h
@@ -209,9 +212,18 @@ module _ (Took Whole Closes : List ℕ → List (List ℕ) → Type 0) (Unstoppe
     read_fault_ends o f w = record { wanted = out.ReadFault; parts = parts; right = record { unstopped = unstopped; failed = f; closed = closed }; more = []; tells = refl; wrote = w }
 
     module _ (ended : IsAtEnd left) (works : failed ≡ false) where
+      abbrev Ended : Outcome → Type 0
+      Ended = EndsSo Right (Tells L IsInRecord explain) read left failed first now write_failed
+
       -- The stream is whole, and has these parts.
-      pub done_ends : (all : List (List ℕ)) (o : Outcome) → Whole read all → Wrote first now write_failed (joined all ++ []) out.Done o → EndsSo Right (Tells L IsInRecord explain) read left failed first now write_failed o
-      done_ends all o whole w = record { wanted = out.Done; parts = all; right = record { ended = (ended, works); unstopped = unstopped; whole = whole }; more = []; tells = refl; wrote = w }
+      done_so : (all : List (List ℕ)) (n : ℕ) (is_none : Bool) (o : Outcome) → Whole read all (if is_none then out.Done else out.LeftOut n) →
+          Wrote first now write_failed (joined all ++ (last_line (if is_none then out.Done else out.LeftOut n) ++ [])) (if is_none then out.Done else out.LeftOut n) o → Ended o
+      done_so all n true o whole w = record { wanted = out.Done; parts = all; right = record { ended = (ended, works); unstopped = unstopped; whole = whole }; more = []; tells = refl; wrote = w }
+      done_so all n false o whole w = record { wanted = out.LeftOut n; parts = all; right = record { ended = (ended, works); unstopped = unstopped; whole = whole }; more = []; tells = refl; wrote = w }
+
+      pub done_ends : (all : List (List ℕ)) (left_out : ℕ) (o : Outcome) → Whole read all (gone_on left_out) → Wrote first now write_failed (joined all ++ last_line (gone_on left_out)) (gone_on left_out) o → Ended o
+      done_ends all left_out o whole w =
+          done_so all left_out (nat_eq left_out 0) o whole (subst (λ (t : List ℕ). Wrote first now write_failed (joined all ++ t) (gone_on left_out) o) (sym (append-nil (last_line (gone_on left_out)))) w)
 
       cut_right : (s : Stop) → IsCutAt Whole read s → IsStreamStop Whole Closes Unstopped StopsBy (record { bytes = read; left = left; failed = failed }) s parts
       cut_right (stops.Refused place why) h = absurd h
@@ -221,24 +233,41 @@ module _ (Took Whole Closes : List ℕ → List (List ℕ) → Type 0) (Unstoppe
       cut_right (stops.Cut place) h = record { ended = (ended, works); unstopped = unstopped; not_whole = h.1; at_end = h.0; closed = closed }
 
       pub cut_ends : (at : ℕ) (o : Outcome) (more : List ℕ) → IsCutAt Whole read (stops.Cut at) → TellsSpot L IsInRecord explain read None (stops.Cut at) more →
-          Wrote first now write_failed (joined parts ++ (last_line (out.Stopped (stops.Cut at)) ++ more)) (out.Stopped (stops.Cut at)) o → EndsSo Right (Tells L IsInRecord explain) read left failed first now write_failed o
+          Wrote first now write_failed (joined parts ++ (last_line (out.Stopped (stops.Cut at)) ++ more)) (out.Stopped (stops.Cut at)) o → Ended o
       cut_ends at o more h t w =
           let all : take at read ≡ read = ap (λ (n : ℕ). take n read) h.0 ∙ take-length read in
           record { wanted = out.Stopped (stops.Cut at); parts = parts; right = cut_right (stops.Cut at) h; more = more; tells = rw all t; wrote = w }
 
-      pub last_memory_ends : (part : List ℕ) (o : Outcome) → Whole read (parts ++ part ∷ []) →
-          Wrote first now write_failed (joined parts ++ last_line out.OutOfMemory) out.OutOfMemory o →
-          EndsSo Right (Tells L IsInRecord explain) read left failed first now write_failed o
-      last_memory_ends part o whole w = record {
+      -- It isn't, and that isn't explained.
+      unexplained : (s : Stop) → explain ≡ false → IsCutAt Whole read s → TellsStop L IsInRecord explain read s []
+      unexplained (stops.Refused place why) e h = absurd h
+      unexplained (stops.TooLong place) e h = absurd h
+      unexplained (stops.TooMany place) e h = absurd h
+      unexplained (stops.TooMuch place) e h = absurd h
+      unexplained (stops.Cut place) e h = rw e refl
+
+      pub stopped_ends : (s : Stop) (o : Outcome) → explain ≡ false → IsCutAt Whole read s → Wrote first now write_failed (joined parts ++ last_line (out.Stopped s)) (out.Stopped s) o → Ended o
+      stopped_ends s o e h w = record {
+        wanted = out.Stopped s;
+        parts = parts;
+        right = cut_right s h;
+        more = [];
+        tells = unexplained s e h;
+        wrote = subst (λ (t : List ℕ). Wrote first now write_failed (joined parts ++ t) (out.Stopped s) o) (sym (append-nil (last_line (out.Stopped s)))) w;
+      }
+
+      pub last_memory_ends : (more : List (List ℕ)) (all : Outcome) (o : Outcome) → more ≢ [] → Whole read (parts ++ more) all →
+          Wrote first now write_failed (joined parts ++ last_line out.OutOfMemory) out.OutOfMemory o → Ended o
+      last_memory_ends more all o some whole w = record {
         wanted = out.OutOfMemory;
         parts = parts;
         right = record {
           at = length read;
           within = omega arith;
           unstopped = rw (take-length read) unstopped;
-          more = part ∷ [];
-          has = inr (record { ended = (ended, works); unstopped = unstopped; whole = whole });
-          wants = inr (some_part parts part);
+          more = more;
+          has = inr (all, record { ended = (ended, works); unstopped = unstopped; whole = whole });
+          wants = inr (some_more parts more some);
         };
         more = [];
         tells = refl;

@@ -1,5 +1,5 @@
 -- A run without the options.
-use Rattle.std.proofs.Common.{◌≡◌, ℕ, Bool, false, List, [], ◌++◌, Option, None, Some, append-nil, ap, subst, ◌∙◌}
+use Rattle.std.proofs.Common.{◌≡◌, ℕ, Bool, true, false, List, [], ◌++◌, Option, None, Some, append-nil, ap, subst, ◌∙◌}
 use Rattle.cg_text.specs.Texts.{TextOf}
 use Rattle.cg_value.specs.Files.{KindText}
 use Rattle.cg_value.specs.Settings.{WriteText}
@@ -11,7 +11,7 @@ use Rattle.cg_snap.specs.declared.stop.Stop.TheVariants as stop
 use Rattle.cg_run.specs.Explain.{IsInRecord, IsInText, Tells}
 use Rattle.cg_run.specs.Input.{Reading}
 use Rattle.cg_run.specs.Outcome.{last_line}
-use Rattle.cg_run.specs.Run.{DidRun, DidRunWith, TellsOf, TellsOfFile, TellsOfForm, TellsOfWrite, Wrote, joined}
+use Rattle.cg_run.specs.Run.{DidRun, DidRunWith, TellsOf, TellsOfFile, TellsOfForm, TellsOfSnapshot, TellsOfWrite, Wrote, joined}
 use Rattle.cg_run.specs.declared.options.Options.{Options}
 use Rattle.cg_run.specs.declared.outcome.Outcome.{Outcome}
 use Rattle.cg_run.specs.declared.outcome.Outcome.TheVariants as out
@@ -38,6 +38,7 @@ plain_ran Right Tells none coming left read_failed taken now write_failed o h =
 pub tells_none : (L : List ℕ → Type 0) (IsIn : List ℕ → Bool → List ℕ → ℕ → Type 0) (r : Reading) (o : Outcome) (more : List ℕ) → Tells L IsIn false r o more → more ≡ []
 tells_none L IsIn r out.Done more t = t
 tells_none L IsIn r (out.Findings n) more t = t
+tells_none L IsIn r (out.LeftOut n) more t = t
 tells_none L IsIn r (out.Stopped (stop.Refused at why)) more t = t
 tells_none L IsIn r (out.Stopped (stop.TooLong at)) more t = t
 tells_none L IsIn r (out.Stopped (stop.TooMany at)) more t = t
@@ -54,6 +55,10 @@ form_tells : {F : Type 0} (Told : F → Reading → Outcome → List ℕ → Typ
 form_tells Told none None r o more t = t
 form_tells Told none (Some form) r o more t = none form r o more t
 
+pub snapshot_tells : (keep_going : Bool) (profile : Profile) (explain : Bool) → explain ≡ false → (r : Reading) (o : Outcome) (more : List ℕ) → TellsOfSnapshot keep_going profile explain r o more → more ≡ []
+snapshot_tells true profile explain e r o more t = t
+snapshot_tells false profile explain e r o more t = tells_none (Snap profile) IsInRecord r o more (subst (λ (b : Bool). Tells (Snap profile) IsInRecord b r o more) e t)
+
 pub command_tells : (profile : Profile) (c : Command) (options : Options) → options.explain ≡ false → (r : Reading) (o : Outcome) (more : List ℕ) → TellsOf profile c options r o more → more ≡ []
 command_tells profile (command.File name) options e r o more t =
     form_tells (λ kind. Tells (TextOf (λ text v. KindText kind v text)) (IsInText name.items) false) (λ kind s p m u. tells_none (TextOf (λ text v. KindText kind v text)) (IsInText name.items) s p m u) (read_form_of profile name.items) r o more
@@ -62,7 +67,7 @@ command_tells profile (command.Setting name) options e r o more t =
     form_tells (λ kind. Tells (TextOf (λ text v. WriteText kind v text)) (IsInText name.items) false) (λ kind s p m u. tells_none (TextOf (λ text v. WriteText kind v text)) (IsInText name.items) s p m u) (write_form_of profile name.items) r o more
     (subst (λ (b : Bool). TellsOfWrite b name.items (write_form_of profile name.items) r o more) e t)
 command_tells profile command.Kinds options e r o more t = t
-command_tells profile command.Show options e r o more t = tells_none (Snap profile) IsInRecord r o more (subst (λ (b : Bool). Tells (Snap profile) IsInRecord b r o more) e t)
-command_tells profile command.Json options e r o more t = tells_none (Snap profile) IsInRecord r o more (subst (λ (b : Bool). Tells (Snap profile) IsInRecord b r o more) e t)
-command_tells profile command.Check options e r o more t = tells_none (Snap profile) IsInRecord r o more (subst (λ (b : Bool). Tells (Snap profile) IsInRecord b r o more) e t)
+command_tells profile command.Show options e r o more t = snapshot_tells options.keep_going profile options.explain e r o more t
+command_tells profile command.Json options e r o more t = snapshot_tells options.keep_going profile options.explain e r o more t
+command_tells profile command.Check options e r o more t = snapshot_tells options.keep_going profile options.explain e r o more t
 command_tells profile command.Plan options e r o more t = tells_none (Plan profile) IsInRecord r o more (subst (λ (b : Bool). Tells (Plan profile) IsInRecord b r o more) e t)

@@ -3,7 +3,7 @@ use Rattle.std.proofs.Common.{refl}
 use Rattle.clap.proofs.OnLiterals.{clap_on_literals}
 use Rattle.cg_run.specs.CommandLine.{cgfile_app}
 use Rattle.cg_value.specs.Table.{has_row}
-use Rattle.cg_run.specs.Rows.{ExplainRows, FaultRows, KnownRows, LimitRows}
+use Rattle.cg_run.specs.Rows.{ExplainRows, FaultRows, GoingOnRows, KnownRows, LimitRows}
 
 pub known_rows : KnownRows
 unfolding cgfile_app clap_on_literals has_row
@@ -27,3 +27,17 @@ fault_rows names = (refl, refl, refl, refl, refl, refl, refl)
 pub explain_rows : ExplainRows
 unfolding cgfile_app clap_on_literals
 explain_rows names = ((refl, refl), (refl, refl), (refl, refl), (refl, refl), (refl, refl))
+
+pub going_on_rows : GoingOnRows
+unfolding cgfile_app clap_on_literals
+going_on_rows names = (
+  (refl, (refl, refl)),
+  (refl, (refl, refl)),
+  (refl, (refl, refl)),
+  (refl, (refl, refl)),
+  (refl, (refl, refl)),
+  (refl, (refl, refl)),
+  (refl, (refl, refl)),
+  (refl, (refl, refl)),
+  (refl, (refl, refl)),
+)

@@ -1,5 +1,5 @@
 -- What a run that checks a snapshot writes: a line for each finding, once the whole snapshot was read.
-use Rattle.std.specs.Prelude.{◌≡◌, ℕ, ◌<◌, ◌⊎◌, List, [], ◌∷◌, ◌++◌, length, map, Option, Some, None}
+use Rattle.std.specs.Prelude.{◌≡◌, ℕ, ◌⊎◌, List, [], ◌∷◌, ◌++◌, length, map, Option, Some, None}
 use Rattle.std.specs.List.{slice_get}
 use Rattle.cg_value.specs.Entry.{EntryData}
 use Rattle.cg_value.specs.declared.value.Value.{Value}
@@ -8,7 +8,8 @@ use Rattle.cg_tree.specs.Find.{find, words_of}
 use Rattle.cg_tree.specs.Finding.{rule_word}
 use Rattle.cg_tree.specs.declared.finding.Finding.{Finding}
 use Rattle.cg_run.specs.Input.{Reading}
-use Rattle.cg_run.specs.Stream.{IsEarlyRight, IsStreamDone, IsStreamStarved}
+use Rattle.cg_run.specs.Outcome.{checked}
+use Rattle.cg_run.specs.Stream.{IsStreamDone, IsStreamRight, IsStreamStarved}
 use Rattle.cg_run.specs.declared.outcome.Outcome.{Outcome}
 use Rattle.cg_run.specs.declared.outcome.Outcome.TheVariants as out
 
@@ -33,25 +34,23 @@ finding_line es f = rule_word f.rule ++ 32 ∷ (control_text (slice_get es f.at)
 abbrev pub finding_lines : List EntryData → List (List ℕ)
 finding_lines es = map (finding_line es) (find es)
 
--- The parts of all entries or items of some bytes together.
-abbrev pub PartsOfAll : {E : Type 0} → (List E → List (List ℕ)) → (List ℕ → List E → Type 0) → List ℕ → List (List ℕ) → Type 0
-PartsOfAll {E} parts_of Has bytes parts = (es : List E) × Has bytes es × (parts ≡ parts_of es)
+-- How a run ends that tells these.
+abbrev pub found_outcome : List EntryData → Outcome
+found_outcome es = checked (length (finding_lines es)) 0
 
 -- Nothing is written before the end.
 abbrev pub HasNoParts : List ℕ → List (List ℕ) → Type 0
 HasNoParts bytes parts = parts ≡ []
 
 -- Whole, Closes, Unstopped and StopsBy are those of what is right for a stream.
-module _ (Whole Closes : List ℕ → List (List ℕ) → Type 0) (Unstopped : List ℕ → Type 0) (StopsBy : List ℕ → Stop → Type 0) where
+module _ (Whole : List ℕ → List (List ℕ) → Outcome → Type 0) (Closes : List ℕ → List (List ℕ) → Type 0) (Unstopped : List ℕ → Type 0) (StopsBy : List ℕ → Stop → Type 0) where
   -- Memory was refused while the stream was read; or, once the whole of it was, for what is written then: the parts are first
   -- ones of this.
   abbrev pub IsCheckStarved : Reading → List (List ℕ) → Type 0
   IsCheckStarved r parts = IsStreamStarved Whole Closes Unstopped StopsBy r parts
-      ⊎ ((more : List (List ℕ)) × IsStreamDone Whole Closes Unstopped StopsBy r (parts ++ more))
+      ⊎ ((more : List (List ℕ)) × (o : Outcome) × IsStreamDone Whole Closes Unstopped StopsBy r o (parts ++ more))
 
-  -- The outcome that is right where the parts tell what is wrong: it counts them.
+  -- The outcome that is right where parts are written at the end of the stream, which tell what is wrong.
   abbrev pub IsCheckRight : Reading → Outcome → List (List ℕ) → Type 0
-  IsCheckRight r out.Done parts = IsStreamDone Whole Closes Unstopped StopsBy r parts × (parts ≡ [])
-  IsCheckRight r (out.Findings n) parts = IsStreamDone Whole Closes Unstopped StopsBy r parts × (0 < length parts) × (n ≡ length parts)
   IsCheckRight r out.OutOfMemory parts = IsCheckStarved r parts
-  IsCheckRight r o parts = IsEarlyRight Whole Closes Unstopped StopsBy r o parts
+  IsCheckRight r o parts = IsStreamRight Whole Closes Unstopped StopsBy r o parts

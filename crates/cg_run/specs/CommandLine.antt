@@ -40,11 +40,12 @@ name_rule = record (new_rule (codes "NAME")) { action = Some Set; required = tru
 
 -- the options that stand before a command's word and after it
 abbrev pub with_options : Lent → App → App
-with_options names a = with_rule (with_rule (with_rule (with_rule (with_rule a (profile_rule names))
+with_options names a = with_rule (with_rule (with_rule (with_rule (with_rule (with_rule a (profile_rule names))
     (count_rule (codes "max-record")))
     (count_rule (codes "max-lines")))
     (count_rule (codes "max-stream")))
-    (flag_rule (codes "explain"))
+    (flag_rule (codes "explain")))
+    (flag_rule (codes "keep-going"))
 
 -- NAME and `--known`, where a file is named
 abbrev pub with_name : (takes_name : Bool) → App → App

@@ -76,6 +76,7 @@ module _ (L : List ℕ → Type 0) (IsIn : List ℕ → Bool → List ℕ → �
   abbrev pub Tells : (explain : Bool) → Reading → Outcome → List ℕ → Type 0
   Tells explain r out.Done text = text ≡ []
   Tells explain r (out.Findings n) text = text ≡ []
+  Tells explain r (out.LeftOut n) text = text ≡ []
   Tells explain r (out.Stopped s) text = TellsStop explain r.bytes s text
   Tells explain r out.NotReadable text = text ≡ []
   Tells explain r out.NotWritable text = text ≡ []

@@ -7,6 +7,8 @@ pub mod Ended
 pub mod Entries
 pub mod Explain
 pub mod FileReader
+pub mod GoneOn
+pub mod GoneOnReader
 pub mod Input
 pub mod Kept
 pub mod Kinds

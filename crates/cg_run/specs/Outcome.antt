@@ -1,5 +1,5 @@
 -- Exit statuses, and the last line of a run.
-use Rattle.std.specs.Prelude.{ℕ, Bool, true, false, List, [], ◌++◌, codes, decimal}
+use Rattle.std.specs.Prelude.{ℕ, Bool, true, false, List, [], ◌++◌, codes, decimal, nat_eq, if◌then◌else◌}
 use Rattle.cg_snap.specs.declared.stop.Stop.{Stop}
 use Rattle.cg_snap.specs.declared.stop.Stop.TheVariants as stop
 use Rattle.cg_snap.specs.declared.stop.Why.{Why}
@@ -11,6 +11,7 @@ use Rattle.cg_run.specs.declared.outcome.Outcome.TheVariants as out
 abbrev pub status_of : Outcome → ℕ
 status_of out.Done = 0
 status_of (out.Findings n) = 1
+status_of (out.LeftOut n) = 5
 status_of (out.Stopped s) = 1
 status_of out.NotReadable = 1
 status_of out.NotWritable = 1
@@ -38,6 +39,7 @@ stop_line (stop.Cut at) = codes "cgfile: cut at " ++ decimal at ++ codes "\n"
 abbrev pub last_line : Outcome → List ℕ
 last_line out.Done = []
 last_line (out.Findings n) = []
+last_line (out.LeftOut n) = []
 last_line (out.Stopped s) = stop_line s
 last_line out.NotReadable = codes "cgfile: not readable\n"
 last_line out.NotWritable = codes "cgfile: not writable\n"
@@ -48,3 +50,10 @@ last_line out.OutOfMemory = codes "cgfile: out of memory\n"
 abbrev pub is_write_fault : Outcome → Bool
 is_write_fault (out.WriteFault n) = true
 is_write_fault o = false
+
+-- How a run ends at the end of its input that left out so many blocks, and one that checks and tells so many findings.
+abbrev pub gone_on : (left_out : ℕ) → Outcome
+gone_on left_out = if nat_eq left_out 0 then out.Done else out.LeftOut left_out
+
+abbrev pub checked : (findings left_out : ℕ) → Outcome
+checked findings left_out = if nat_eq findings 0 then gone_on left_out else out.Findings findings

@@ -5,7 +5,7 @@ use Rattle.clap.specs.declared.error.kind.ErrorKind.{ErrorKind}
 use Rattle.clap.specs.declared.error.kind.ErrorKind.TheVariants.{DisplayHelp, DisplayVersion, MissingRequiredArgument, UnknownArgument}
 use Rattle.cg_run.specs.CommandLine.{Lent, cgfile_app}
 use Rattle.cg_value.specs.declared.profile.Profile.TheVariants.{One}
-use Rattle.cg_run.specs.Words.{is_welcome, limits_of, name_in, options_of}
+use Rattle.cg_run.specs.Words.{is_fit, is_welcome, limits_of, name_in, options_of}
 
 -- `clap` takes these words, with this NAME, and it may stand there or not
 abbrev pub IsNamed : Lent → List Text → (name : Text) → (welcome : Bool) → Type 0
@@ -59,3 +59,21 @@ ExplainRows = (names : Lent)
     × IsExplained names (codes "kinds" ∷ codes "--explain" ∷ []) true
     × IsExplained names (codes "file" ∷ codes "--explain" ∷ codes "--known" ∷ codes "cpu.weight" ∷ []) true
     × IsExplained names (codes "file" ∷ codes "--" ∷ codes "--explain" ∷ []) false
+
+-- `clap` takes these words, `--keep-going` is used or not, and the options fit or not
+abbrev pub IsGoneOnWith : Lent → List Text → (keep_going fit : Bool) → Type 0
+IsGoneOnWith names words keep_going fit = (takes (cgfile_app names) words ≡ true)
+    × IsSomeAnd (subcommand_of (cgfile_app names) words) (λ s. let options = options_of (matches_of (cgfile_app names) words) s.1 in
+    (options.keep_going ≡ keep_going) × (is_fit s.0 options ≡ fit))
+
+abbrev pub GoingOnRows : Type 0
+GoingOnRows = (names : Lent)
+    → IsGoneOnWith names (codes "show" ∷ []) false true
+    × IsGoneOnWith names (codes "--keep-going" ∷ codes "show" ∷ []) true true
+    × IsGoneOnWith names (codes "json" ∷ codes "--keep-going" ∷ []) true true
+    × IsGoneOnWith names (codes "--keep-going" ∷ codes "check" ∷ codes "--keep-going" ∷ []) true true
+    × IsGoneOnWith names (codes "plan" ∷ codes "--keep-going" ∷ []) true false
+    × IsGoneOnWith names (codes "--keep-going" ∷ codes "kinds" ∷ []) true false
+    × IsGoneOnWith names (codes "--keep-going" ∷ codes "file" ∷ codes "cpu.weight" ∷ []) true false
+    × IsGoneOnWith names (codes "setting" ∷ codes "--keep-going" ∷ codes "cpu.max" ∷ []) true false
+    × IsGoneOnWith names (codes "--explain" ∷ codes "show" ∷ codes "--keep-going" ∷ []) true false

@@ -1,5 +1,5 @@
 -- What a run wrote for what it read.
-use Rattle.std.specs.Prelude.{◌≡◌, ℕ, ◌+◌, ◌<◌, ◌≤◌, ◌⊎◌, Bool, true, List, [], ◌∷◌, ◌++◌, length, take, Option, Some, None}
+use Rattle.std.specs.Prelude.{◌≡◌, ℕ, ◌+◌, ◌<◌, ◌≤◌, ◌⊎◌, Bool, true, false, List, [], ◌∷◌, ◌++◌, length, take, Option, Some, None}
 use Rattle.std.specs.Io.KnownBytes.{Appends, Consumes}
 use Rattle.cg_text.specs.Texts.{TextOf}
 use Rattle.cg_text.specs.Token.{told}
@@ -20,12 +20,13 @@ use Rattle.cg_snap.specs.Stop.{IsTextUnstopped, TextStopOf}
 use Rattle.cg_snap.specs.declared.limits.Limits.{Limits}
 use Rattle.cg_snap.specs.declared.stop.Stop.{Stop}
 use Rattle.cg_snap.specs.declared.stop.Stop.TheVariants as stop
-use Rattle.cg_run.specs.Check.{HasNoParts, IsCheckRight, PartsOfAll, finding_lines}
+use Rattle.cg_run.specs.Check.{HasNoParts, IsCheckRight, finding_lines, found_outcome}
 use Rattle.cg_run.specs.Explain.{IsInRecord, IsInText, Tells}
+use Rattle.cg_run.specs.GoneOn.{IsGoneOnChecked, IsGoneOnRight, json_told, shown_told}
 use Rattle.cg_run.specs.Input.{Reading, IsEnded}
 use Rattle.cg_run.specs.Kinds.{kinds_lines}
 use Rattle.cg_run.specs.Outcome.{last_line}
-use Rattle.cg_run.specs.Stream.{IsStreamRight, PartsOf, item_part, json_part, shown_part}
+use Rattle.cg_run.specs.Stream.{DoneOf, IsStreamRight, PartsOf, WholeOf, item_part, json_part, shown_part}
 use Rattle.cg_run.specs.declared.options.Options.{Options}
 use Rattle.cg_run.specs.declared.outcome.Outcome.{Outcome}
 use Rattle.cg_run.specs.declared.outcome.Outcome.TheVariants as out
@@ -69,6 +70,7 @@ module _ {V : Type 0} (Text : List ℕ → V → Type 0) (print : V → List ℕ
   abbrev pub IsTextEnding : Reading → Outcome → List (List ℕ) → Type 0
   IsTextEnding r out.Done parts = (part : List ℕ) × IsTextPart r part × (parts ≡ part ∷ [])
   IsTextEnding r (out.Findings n) parts = ⊥
+  IsTextEnding r (out.LeftOut n) parts = ⊥
   IsTextEnding r (out.Stopped s) parts = IsTextStop r s × (parts ≡ [])
   IsTextEnding r out.NotReadable parts = ⊥
   IsTextEnding r out.NotWritable parts = ⊥
@@ -118,29 +120,46 @@ pub record IsListRight (profile : Profile) (r : Reading) (o : Outcome) (parts : 
 -- A snapshot: a part for each entry that the bytes close, and at the end for each of the whole.
 abbrev pub IsSnapshotRight : (EntryData → List ℕ) → Profile → Limits → Reading → Outcome → List (List ℕ) → Type 0
 IsSnapshotRight part profile limits = IsStreamRight
-    (PartsOf part (λ bytes es. SnapText profile es bytes)) (PartsOf part (λ bytes es. Closed profile bytes es))
+    (DoneOf part (λ bytes es. SnapText profile es bytes)) (PartsOf part (λ bytes es. Closed profile bytes es))
     (IsSnapUnstopped profile limits) (SnapStopOf profile limits)
 
 -- A snapshot that is checked: at its end a line for each finding, and nothing before.
-abbrev pub IsCheckedRight : Profile → Limits → Reading → Outcome → List (List ℕ) → Type 0
-IsCheckedRight profile limits = IsCheckRight
-    (PartsOfAll finding_lines (λ bytes es. SnapText profile es bytes)) HasNoParts (IsSnapUnstopped profile limits) (SnapStopOf profile limits)
+abbrev pub IsFoundRight : Profile → Limits → Reading → Outcome → List (List ℕ) → Type 0
+IsFoundRight profile limits = IsCheckRight
+    (WholeOf finding_lines found_outcome (λ bytes es. SnapText profile es bytes)) HasNoParts (IsSnapUnstopped profile limits) (SnapStopOf profile limits)
+
+-- By whether what is at fault is left out, and the rest is gone on with.
+abbrev pub IsShowRight : (keep_going : Bool) → Profile → Limits → Reading → Outcome → List (List ℕ) → Type 0
+IsShowRight false = IsSnapshotRight shown_part
+IsShowRight true = IsGoneOnRight shown_told
+
+abbrev pub IsJsonRight : (keep_going : Bool) → Profile → Limits → Reading → Outcome → List (List ℕ) → Type 0
+IsJsonRight false = IsSnapshotRight json_part
+IsJsonRight true = IsGoneOnRight json_told
+
+abbrev pub IsCheckedRight : (keep_going : Bool) → Profile → Limits → Reading → Outcome → List (List ℕ) → Type 0
+IsCheckedRight false = IsFoundRight
+IsCheckedRight true = IsGoneOnChecked
 
 -- A plan: a part for each item, once its record has ended.
 abbrev pub IsPlanRight : (ItemData → List ℕ) → Profile → Limits → Reading → Outcome → List (List ℕ) → Type 0
 IsPlanRight part profile limits = IsStreamRight
-    (PartsOf part (λ bytes items. PlanText profile items bytes)) (PartsOf part (λ bytes items. ClosedPlan profile bytes items))
+    (DoneOf part (λ bytes items. PlanText profile items bytes)) (PartsOf part (λ bytes items. ClosedPlan profile bytes items))
     (IsPlanUnstopped profile limits) (PlanStopOf profile limits)
 
 -- The outcome that is right for what was read, with the parts that are written before the last line.
+abbrev pub IsRightOf : (keep_going : Bool) → Profile → Command → Limits → Reading → Outcome → List (List ℕ) → Type 0
+IsRightOf keep_going profile (command.File name) limits r o parts = IsFileRight (read_form_of profile name.items) limits.max_stream r o parts
+IsRightOf keep_going profile (command.Setting name) limits r o parts = IsWriteRight (write_form_of profile name.items) limits.max_stream r o parts
+IsRightOf keep_going profile command.Kinds limits r o parts = IsListRight profile r o parts
+IsRightOf keep_going profile command.Show limits r o parts = IsShowRight keep_going profile limits r o parts
+IsRightOf keep_going profile command.Json limits r o parts = IsJsonRight keep_going profile limits r o parts
+IsRightOf keep_going profile command.Check limits r o parts = IsCheckedRight keep_going profile limits r o parts
+IsRightOf keep_going profile command.Plan limits r o parts = IsPlanRight item_part profile limits r o parts
+
+-- ... without an option.
 abbrev pub IsRight : Profile → Command → Limits → Reading → Outcome → List (List ℕ) → Type 0
-IsRight profile (command.File name) limits r o parts = IsFileRight (read_form_of profile name.items) limits.max_stream r o parts
-IsRight profile (command.Setting name) limits r o parts = IsWriteRight (write_form_of profile name.items) limits.max_stream r o parts
-IsRight profile command.Kinds limits r o parts = IsListRight profile r o parts
-IsRight profile command.Show limits r o parts = IsSnapshotRight shown_part profile limits r o parts
-IsRight profile command.Json limits r o parts = IsSnapshotRight json_part profile limits r o parts
-IsRight profile command.Check limits r o parts = IsCheckedRight profile limits r o parts
-IsRight profile command.Plan limits r o parts = IsPlanRight item_part profile limits r o parts
+IsRight = IsRightOf false
 
 abbrev pub joined : List (List ℕ) → List ℕ
 joined [] = []
@@ -190,13 +209,18 @@ TellsOfFile explain name = TellsOfForm (λ kind. Tells (TextOf (λ text v. KindT
 abbrev pub TellsOfWrite : (explain : Bool) (name : List ℕ) → Option WriteForm → Reading → Outcome → List ℕ → Type 0
 TellsOfWrite explain name = TellsOfForm (λ kind. Tells (TextOf (λ text s. WriteText kind s text)) (IsInText name) explain)
 
+-- ... and of a snapshot: nothing where it is gone on with.
+abbrev pub TellsOfSnapshot : (keep_going : Bool) → Profile → (explain : Bool) → Reading → Outcome → List ℕ → Type 0
+TellsOfSnapshot false profile explain r o more = Tells (Snap profile) IsInRecord explain r o more
+TellsOfSnapshot true profile explain r o more = more ≡ []
+
 abbrev pub TellsOf : Profile → Command → Options → Reading → Outcome → List ℕ → Type 0
 TellsOf profile (command.File name) options r o more = TellsOfFile options.explain name.items (read_form_of profile name.items) r o more
 TellsOf profile (command.Setting name) options r o more = TellsOfWrite options.explain name.items (write_form_of profile name.items) r o more
 TellsOf profile command.Kinds options r o more = more ≡ []
-TellsOf profile command.Show options r o more = Tells (Snap profile) IsInRecord options.explain r o more
-TellsOf profile command.Json options r o more = Tells (Snap profile) IsInRecord options.explain r o more
-TellsOf profile command.Check options r o more = Tells (Snap profile) IsInRecord options.explain r o more
+TellsOf profile command.Show options r o more = TellsOfSnapshot options.keep_going profile options.explain r o more
+TellsOf profile command.Json options r o more = TellsOfSnapshot options.keep_going profile options.explain r o more
+TellsOf profile command.Check options r o more = TellsOfSnapshot options.keep_going profile options.explain r o more
 TellsOf profile command.Plan options r o more = Tells (Plan profile) IsInRecord options.explain r o more
 
 -- A whole run of a command.
@@ -205,7 +229,7 @@ Ran profile c limits = DidRun (IsRight profile c limits)
 
 -- ... with the options.
 abbrev pub RanWith : Profile → Command → Limits → Options → Option (List ℕ) → Option (List ℕ) → Bool → Option (List ℕ) → Option (List ℕ) → Bool → Outcome → Type 0
-RanWith profile c limits options = DidRunWith (IsRight profile c limits) (TellsOf profile c options)
+RanWith profile c limits options = DidRunWith (IsRightOf options.keep_going profile c limits) (TellsOf profile c options)
 
 -- A command that reads nothing and takes no memory: the list of the kinds, and one that names a file without the form.
 abbrev pub IsIdle : Profile → Command → Type 0

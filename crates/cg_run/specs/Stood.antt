@@ -9,16 +9,17 @@ use Rattle.cg_snap.specs.Decoder.{SnapshotDecoder}
 use Rattle.cg_snap.specs.PlanDecoder.{PlanDecoder}
 use Rattle.cg_snap.specs.Pulled.{StandsFor}
 use Rattle.cg_snap.specs.Streams.{plan_stream, snap_stream}
-use Rattle.cg_run.specs.Check.{PartsOfAll}
-use Rattle.cg_run.specs.Stream.{PartsOf}
+use Rattle.cg_run.specs.Stream.{WholeOf}
+use Rattle.cg_run.specs.Streaming.{HasWhole}
+use Rattle.cg_run.specs.declared.outcome.Outcome.{Outcome}
 use Rattle.cg_snap.specs.declared.decoder.Decoder.{Decoder}
 use Rattle.cg_snap.specs.declared.limits.Limits.{Limits}
 
--- The decoder, which is of this profile and has these limits, consumed the bytes; also where the next one stopped it.
-pub record HasStood {R Part : Type 0} (stream : Profile → Stream R Part) (profile_of : R → Profile) (d : Decoder R) (profile : Profile) (limits : Limits) (bytes : List ℕ) : Type 0 where
+-- The decoder, which is of this form and has these limits, consumed the bytes; also where the next one stopped it.
+pub record HasStood {R Form Part : Type 0} (stream : Form → Stream R Part) (form_of : R → Form) (d : Decoder R) (form : Form) (limits : Limits) (bytes : List ℕ) : Type 0 where
   pub parts : List Part
-  pub stands : StandsFor (stream (profile_of d.records)) d bytes parts
-  pub profile_is : profile_of d.records ≡ profile
+  pub stands : StandsFor (stream (form_of d.records)) d bytes parts
+  pub form_is : form_of d.records ≡ form
   pub limits_is : d.meter.limits ≡ limits
 
 -- A decoder of snapshots, and one of plans.
@@ -29,10 +30,10 @@ abbrev pub HasPlanStood : PlanDecoder → Profile → Limits → List ℕ → Ty
 HasPlanStood = HasStood plan_stream (λ s. s.profile)
 
 pub snap_stood : (d : SnapshotDecoder) (profile : Profile) (limits : Limits) (p : List ℕ) (es : List EntryData) → HasTaken d profile limits p es → HasSnapStood d profile limits p
-snap_stood d profile limits p es h = record { parts = es; stands = h.stands; profile_is = h.form_is; limits_is = h.limits_is }
+snap_stood d profile limits p es h = record { parts = es; stands = h.stands; form_is = h.form_is; limits_is = h.limits_is }
 
 pub plan_stood : (d : PlanDecoder) (profile : Profile) (limits : Limits) (p : List ℕ) (items : List ItemData) → HasTakenPlan d profile limits p items → HasPlanStood d profile limits p
-plan_stood d profile limits p items h = record { parts = items; stands = h.stands; profile_is = h.form_is; limits_is = h.limits_is }
+plan_stood d profile limits p items h = record { parts = items; stands = h.stands; form_is = h.form_is; limits_is = h.limits_is }
 
 pub snap_within : (d : SnapshotDecoder) (profile : Profile) (limits : Limits) (p : List ℕ) → HasSnapStood d profile limits p → length p ≤ limits.max_stream
 snap_within d profile limits p h = omega (arith, h.stands.counted.within, ap (λ (l : Limits). l.max_stream) h.limits_is)
@@ -41,8 +42,6 @@ pub plan_within : (d : PlanDecoder) (profile : Profile) (limits : Limits) (p : L
 plan_within d profile limits p h = omega (arith, h.stands.counted.within, ap (λ (l : Limits). l.max_stream) h.limits_is)
 
 -- The parts of entries or items spell just the texts that have these.
-pub parts_spelled : {E : Type 0} (part : E → List ℕ) (Has : List ℕ → List E → Type 0) (p : List ℕ) → TextOf Has p ↔ ((parts : List (List ℕ)) × PartsOf part Has p parts)
-parts_spelled part Has p = (λ t. (map part (t.0), (t.0, t.1, refl)), λ h. (h.1.0, h.1.1))
-
-pub all_spelled : {E : Type 0} (parts_of : List E → List (List ℕ)) (Has : List ℕ → List E → Type 0) (p : List ℕ) → TextOf Has p ↔ ((parts : List (List ℕ)) × PartsOfAll parts_of Has p parts)
-all_spelled parts_of Has p = (λ t. (parts_of (t.0), (t.0, t.1, refl)), λ h. (h.1.0, h.1.1))
+pub whole_spelled : {E : Type 0} (parts_of : List E → List (List ℕ)) (outcome_of : List E → Outcome) (Has : List ℕ → List E → Type 0) (p : List ℕ) →
+    TextOf Has p ↔ HasWhole (WholeOf parts_of outcome_of Has) p
+whole_spelled parts_of outcome_of Has p = (λ t. (parts_of (t.0), outcome_of (t.0), (t.0, t.1, refl, refl)), λ h. (h.2.0, h.2.1))

@@ -23,24 +23,34 @@ json_part e = line_of e
 abbrev pub item_part : ItemData → List ℕ
 item_part item = item.path ++ 0 ∷ print_setting_of item.setting
 
--- The parts of the entries or items that some bytes have by a relation.
+-- The parts of the entries, items or what else is told that some bytes have by a relation: one of each, or of all together.
 abbrev pub PartsOf : {E : Type 0} → (E → List ℕ) → (List ℕ → List E → Type 0) → List ℕ → List (List ℕ) → Type 0
 PartsOf {E} part Has bytes parts = (es : List E) × Has bytes es × (parts ≡ map part es)
 
--- Whole says of a whole stream which parts it has, and Closes of the first bytes of one which parts they close; Unstopped says
+abbrev pub PartsOfAll : {E : Type 0} → (List E → List (List ℕ)) → (List ℕ → List E → Type 0) → List ℕ → List (List ℕ) → Type 0
+PartsOfAll {E} parts_of Has bytes parts = (es : List E) × Has bytes es × (parts ≡ parts_of es)
+
+-- The same of a whole stream, with the outcome of a run over it.
+abbrev pub WholeOf : {E : Type 0} → (List E → List (List ℕ)) → (List E → Outcome) → (List ℕ → List E → Type 0) → List ℕ → List (List ℕ) → Outcome → Type 0
+WholeOf {E} parts_of outcome_of Has bytes parts o = (es : List E) × Has bytes es × (parts ≡ parts_of es) × (o ≡ outcome_of es)
+
+abbrev pub DoneOf : {E : Type 0} → (E → List ℕ) → (List ℕ → List E → Type 0) → List ℕ → List (List ℕ) → Outcome → Type 0
+DoneOf {E} part = WholeOf (map part) (λ (es : List E). out.Done)
+
+-- Whole says of a whole stream which parts it has and how a run over it ends, and Closes of the first bytes of one which parts they close; Unstopped says
 -- of bytes that none of them stops the stream, and StopsBy by which stop the first does that stops it.
-module _ (Whole Closes : List ℕ → List (List ℕ) → Type 0) (Unstopped : List ℕ → Type 0) (StopsBy : List ℕ → Stop → Type 0) where
+module _ (Whole : List ℕ → List (List ℕ) → Outcome → Type 0) (Closes : List ℕ → List (List ℕ) → Type 0) (Unstopped : List ℕ → Type 0) (StopsBy : List ℕ → Stop → Type 0) where
   -- A whole stream was read.
-  pub record IsStreamDone (r : Reading) (parts : List (List ℕ)) : Type 0 where
+  pub record IsStreamDone (r : Reading) (o : Outcome) (parts : List (List ℕ)) : Type 0 where
     pub ended : IsEnded r
     pub unstopped : Unstopped r.bytes
-    pub whole : Whole r.bytes parts
+    pub whole : Whole r.bytes parts o
 
   -- The input ended before a stream did.
   pub record IsStreamCut (r : Reading) (at : ℕ) (parts : List (List ℕ)) : Type 0 where
     pub ended : IsEnded r
     pub unstopped : Unstopped r.bytes
-    pub not_whole : (all : List (List ℕ)) → Whole r.bytes all → ⊥
+    pub not_whole : (all : List (List ℕ)) (o : Outcome) → Whole r.bytes all o → ⊥
     pub at_end : at ≡ length r.bytes
     pub closed : Closes r.bytes parts
 
@@ -62,7 +72,7 @@ module _ (Whole Closes : List ℕ → List (List ℕ) → Type 0) (Unstopped : L
     pub within : at ≤ length r.bytes
     pub unstopped : Unstopped (take at r.bytes)
     pub more : List (List ℕ)
-    pub has : Closes (take at r.bytes) (parts ++ more) ⊎ IsStreamDone r (parts ++ more)
+    pub has : Closes (take at r.bytes) (parts ++ more) ⊎ ((o : Outcome) × IsStreamDone r o (parts ++ more))
     pub wants : ((at < length r.bytes) × Unstopped (take (at + 1) r.bytes)) ⊎ (parts ++ more ≢ [])
 
   abbrev pub IsStreamStop : Reading → Stop → List (List ℕ) → Type 0
@@ -74,6 +84,7 @@ module _ (Whole Closes : List ℕ → List (List ℕ) → Type 0) (Unstopped : L
   abbrev pub IsEarlyRight : Reading → Outcome → List (List ℕ) → Type 0
   IsEarlyRight r out.Done parts = ⊥
   IsEarlyRight r (out.Findings n) parts = ⊥
+  IsEarlyRight r (out.LeftOut n) parts = ⊥
   IsEarlyRight r (out.Stopped s) parts = IsStreamStop r s parts
   IsEarlyRight r out.NotReadable parts = ⊥
   IsEarlyRight r out.NotWritable parts = ⊥
@@ -83,5 +94,7 @@ module _ (Whole Closes : List ℕ → List (List ℕ) → Type 0) (Unstopped : L
 
   -- The outcome that is right where each part is written as soon as the bytes close it.
   abbrev pub IsStreamRight : Reading → Outcome → List (List ℕ) → Type 0
-  IsStreamRight r out.Done parts = IsStreamDone r parts
+  IsStreamRight r out.Done parts = IsStreamDone r out.Done parts
+  IsStreamRight r (out.Findings n) parts = IsStreamDone r (out.Findings n) parts
+  IsStreamRight r (out.LeftOut n) parts = IsStreamDone r (out.LeftOut n) parts
   IsStreamRight r o parts = IsEarlyRight r o parts

@@ -1,5 +1,5 @@
 -- What the steps of a run over a stream do.
-use Rattle.std.specs.Prelude.{◌≡◌, ◌≢◌, ℕ, ◌+◌, ◌<◌, ◌⊎◌, Bool, List, [], ◌∷◌, ◌++◌, length, take, Option, option_to_list, Result, Ok, Err}
+use Rattle.std.specs.Prelude.{◌≡◌, ◌≢◌, ℕ, ◌+◌, ◌<◌, ◌⊎◌, Bool, List, [], ◌∷◌, ◌++◌, length, take, Option, Result, Ok, Err}
 use Rattle.std.specs.Io.KnownBytes.{Appends}
 use Rattle.cg_text.specs.Token.{told}
 use Rattle.cg_snap.specs.Stop.{place_of}
@@ -10,7 +10,7 @@ use Rattle.cg_snap.specs.declared.event.Event.TheVariants as events
 use Rattle.cg_snap.specs.declared.stop.Stop.{Stop}
 use Rattle.cg_snap.specs.declared.stop.Stop.TheVariants as stop
 use Rattle.cg_run.specs.Input.{Reading}
-use Rattle.cg_run.specs.Outcome.{last_line}
+use Rattle.cg_run.specs.Outcome.{gone_on, last_line}
 use Rattle.cg_run.specs.Run.{Wrote, joined}
 use Rattle.cg_run.specs.declared.outcome.Outcome.{Outcome}
 
@@ -67,17 +67,32 @@ IsAppended text (events.Stopped s) old new (events.Stopped t) = (new ≡ old) ×
 IsAppended text events.OutOfMemory old new events.OutOfMemory = new ≡ old
 IsAppended text what old new found = ⊥
 
--- The bytes are no whole stream, and the stop tells where they end.
-abbrev pub IsCutAt : (List ℕ → List (List ℕ) → Type 0) → List ℕ → Stop → Type 0
-IsCutAt Whole p (stop.Cut at) = (at ≡ length p) × ((all : List (List ℕ)) → Whole p all → ⊥)
-IsCutAt Whole p s = ⊥
+-- Whole says which parts a whole stream has, and how a run over it ends.
+module _ (Whole : List ℕ → List (List ℕ) → Outcome → Type 0) where
+  -- The bytes are a whole stream, or none.
+  abbrev pub HasWhole : List ℕ → Type 0
+  HasWhole p = (all : List (List ℕ)) × (o : Outcome) × Whole p all o
 
--- What the end of the bytes leaves, by what a whole stream of them has: no part or one more, whose text is appended, or they
--- are no stream.
-abbrev pub EndIs : (List ℕ → List (List ℕ) → Type 0) → List ℕ → List (List ℕ) → List ℕ → List ℕ → Result (Unit {0}) StreamFault → Type 0
-EndIs Whole p parts old new (Ok u) = (last : Option (List ℕ)) × Whole p (parts ++ option_to_list last) × (new ≡ old ++ joined (option_to_list last))
-EndIs Whole p parts old new (Err (faults.Stopped s)) = IsCutAt Whole p s × (new ≡ old)
-EndIs Whole p parts old new (Err faults.OutOfMemory) = ((part : List ℕ) × Whole p (parts ++ part ∷ [])) × (new ≡ old)
+  abbrev pub HasNoWhole : List ℕ → Type 0
+  HasNoWhole p = (all : List (List ℕ)) (o : Outcome) → Whole p all o → ⊥
+
+  -- They are none, and the stop tells where they end.
+  abbrev pub IsCutAt : List ℕ → Stop → Type 0
+  IsCutAt p (stop.Cut at) = (at ≡ length p) × HasNoWhole p
+  IsCutAt p s = ⊥
+
+  -- Why the end of the bytes leaves nothing: they are no stream, or memory was refused for a part that they have at last, or for
+  -- what is written then.
+  abbrev pub IsEndFault : List ℕ → List (List ℕ) → StreamFault → Type 0
+  IsEndFault p parts (faults.Stopped s) = IsCutAt p s
+  IsEndFault p parts faults.OutOfMemory = (more : List (List ℕ)) × (o : Outcome) × Whole p (parts ++ more) o
+
+  -- What the end of the bytes leaves, by what a whole stream of them has: more parts, whose texts are appended, and how many blocks
+  -- were left out.
+  abbrev pub EndIs : List ℕ → List (List ℕ) → List ℕ → List ℕ → Result ℕ StreamFault → Type 0
+  EndIs p parts old new (Ok left_out) = (more : List (List ℕ)) × Whole p (parts ++ more) (gone_on left_out) × (new ≡ old ++ joined more)
+  EndIs p parts old new (Err (faults.Stopped s)) = IsCutAt p s × (new ≡ old)
+  EndIs p parts old new (Err faults.OutOfMemory) = ((more : List (List ℕ)) × (o : Outcome) × (more ≢ []) × Whole p (parts ++ more) o) × (new ≡ old)
 
 -- The writer took this text since it had taken first, and so many bytes are told of it.
 abbrev pub HasWrittenText : Option (List ℕ) → Option (List ℕ) → List ℕ → ℕ → Type 0

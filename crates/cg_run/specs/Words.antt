@@ -62,7 +62,22 @@ is_used id rows = is_set (one_of id rows)
 
 -- the options before the command's word or after it
 abbrev pub options_of : (before after : List Row) → Options
-options_of before after = record { explain = is_used (codes "explain") before || is_used (codes "explain") after }
+options_of before after = record {
+  explain = is_used (codes "explain") before || is_used (codes "explain") after;
+  keep_going = is_used (codes "keep-going") before || is_used (codes "keep-going") after;
+}
+
+-- one of them is used
+abbrev pub uses_any : Options → Bool
+uses_any options = options.explain || options.keep_going
+
+-- what is at fault may be left out of what the command of this word reads: of a snapshot
+abbrev pub goes_on : (name : Text) → Bool
+goes_on name = bytes_eq name (codes "show") || (bytes_eq name (codes "json") || bytes_eq name (codes "check"))
+
+-- the options go with the command of this word, and with one another: what is gone on with isn't explained
+abbrev pub is_fit : (name : Text) → Options → Bool
+is_fit name options = not options.keep_going || (goes_on name && not options.explain)
 
 -- ---- the command
 
@@ -101,6 +116,7 @@ pub record IsMadeFrom (before : List Row) (sub : Text × List Row) (r : Request)
   pub profile : r.profile ≡ profile_of before sub.1
   pub limits : r.limits ≡ limits_of before sub.1
   pub options : r.options ≡ options_of before sub.1
+  pub fit : is_fit sub.0 (options_of before sub.1) ≡ true
   pub command : IsCommand (profile_of before sub.1) sub.0 sub.1 r.command
 
 -- ... where a subcommand is met
@@ -112,13 +128,17 @@ abbrev pub is_met : Option (Text × List Row) → Bool
 is_met None = false
 is_met (Some s) = is_word s.0
 
--- the name that is given to the subcommand isn't welcome
+-- the name that is given to the subcommand isn't welcome, or the options don't fit
 abbrev pub IsUnwelcome : (before : List Row) → Option (Text × List Row) → Type 0
-IsUnwelcome before sub = IsSomeAnd sub (λ s. is_welcome (profile_of before s.1) s.1 ≡ false)
+IsUnwelcome before sub = IsSomeAnd sub (λ s. (is_welcome (profile_of before s.1) s.1 ≡ false) ⊎ (is_fit s.0 (options_of before s.1) ≡ false))
 
--- why matches give no command: no memory was left, or the name isn't welcome
+-- why matches give no command: no memory was left, or the name isn't welcome, or the options don't fit
 abbrev pub IsRefusal : (before : List Row) → Option (Text × List Row) → UsageFault → Type 0
 IsRefusal before sub fault = (fault ≡ OutOfMemory) ⊎ ((fault ≡ Bad) × IsUnwelcome before sub)
+
+-- why the matches of a subcommand give no command in the profile
+abbrev pub IsUnchosen : Profile → List Row → UsageFault → Type 0
+IsUnchosen profile rows fault = (fault ≡ OutOfMemory) ⊎ ((fault ≡ Bad) × (is_welcome profile rows ≡ false))
 
 -- ---- what the words ask for
 
@@ -129,7 +149,8 @@ IsToldOf kind Bad = (kind ≢ errors.DisplayHelp) × (kind ≢ errors.DisplayVer
 IsToldOf kind OutOfMemory = Unit {0}
 
 -- Which faults are told of words at which `clap`'s function gives these kinds of errors: a text only where help or the
--- version is asked for, and a bad command line only where something else is wrong, or the name isn't welcome.
+-- version is asked for, and a bad command line only where something else is wrong, or the name isn't welcome, or the options
+-- don't fit.
 abbrev pub IsTold : Errors → (before : List Row) → Option (Text × List Row) → UsageFault → Type 0
 IsTold kinds before sub OutOfMemory = Unit {0}
 IsTold kinds before sub (Help text) = (kind : ErrorKind) × IsAmong kind kinds × IsToldOf kind (Help text)
@@ -137,7 +158,7 @@ IsTold kinds before sub Bad = ((kind : ErrorKind) × IsAmong kind kinds × IsTol
 
 -- The answer to these words, the profiles' names lying somewhere. It is made of what `clap`'s function of the words gives,
 -- and only where that gives no error; a fault is told as that function's errors say; and where `clap` takes the words, the
--- only faults are want of memory and a name that isn't welcome.
+-- only faults are want of memory, a name that isn't welcome, and options that don't fit.
 pub record IsAnswer (names : Lent) (words : List Text) (answer : Result Request UsageFault) : Type 0 where
   pub profiles : texts_of names ≡ codes "1" ∷ codes "2" ∷ codes "kernel" ∷ []
   pub made : IfOk answer (IsMade (matches_of (cgfile_app names) words) (subcommand_of (cgfile_app names) words))
@@ -150,8 +171,8 @@ Answers words answer = (names : Lent) × IsAnswer names words answer
 
 -- The same without the options: words that use one are a bad command line.
 abbrev pub IsPlainOf : Result Request UsageFault → Result (Profile × Command × Limits) UsageFault → Type 0
-IsPlainOf (Ok r) (Ok asked) = (r.options.explain ≡ false) × (asked ≡ (r.profile, r.command, r.limits))
-IsPlainOf (Ok r) (Err fault) = (r.options.explain ≡ true) × (fault ≡ Bad)
+IsPlainOf (Ok r) (Ok asked) = (uses_any r.options ≡ false) × (asked ≡ (r.profile, r.command, r.limits))
+IsPlainOf (Ok r) (Err fault) = (uses_any r.options ≡ true) × (fault ≡ Bad)
 IsPlainOf (Err fault) (Ok asked) = ⊥
 IsPlainOf (Err fault) (Err told) = told ≡ fault
 

@@ -1,29 +1,26 @@
 //! A run that checks a snapshot: a line for each finding, after the end of input.
-ghost use Rattle.std.specs.Prelude.{◌≡◌, ◌≤◌, ◌+◌, ℕ, Bool, false, List, [], ◌∷◌, ◌++◌, Option, IfOk, OnOk, is_some, map};
+ghost use Rattle.std.specs.Prelude.{◌≡◌, ◌≤◌, ◌+◌, ◌&&◌, ℕ, Bool, false, List, [], ◌∷◌, ◌++◌, Option, IfOk, OnOk, is_some, map};
 ghost use Rattle.std.specs.Io.KnownBytes.{IsAtEnd};
-ghost use Rattle.cg_snap.specs.Snap.{Snap};
-ghost use Rattle.cg_run.specs.Check.{finding_line, word_at};
+ghost use Rattle.cg_run.specs.Check.{IsCheckRight, finding_line, word_at};
 ghost use Rattle.cg_run.specs.Checked.{HasWrittenLines};
-ghost use Rattle.cg_run.specs.Kept.{HasKept};
 ghost use Rattle.cg_run.specs.Explain.{IsInRecord, Tells};
 ghost use Rattle.cg_run.specs.Lines.{AreBehind};
-ghost use Rattle.cg_run.specs.Run.{DidRunWith, IsCheckedRight, IsRealFault};
+ghost use Rattle.cg_run.specs.Run.{DidRunWith, IsRealFault};
 ghost use Rattle.cg_run.specs.Streaming.{Before, EndsSo, HasWritten};
 
 use crate::explain::write_stop;
-use crate::kept::KeptReader;
 use crate::lines::Lines;
-use crate::outcome::Outcome;
+use crate::outcome::{Outcome, checked};
 use crate::source::Source;
 use crate::spot::stream_spot;
-use crate::stream_reader::StreamReader;
+use crate::stream_reader::KeptEntries;
 use crate::streaming::read_stream;
 use crate::told::{write_after, write_part};
 use cg_print::Sink;
-use cg_snap::{Limits, Stop, StreamFault};
+use cg_snap::{Stop, StreamFault};
 use cg_text::OutOfMemory;
 use cg_tree::{Finding, findings};
-use cg_value::{Entry, Profile, Value};
+use cg_value::{Entry, Value};
 use std::alloc::Global;
 
 /// The word at this place of those that an entry holds, nothing where there is none.
@@ -73,19 +70,22 @@ fn line_of(alloc: Global, entries: &[Entry], finding: &Finding) -> Result<Vec<u8
     }
 }
 
-/// Writes a line for each finding.
+/// Writes a line for each finding. So many bytes were written before, and so many blocks were left out.
 fn write_lines<W: Sink>(
     alloc: Global,
     entries: &[Entry],
     found: &[Finding],
+    left_out: u64,
     writer: &mut W,
+    before: u64,
 ) -> Outcome
-    ensures told { (first : Option (List ℕ)) → HasWritten first (W.taken writer.old) [] 0 →
-        HasWrittenLines (map (finding_line entries.now) found.now) first (W.taken writer.new) (W.has_failed writer.new)
-        result }
+    ensures told { (first : Option (List ℕ)) (parts : List (List ℕ)) →
+        HasWritten first (W.taken writer.old) parts before →
+        HasWrittenLines parts (map (finding_line entries.now) found.now) left_out first (W.taken writer.new)
+        (W.has_failed writer.new) result }
     ensures real { IsRealFault result (W.has_failed writer.new) }
 {
-    let mut written = 0;
+    let mut written = before;
     for finding in found {
         match line_of(alloc, entries, finding) {
             Ok(line) => match write_part(writer, line.as_slice(), &mut written) {
@@ -95,75 +95,79 @@ fn write_lines<W: Sink>(
             Err(_) => return write_after(writer, written, Outcome::OutOfMemory),
         }
     }
-    if found.is_empty() {
-        Outcome::Done
-    } else {
-        Outcome::Findings(found.len() as u64)
-    }
+    checked(found.len() as u64, left_out)
 }
 
-/// Writes what the entries of the snapshot break, once its input has ended.
-fn write_findings<W: Sink>(
+/// Writes what the entries of the snapshot break, once its input has ended. So many bytes were written before.
+fn write_findings<K: KeptEntries, W: Sink>(
     alloc: Global,
-    kept: KeptReader,
+    kept: K,
     writer: &mut W,
+    written: u64,
     lines: Option<Lines>,
     max: u64,
 ) -> Outcome
-    ensures ended { (form : Profile × Limits) (first : Option (List ℕ)) (read : List ℕ) (written : ℕ) →
-        form.1.max_stream ≡ max → AreBehind lines read →
-        Before (HasKept kept form) first (W.taken writer.old) written read →
+    ensures ended { (form : K.Form) (first : Option (List ℕ)) (read : List ℕ) → K.limit form ≡ max →
+        AreBehind lines read → Before (K.took kept form) first (W.taken writer.old) written read →
         (left : Option (List ℕ)) (failed : Bool) → IsAtEnd left → failed ≡ false →
-        EndsSo (IsCheckedRight (form.0) (form.1)) (Tells (Snap (form.0)) IsInRecord (is_some lines))
+        EndsSo (IsCheckRight (K.whole form) (K.closes form) (K.unstopped form) (K.stops form))
+        (Tells (K.language form) IsInRecord (K.explains form && is_some lines))
         read left failed first (W.taken writer.new) (W.has_failed writer.new)
         result }
     ensures real { IsRealFault result (W.has_failed writer.new) }
 {
-    if !kept.can_finish() {
+    if kept.is_cut() {
         let stop = Stop::Cut {
             at: kept.consumed(),
         };
         let spot = stream_spot(&kept, lines, stop, None);
-        return write_stop(writer, 0, stop, spot);
+        return write_stop(writer, written, stop, spot);
     }
-    let entries = match kept.finish() {
-        Ok(entries) => entries,
-        Err(StreamFault::Stopped(stop)) => return write_after(writer, 0, Outcome::Stopped(stop)),
-        Err(StreamFault::OutOfMemory) => return write_after(writer, 0, Outcome::OutOfMemory),
+    let kept = match kept.finish_kept() {
+        Ok(kept) => kept,
+        Err(StreamFault::Stopped(stop)) => {
+            return write_after(writer, written, Outcome::Stopped(stop));
+        }
+        Err(StreamFault::OutOfMemory) => {
+            return write_after(writer, written, Outcome::OutOfMemory);
+        }
     };
-    match findings(alloc, entries.as_slice()) {
-        Ok(found) => write_lines(alloc, entries.as_slice(), found.as_slice(), writer),
-        Err(_) => write_after(writer, 0, Outcome::OutOfMemory),
+    let entries = kept.entries.as_slice();
+    match findings(alloc, entries) {
+        Ok(found) => write_lines(
+            alloc,
+            entries,
+            found.as_slice(),
+            kept.left_out,
+            writer,
+            written,
+        ),
+        Err(_) => write_after(writer, written, Outcome::OutOfMemory),
     }
 }
 
 /// Reads a snapshot, keeps its entries, and writes what they break after the end of input.
-pub(crate) fn run_check<R: Source, W: Sink>(
+pub(crate) fn run_check<K: KeptEntries, R: Source, W: Sink>(
     alloc: Global,
-    profile: Profile,
-    limits: Limits,
+    mut kept: K,
     reader: &mut R,
     writer: &mut W,
     lines: Option<Lines>,
+    max: u64,
 ) -> Outcome
-    ensures ran { R.has_failed reader.old ≡ false → AreBehind lines [] →
-        DidRunWith (IsCheckedRight profile limits) (Tells (Snap profile) IsInRecord (is_some lines))
+    requires { (form : K.Form) × K.took kept form [] [] × (K.limit form ≡ max) }
+    ensures ran { (form : K.Form) → K.limit form ≡ max → K.took kept form [] [] → R.has_failed reader.old ≡ false →
+        AreBehind lines [] →
+        DidRunWith (IsCheckRight (K.whole form) (K.closes form) (K.unstopped form) (K.stops form))
+        (Tells (K.language form) IsInRecord (K.explains form && is_some lines))
         (R.coming reader.old) (R.coming reader.new) (R.has_failed reader.new)
         (W.taken writer.old) (W.taken writer.new) (W.has_failed writer.new) result }
     ensures real { IsRealFault result (W.has_failed writer.new) }
-    ensures asks { R.asks reader.new ≤ R.asks reader.old + limits.max_stream + 1 }
+    ensures asks { R.asks reader.new ≤ R.asks reader.old + max + 1 }
 {
-    let mut kept = KeptReader::new(alloc, profile, limits);
     let mut behind = lines;
-    match read_stream(
-        alloc,
-        &mut kept,
-        reader,
-        writer,
-        &mut behind,
-        limits.max_stream,
-    ) {
-        Ok(_) => write_findings(alloc, kept, writer, behind, limits.max_stream),
+    match read_stream(alloc, &mut kept, reader, writer, &mut behind, max) {
+        Ok(output) => write_findings(alloc, kept, writer, output.written, behind, max),
         Err(outcome) => outcome,
     }
 }

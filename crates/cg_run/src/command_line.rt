@@ -73,7 +73,8 @@ fn optioned<'a>(
         .arg(count_option(alloc, "max-record", help::MAX_RECORD))?
         .arg(count_option(alloc, "max-lines", help::MAX_LINES))?
         .arg(count_option(alloc, "max-stream", help::MAX_STREAM))?
-        .arg(flag_option(alloc, "explain", help::EXPLAIN))
+        .arg(flag_option(alloc, "explain", help::EXPLAIN))?
+        .arg(flag_option(alloc, "keep-going", help::KEEP_GOING))
 }
 
 /// A command with NAME and the option that goes with it, where it takes a name.

@@ -60,14 +60,15 @@ fn append_found(out: &mut Vec<u8>, line: &mut Vec<u8>, what: What) -> Event<()>
 impl StreamReader for EntryReader {
     type Form = (Profile, Limits);
 
-    ghost use Rattle.cg_run.specs.Stood.{HasSnapStood, parts_spelled, snap_stood, snap_within};
+    ghost use Rattle.std.specs.Prelude.{true};
+    ghost use Rattle.cg_run.specs.Stood.{HasSnapStood, snap_stood, snap_within};
     ghost use Rattle.cg_run.specs.Entries.{HasTold, told_closed, told_counted, told_offset, told_passed};
-    ghost use Rattle.cg_run.specs.Stream.{PartsOf, json_part};
+    ghost use Rattle.cg_run.specs.Stream.{DoneOf, PartsOf, json_part};
     ghost use Rattle.cg_snap.specs.Closed.{Closed};
     ghost use Rattle.cg_snap.specs.Snap.{Snap, SnapText};
     ghost use Rattle.cg_snap.specs.SnapStop.{IsSnapUnstopped, SnapStopOf};
 
-    ghost whole = { λ form. PartsOf json_part (λ bytes es. SnapText (form.0) es bytes) };
+    ghost whole = { λ form. DoneOf json_part (λ bytes es. SnapText (form.0) es bytes) };
 
     ghost closes = { λ form. PartsOf json_part (λ bytes es. Closed (form.0) bytes es) };
 
@@ -79,9 +80,9 @@ impl StreamReader for EntryReader {
 
     ghost language = { λ form. Snap (form.0) };
 
-    ghost stood = { λ s form. HasSnapStood s.decoder (form.0) (form.1) };
+    ghost explains = { λ form. true };
 
-    ghost spelled = { λ form p. parts_spelled json_part (λ bytes es. SnapText (form.0) es bytes) p };
+    ghost stood = { λ s form. HasSnapStood s.decoder (form.0) (form.1) };
 
     ghost stands = { λ s form p parts h. snap_stood s.decoder (form.0) (form.1) p (h.0) h.1 };
 
@@ -105,16 +106,16 @@ impl StreamReader for EntryReader {
         }
     }
 
-    fn record_place(&self) -> RecordPlace<'_> {
-        self.decoder.record_place()
+    fn record_place(&self) -> Option<RecordPlace<'_>> {
+        Some(self.decoder.record_place())
     }
 
     fn allowed(&self) -> ByteSet {
         self.decoder.allowed()
     }
 
-    fn can_finish(&self) -> bool {
-        self.decoder.can_finish()
+    fn is_cut(&self) -> bool {
+        !self.decoder.can_finish()
     }
 
     fn consumed(&self) -> u64 {
@@ -123,12 +124,12 @@ impl StreamReader for EntryReader {
 }
 
 impl LastPart for EntryReader {
-    fn finish(self, out: &mut Vec<u8>) -> Result<(), StreamFault> {
+    fn finish(self, out: &mut Vec<u8>) -> Result<u64, StreamFault> {
         let mut line = self.line;
         match self.decoder.finish() {
-            Ok(None) => Ok(()),
+            Ok(None) => Ok(0),
             Ok(Some(entry)) => match append_json(out, &mut line, &entry) {
-                Ok(()) => Ok(()),
+                Ok(()) => Ok(0),
                 Err(_) => Err(StreamFault::OutOfMemory),
             },
             Err(stop) => Err(StreamFault::Stopped(stop)),

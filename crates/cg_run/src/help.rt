@@ -121,6 +121,7 @@ Exit status:
   2  bad command line
   3  a read or a write failed
   4  no memory was left
+  5  done but for what --keep-going left out
 
 Example:
   cgfile file --known cpu.weight < /sys/fs/cgroup/a/cpu.weight
@@ -149,5 +150,9 @@ this option such a file is raw lines, and nearly all texts pass)";
 pub(crate) const EXPLAIN: &str = "\
 Where a byte is refused, or the input ends too early, tell in one more line
 where that is, what came there, and which bytes may come";
+
+pub(crate) const KEEP_GOING: &str = "\
+Of show, json and check: leave out each file with a line that is refused or too
+long, tell it in place, and go on; not with --explain";
 
 pub(crate) const NAME: &str = "The file's name alone, without a folder, as `cgfile kinds` lists it";

@@ -2,14 +2,33 @@
 ghost use Rattle.std.specs.Prelude.{◌≡◌, ℕ, true, List, [], ◌∷◌, ◌++◌, MatchResult, OnErr, OnOk};
 ghost use Rattle.cg_tree.specs.Directory.{name_of};
 ghost use Rattle.cg_tree.specs.Ruled.{is_ruled, ruled};
-ghost use Rattle.cg_run.specs.Checked.{AreKept, IsKeptFault};
 
-use crate::stream_reader::StreamReader;
+use crate::stream_reader::{KeptEntries, StreamReader};
 use cg_snap::{Event, Limits, Progress, RecordPlace, SnapshotDecoder, StreamFault};
 use cg_text::{ByteSet, OutOfMemory};
 use cg_tree::is_ruled;
 use cg_value::{Entry, Profile};
 use std::alloc::Global;
+
+/// The entries of a snapshot that the rules speak of, and how many blocks were left out of it.
+#[derive(Drop)]
+pub(crate) struct Kept {
+    pub(crate) entries: Vec<Entry>,
+    pub(crate) left_out: u64,
+}
+
+impl Kept {
+    /// Of a whole snapshot nothing is left out.
+    fn whole(entries: Vec<Entry>) -> Kept
+        ensures entries { result.entries ≡ entries }
+        ensures none { result.left_out ≡ 0 }
+    {
+        Kept {
+            entries,
+            left_out: 0,
+        }
+    }
+}
 
 /// A reader of a snapshot, of which the entries are kept that the rules speak of.
 #[derive(Drop)]
@@ -30,26 +49,10 @@ impl KeptReader {
             entries: Vec::new(alloc),
         }
     }
-
-    /// The entries that the rules speak of, once the input of the snapshot has ended.
-    pub(crate) fn finish(self) -> Result<Vec<Entry>, StreamFault>
-        ensures { (form : Profile × Limits) (p : List ℕ) (parts : List (List ℕ)) → HasKept self form p parts →
-            MatchResult result (λ entries. AreKept (form.0) p entries.items) (IsKeptFault (form.0) p) }
-    {
-        let mut entries = self.entries;
-        match self.decoder.finish() {
-            Ok(None) => Ok(entries),
-            Ok(Some(entry)) => match keep(&mut entries, entry) {
-                Ok(()) => Ok(entries),
-                Err(_) => Err(StreamFault::OutOfMemory),
-            },
-            Err(stop) => Err(StreamFault::Stopped(stop)),
-        }
-    }
 }
 
 /// Keeps an entry behind the others, if the rules speak of it. Another takes no memory.
-fn keep(entries: &mut Vec<Entry>, entry: Entry) -> Result<(), OutOfMemory>
+pub(crate) fn keep(entries: &mut Vec<Entry>, entry: Entry) -> Result<(), OutOfMemory>
     ensures kept { OnOk result (entries.new.items ≡ entries.old.items ++ ruled (entry ∷ [])) }
     ensures wanted { OnErr result (is_ruled (name_of entry.path) ≡ true) }
 {
@@ -62,13 +65,15 @@ fn keep(entries: &mut Vec<Entry>, entry: Entry) -> Result<(), OutOfMemory>
 impl StreamReader for KeptReader {
     type Form = (Profile, Limits);
 
-    ghost use Rattle.cg_run.specs.Stood.{HasSnapStood, all_spelled, snap_stood, snap_within};
-    ghost use Rattle.cg_run.specs.Check.{HasNoParts, PartsOfAll, finding_lines};
+    ghost use Rattle.std.specs.Prelude.{true};
+    ghost use Rattle.cg_run.specs.Stood.{HasSnapStood, snap_stood, snap_within};
+    ghost use Rattle.cg_run.specs.Check.{HasNoParts, finding_lines, found_outcome};
+    ghost use Rattle.cg_run.specs.Stream.{WholeOf};
     ghost use Rattle.cg_run.specs.Kept.{HasKept, kept_closed, kept_counted, kept_offset, kept_passed};
     ghost use Rattle.cg_snap.specs.Snap.{Snap, SnapText};
     ghost use Rattle.cg_snap.specs.SnapStop.{IsSnapUnstopped, SnapStopOf};
 
-    ghost whole = { λ form. PartsOfAll finding_lines (λ bytes es. SnapText (form.0) es bytes) };
+    ghost whole = { λ form. WholeOf finding_lines found_outcome (λ bytes es. SnapText (form.0) es bytes) };
 
     ghost closes = { λ form. HasNoParts };
 
@@ -80,9 +85,9 @@ impl StreamReader for KeptReader {
 
     ghost language = { λ form. Snap (form.0) };
 
-    ghost stood = { λ s form. HasSnapStood s.decoder (form.0) (form.1) };
+    ghost explains = { λ form. true };
 
-    ghost spelled = { λ form p. all_spelled finding_lines (λ bytes es. SnapText (form.0) es bytes) p };
+    ghost stood = { λ s form. HasSnapStood s.decoder (form.0) (form.1) };
 
     ghost stands = { λ s form p parts h. snap_stood s.decoder (form.0) (form.1) p h.given h.taken };
 
@@ -128,19 +133,33 @@ impl StreamReader for KeptReader {
         }
     }
 
-    fn record_place(&self) -> RecordPlace<'_> {
-        self.decoder.record_place()
+    fn record_place(&self) -> Option<RecordPlace<'_>> {
+        Some(self.decoder.record_place())
     }
 
     fn allowed(&self) -> ByteSet {
         self.decoder.allowed()
     }
 
-    fn can_finish(&self) -> bool {
-        self.decoder.can_finish()
+    fn is_cut(&self) -> bool {
+        !self.decoder.can_finish()
     }
 
     fn consumed(&self) -> u64 {
         self.decoder.offset()
+    }
+}
+
+impl KeptEntries for KeptReader {
+    fn finish_kept(self) -> Result<Kept, StreamFault> {
+        let mut entries = self.entries;
+        match self.decoder.finish() {
+            Ok(None) => Ok(Kept::whole(entries)),
+            Ok(Some(entry)) => match keep(&mut entries, entry) {
+                Ok(()) => Ok(Kept::whole(entries)),
+                Err(_) => Err(StreamFault::OutOfMemory),
+            },
+            Err(stop) => Err(StreamFault::Stopped(stop)),
+        }
     }
 }

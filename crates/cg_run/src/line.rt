@@ -79,17 +79,17 @@ fn plain(text: &[u8]) -> Line
 }
 
 /// What a refusal is called.
-fn words_of(why: Why) -> &'static [u8]
+pub(crate) fn words_of(why: Why) -> &'static str
     ensures words { result.now ≡ why_words why }
     ensures short { length result.now ≤ 13 }
 {
     match why {
-        Why::PathByte => b"path byte",
-        Why::NoName => b"no name",
-        Why::NotReadable => b"not readable",
-        Why::NotWritable => b"not writable",
-        Why::NoMoreLines => b"no more lines",
-        Why::Line => b"line",
+        Why::PathByte => "path byte",
+        Why::NoName => "no name",
+        Why::NotReadable => "not readable",
+        Why::NotWritable => "not writable",
+        Why::NoMoreLines => "no more lines",
+        Why::Line => "line",
     }
 }
 
@@ -98,7 +98,7 @@ fn refused(at: u64, why: Why) -> Line
     ensures { result ≡ codes "cgfile: refused at " ++ decimal at ++ (codes ": " ++ why_words why ++ codes "\n") }
 {
     let mut line = numbered(b"cgfile: refused at ", at as u128, b": ");
-    line.add(words_of(why));
+    line.add(words_of(why).as_bytes());
     line.add(b"\n");
     line
 }
@@ -121,7 +121,8 @@ pub(crate) fn last_line_of(outcome: Outcome) -> Line
     ensures { result ≡ last_line outcome }
 {
     match outcome {
-        Outcome::Done | Outcome::Findings(_) | Outcome::WriteFault { .. } => Line::new(),
+        Outcome::Done | Outcome::Findings(_) | Outcome::LeftOut(_) | Outcome::WriteFault { .. } =>
+            Line::new(),
         Outcome::Stopped(stop) => line_of_stop(stop),
         Outcome::NotReadable => plain(b"cgfile: not readable\n"),
         Outcome::NotWritable => plain(b"cgfile: not writable\n"),

@@ -1,6 +1,6 @@
 //! How a run ends.
 ghost use Rattle.std.specs.Prelude.{◌≡◌};
-ghost use Rattle.cg_run.specs.Outcome.{status_of};
+ghost use Rattle.cg_run.specs.Outcome.{checked, gone_on, status_of};
 
 use cg_snap::Stop;
 
@@ -11,6 +11,8 @@ pub enum Outcome {
     Done,
     /// All was read and written, and so many findings were told.
     Findings(u64),
+    /// All was read and written but what was left out: so many blocks, or `u64::MAX` where they are more.
+    LeftOut(u64),
     /// The input stopped here.
     Stopped(Stop),
     /// A file of the name can't be read.
@@ -32,11 +34,34 @@ pub fn status(outcome: &Outcome) -> u8
     match outcome {
         Outcome::Done => 0,
         Outcome::Findings(_) => 1,
+        Outcome::LeftOut(_) => 5,
         Outcome::Stopped(_) => 1,
         Outcome::NotReadable => 1,
         Outcome::NotWritable => 1,
         Outcome::ReadFault => 3,
         Outcome::WriteFault { .. } => 3,
         Outcome::OutOfMemory => 4,
+    }
+}
+
+/// How a run ends at the end of its input that left out so many blocks.
+pub(crate) fn gone_on(left_out: u64) -> Outcome
+    ensures { result ≡ gone_on left_out }
+{
+    if left_out == 0 {
+        Outcome::Done
+    } else {
+        Outcome::LeftOut(left_out)
+    }
+}
+
+/// How one ends that checks, and told so many findings.
+pub(crate) fn checked(findings: u64, left_out: u64) -> Outcome
+    ensures { result ≡ checked findings left_out }
+{
+    if findings == 0 {
+        gone_on(left_out)
+    } else {
+        Outcome::Findings(findings)
     }
 }

@@ -47,13 +47,14 @@ fn append_found(out: &mut Vec<u8>, what: PlanWhat) -> Event<()>
 impl StreamReader for PlannedReader {
     type Form = (Profile, Limits);
 
-    ghost use Rattle.cg_run.specs.Stood.{HasPlanStood, parts_spelled, plan_stood, plan_within};
+    ghost use Rattle.std.specs.Prelude.{true};
+    ghost use Rattle.cg_run.specs.Stood.{HasPlanStood, plan_stood, plan_within};
     ghost use Rattle.cg_run.specs.Planned.{HasPlanned, planned_closed, planned_counted, planned_offset, planned_passed};
-    ghost use Rattle.cg_run.specs.Stream.{PartsOf};
+    ghost use Rattle.cg_run.specs.Stream.{DoneOf, PartsOf};
     ghost use Rattle.cg_snap.specs.Plan.{ClosedPlan, Plan, PlanText};
     ghost use Rattle.cg_snap.specs.PlanStop.{IsPlanUnstopped, PlanStopOf};
 
-    ghost whole = { λ form. PartsOf item_part (λ bytes items. PlanText (form.0) items bytes) };
+    ghost whole = { λ form. DoneOf item_part (λ bytes items. PlanText (form.0) items bytes) };
 
     ghost closes = { λ form. PartsOf item_part (λ bytes items. ClosedPlan (form.0) bytes items) };
 
@@ -65,9 +66,9 @@ impl StreamReader for PlannedReader {
 
     ghost language = { λ form. Plan (form.0) };
 
-    ghost stood = { λ s form. HasPlanStood s.decoder (form.0) (form.1) };
+    ghost explains = { λ form. true };
 
-    ghost spelled = { λ form p. parts_spelled item_part (λ bytes items. PlanText (form.0) items bytes) p };
+    ghost stood = { λ s form. HasPlanStood s.decoder (form.0) (form.1) };
 
     ghost stands = { λ s form p parts h. plan_stood s.decoder (form.0) (form.1) p (h.0) h.1 };
 
@@ -91,16 +92,16 @@ impl StreamReader for PlannedReader {
         }
     }
 
-    fn record_place(&self) -> RecordPlace<'_> {
-        self.decoder.record_place()
+    fn record_place(&self) -> Option<RecordPlace<'_>> {
+        Some(self.decoder.record_place())
     }
 
     fn allowed(&self) -> ByteSet {
         self.decoder.allowed()
     }
 
-    fn can_finish(&self) -> bool {
-        self.decoder.can_finish()
+    fn is_cut(&self) -> bool {
+        !self.decoder.can_finish()
     }
 
     fn consumed(&self) -> u64 {
@@ -109,9 +110,9 @@ impl StreamReader for PlannedReader {
 }
 
 impl LastPart for PlannedReader {
-    fn finish(self, _out: &mut Vec<u8>) -> Result<(), StreamFault> {
+    fn finish(self, _out: &mut Vec<u8>) -> Result<u64, StreamFault> {
         match self.decoder.finish() {
-            Ok(()) => Ok(()),
+            Ok(()) => Ok(0),
             Err(stop) => Err(StreamFault::Stopped(stop)),
         }
     }

@@ -1,5 +1,5 @@
 //! The definitions of the command line meet command lines written out.
-ghost use Rattle.cg_run.specs.Rows.{ExplainRows, FaultRows, KnownRows, LimitRows};
+ghost use Rattle.cg_run.specs.Rows.{ExplainRows, FaultRows, GoingOnRows, KnownRows, LimitRows};
 
 /// With `--known` a name of the file table may stand there, and no other.
 pub fn known_rows()
@@ -19,4 +19,9 @@ pub fn fault_rows()
 /// Where `--explain` is used, before the command's word or after it.
 pub fn explain_rows()
     ensures { ExplainRows }
+{}
+
+/// Where `--keep-going` is used, and what it goes with.
+pub fn going_on_rows()
+    ensures { GoingOnRows }
 {}

@@ -2,17 +2,17 @@
 ghost use Rattle.std.specs.Prelude.{◌≡◌, ◌≢◌, ◌≤◌, ◌+◌, ℕ, List, [], false, None, is_some, length};
 ghost use Rattle.cg_value.specs.Table.{read_form_of, write_form_of};
 ghost use Rattle.cg_text.specs.Texts.{TextOf};
-ghost use Rattle.cg_snap.specs.Snap.{Snap};
-ghost use Rattle.cg_run.specs.Explain.{IsInRecord, IsInText, Tells};
+ghost use Rattle.cg_run.specs.Explain.{IsInText, Tells};
 ghost use Rattle.cg_run.specs.Lines.{AreBehind};
-ghost use Rattle.cg_run.specs.Run.{DidRunWith, Ran, RanWith, IsIdle, IsTextRight, IsFileRight, IsSnapshotRight, IsWriteRight, IsRealFault, TellsOfFile, TellsOfWrite};
-ghost use Rattle.cg_run.specs.Stream.{json_part, shown_part};
+ghost use Rattle.cg_run.specs.Run.{DidRunWith, Ran, RanWith, IsIdle, IsTextRight, IsFileRight, IsShowRight, IsJsonRight, IsCheckedRight, IsWriteRight, IsRealFault, TellsOfFile, TellsOfSnapshot, TellsOfWrite};
 ghost use Rattle.cg_run.specs.Ended.{HasEnded};
 
 use crate::checked::run_check;
 use crate::entries::EntryReader;
 use crate::explain::write_stop;
 use crate::file_reader::FileReader;
+use crate::going_on::GoingOnReader;
+use crate::kept::KeptReader;
 use crate::kinds::told_kinds;
 use crate::lines::Lines;
 use crate::options::Options;
@@ -23,6 +23,7 @@ use crate::shown::ShownReader;
 use crate::source::Source;
 use crate::spot::text_spot;
 use crate::streaming::run_stream;
+use crate::teller::{JsonTeller, KeptTeller, ShownTeller};
 use crate::text_reader::TextReader;
 use crate::told::{told, told_line};
 use crate::words::Command;
@@ -171,17 +172,23 @@ fn run_show<R: Source, W: Sink>(
     reader: &mut R,
     writer: &mut W,
     limits: Limits,
+    keep_going: bool,
     lines: Option<Lines>,
 ) -> Outcome
     ensures ran { R.has_failed reader.old ≡ false → AreBehind lines [] →
-        DidRunWith (IsSnapshotRight shown_part profile limits) (Tells (Snap profile) IsInRecord (is_some lines))
+        DidRunWith (IsShowRight keep_going profile limits) (TellsOfSnapshot keep_going profile (is_some lines))
         (R.coming reader.old) (R.coming reader.new) (R.has_failed reader.new)
         (W.taken writer.old) (W.taken writer.new) (W.has_failed writer.new) result }
     ensures real { IsRealFault result (W.has_failed writer.new) }
     ensures asks { R.asks reader.new ≤ R.asks reader.old + limits.max_stream + 1 }
 {
+    let max = limits.max_stream;
+    if keep_going {
+        let entries = GoingOnReader::new(alloc, profile, limits, ShownTeller);
+        return run_stream(alloc, entries, reader, writer, None, max);
+    }
     let entries = ShownReader::new(alloc, profile, limits);
-    run_stream(alloc, entries, reader, writer, lines, limits.max_stream)
+    run_stream(alloc, entries, reader, writer, lines, max)
 }
 
 /// Reads a snapshot, and tells each entry as a line of JSON.
@@ -192,17 +199,50 @@ fn run_json<R: Source, W: Sink>(
     reader: &mut R,
     writer: &mut W,
     limits: Limits,
+    keep_going: bool,
     lines: Option<Lines>,
 ) -> Outcome
     ensures ran { R.has_failed reader.old ≡ false → AreBehind lines [] →
-        DidRunWith (IsSnapshotRight json_part profile limits) (Tells (Snap profile) IsInRecord (is_some lines))
+        DidRunWith (IsJsonRight keep_going profile limits) (TellsOfSnapshot keep_going profile (is_some lines))
         (R.coming reader.old) (R.coming reader.new) (R.has_failed reader.new)
         (W.taken writer.old) (W.taken writer.new) (W.has_failed writer.new) result }
     ensures real { IsRealFault result (W.has_failed writer.new) }
     ensures asks { R.asks reader.new ≤ R.asks reader.old + limits.max_stream + 1 }
 {
+    let max = limits.max_stream;
+    if keep_going {
+        let entries = GoingOnReader::new(alloc, profile, limits, JsonTeller);
+        return run_stream(alloc, entries, reader, writer, None, max);
+    }
     let entries = EntryReader::new(alloc, profile, limits);
-    run_stream(alloc, entries, reader, writer, lines, limits.max_stream)
+    run_stream(alloc, entries, reader, writer, lines, max)
+}
+
+/// Reads a snapshot, and tells what it breaks.
+#[tactic(auto, using(crate::proofs::RunLemmas::wrote_real))]
+fn run_checked<R: Source, W: Sink>(
+    alloc: Global,
+    profile: Profile,
+    reader: &mut R,
+    writer: &mut W,
+    limits: Limits,
+    keep_going: bool,
+    lines: Option<Lines>,
+) -> Outcome
+    ensures ran { R.has_failed reader.old ≡ false → AreBehind lines [] →
+        DidRunWith (IsCheckedRight keep_going profile limits) (TellsOfSnapshot keep_going profile (is_some lines))
+        (R.coming reader.old) (R.coming reader.new) (R.has_failed reader.new)
+        (W.taken writer.old) (W.taken writer.new) (W.has_failed writer.new) result }
+    ensures real { IsRealFault result (W.has_failed writer.new) }
+    ensures asks { R.asks reader.new ≤ R.asks reader.old + limits.max_stream + 1 }
+{
+    let max = limits.max_stream;
+    if keep_going {
+        let kept = GoingOnReader::new(alloc, profile, limits, KeptTeller::new(alloc));
+        return run_check(alloc, kept, reader, writer, None, max);
+    }
+    let kept = KeptReader::new(alloc, profile, limits);
+    run_check(alloc, kept, reader, writer, lines, max)
 }
 
 /// Lines are counted where a stop is to be explained.
@@ -218,6 +258,8 @@ fn lines_of(options: Options) -> Option<Lines>
 }
 
 /// Runs a command with the options: reads from the source by pieces, and writes to the sink.
+///
+/// Only of a snapshot something is left out, and then no stop is explained.
 #[tactic(auto, using(crate::proofs::RunLemmas::wrote_real))]
 pub fn run_with<R: Source, W: Sink>(
     alloc: Global,
@@ -238,6 +280,7 @@ pub fn run_with<R: Source, W: Sink>(
 {
     let max = limits.max_stream;
     let lines = lines_of(options);
+    let keep_going = options.keep_going;
     match command {
         Command::File { name } => run_file(
             alloc,
@@ -260,9 +303,9 @@ pub fn run_with<R: Source, W: Sink>(
             lines,
             max,
         ),
-        Command::Show => run_show(alloc, profile, reader, writer, limits, lines),
-        Command::Json => run_json(alloc, profile, reader, writer, limits, lines),
-        Command::Check => run_check(alloc, profile, limits, reader, writer, lines),
+        Command::Show => run_show(alloc, profile, reader, writer, limits, keep_going, lines),
+        Command::Json => run_json(alloc, profile, reader, writer, limits, keep_going, lines),
+        Command::Check => run_checked(alloc, profile, reader, writer, limits, keep_going, lines),
     }
 }
 

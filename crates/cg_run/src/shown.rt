@@ -81,14 +81,15 @@ impl ShownReader {
 impl StreamReader for ShownReader {
     type Form = (Profile, Limits);
 
-    ghost use Rattle.cg_run.specs.Stood.{HasSnapStood, parts_spelled, snap_stood, snap_within};
+    ghost use Rattle.std.specs.Prelude.{true};
+    ghost use Rattle.cg_run.specs.Stood.{HasSnapStood, snap_stood, snap_within};
     ghost use Rattle.cg_run.specs.Shown.{HasShown, shown_closed, shown_counted, shown_offset, shown_passed};
-    ghost use Rattle.cg_run.specs.Stream.{PartsOf, shown_part};
+    ghost use Rattle.cg_run.specs.Stream.{DoneOf, PartsOf, shown_part};
     ghost use Rattle.cg_snap.specs.Closed.{Closed};
     ghost use Rattle.cg_snap.specs.Snap.{Snap, SnapText};
     ghost use Rattle.cg_snap.specs.SnapStop.{IsSnapUnstopped, SnapStopOf};
 
-    ghost whole = { λ form. PartsOf shown_part (λ bytes es. SnapText (form.0) es bytes) };
+    ghost whole = { λ form. DoneOf shown_part (λ bytes es. SnapText (form.0) es bytes) };
 
     ghost closes = { λ form. PartsOf shown_part (λ bytes es. Closed (form.0) bytes es) };
 
@@ -100,9 +101,9 @@ impl StreamReader for ShownReader {
 
     ghost language = { λ form. Snap (form.0) };
 
-    ghost stood = { λ s form. HasSnapStood s.decoder (form.0) (form.1) };
+    ghost explains = { λ form. true };
 
-    ghost spelled = { λ form p. parts_spelled shown_part (λ bytes es. SnapText (form.0) es bytes) p };
+    ghost stood = { λ s form. HasSnapStood s.decoder (form.0) (form.1) };
 
     ghost stands = { λ s form p parts h. snap_stood s.decoder (form.0) (form.1) p h.es h.taken };
 
@@ -149,16 +150,16 @@ impl StreamReader for ShownReader {
         }
     }
 
-    fn record_place(&self) -> RecordPlace<'_> {
-        self.decoder.record_place()
+    fn record_place(&self) -> Option<RecordPlace<'_>> {
+        Some(self.decoder.record_place())
     }
 
     fn allowed(&self) -> ByteSet {
         self.decoder.allowed()
     }
 
-    fn can_finish(&self) -> bool {
-        self.decoder.can_finish()
+    fn is_cut(&self) -> bool {
+        !self.decoder.can_finish()
     }
 
     fn consumed(&self) -> u64 {
@@ -167,12 +168,12 @@ impl StreamReader for ShownReader {
 }
 
 impl LastPart for ShownReader {
-    fn finish(self, out: &mut Vec<u8>) -> Result<(), StreamFault> {
+    fn finish(self, out: &mut Vec<u8>) -> Result<u64, StreamFault> {
         let mut present = self.present;
         match self.decoder.finish() {
-            Ok(None) => Ok(()),
+            Ok(None) => Ok(0),
             Ok(Some(_)) => match append_text(out, &mut present) {
-                Ok(()) => Ok(()),
+                Ok(()) => Ok(0),
                 Err(_) => Err(StreamFault::OutOfMemory),
             },
             Err(stop) => Err(StreamFault::Stopped(stop)),

@@ -1,5 +1,5 @@
 //! Where a stop is, what came there, and what may come.
-ghost use Rattle.std.specs.Prelude.{◌≡◌, ◌≤◌, ◌<◌, ℕ, List, Some, is_some, length, slice_index_or};
+ghost use Rattle.std.specs.Prelude.{◌≡◌, ◌≤◌, ◌<◌, ◌&&◌, ℕ, List, Some, is_some, length, slice_index_or};
 ghost use Rattle.cg_text.specs.Texts.{TextOf};
 ghost use Rattle.cg_run.specs.Explain.{IsInRecord, IsInText, TellsSpot};
 ghost use Rattle.cg_run.specs.Lines.{AreBehind};
@@ -60,7 +60,8 @@ pub(crate) fn stream_spot<S: StreamReader>(
     byte: Option<u8>,
 ) -> Option<Spot<'_>>
     ensures { (form : S.Form) (p : List ℕ) → S.stood stream.now form p → length p ≤ 18446744073709551615 →
-        AreBehind lines p → TellsSpot (S.language form) IsInRecord (is_some lines) p byte stop (more_words result) }
+        AreBehind lines p →
+        TellsSpot (S.language form) IsInRecord (S.explains form && is_some lines) p byte stop (more_words result) }
 {
     let Some(counted) = lines else {
         return None;
@@ -68,7 +69,9 @@ pub(crate) fn stream_spot<S: StreamReader>(
     if !is_explained(stop) {
         return None;
     }
-    let place = stream.record_place();
+    let Some(place) = stream.record_place() else {
+        return None;
+    };
     Some(Spot {
         ended: counted.ended,
         path: place.path,

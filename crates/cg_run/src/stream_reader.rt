@@ -1,11 +1,14 @@
 //! What reads a stream, and appends the text of each of its parts.
-ghost use Rattle.std.specs.Prelude.{◌≡◌, ◌≤◌, ◌↔◌, ℕ, List, IsTrue, length};
+ghost use Rattle.std.specs.Prelude.{◌≡◌, ◌≤◌, ◌↔◌, ℕ, Bool, true, false, List, MatchBool, MatchOption, MatchResult, length};
 ghost use Rattle.cg_text.specs.Bytes.{HasByte};
 ghost use Rattle.cg_text.specs.Texts.{Next};
 ghost use Rattle.cg_snap.specs.RecordPlace.{IsRecordPlace};
 ghost use Rattle.cg_snap.specs.declared.stop.Stop.{Stop};
-ghost use Rattle.cg_run.specs.Streaming.{EndIs, FoundIs, IsFoundBy, StandsBehind};
+ghost use Rattle.cg_run.specs.Checked.{IsKept};
+ghost use Rattle.cg_run.specs.Streaming.{EndIs, FoundIs, HasNoWhole, HasWhole, IsEndFault, IsFoundBy, StandsBehind};
+ghost use Rattle.cg_run.specs.declared.outcome.Outcome.{Outcome};
 
+use crate::kept::Kept;
 use cg_snap::{Progress, RecordPlace, StreamFault};
 use cg_text::ByteSet;
 
@@ -14,8 +17,8 @@ pub(crate) trait StreamReader: Drop {
     /// What tells which streams are read.
     type Form;
 
-    // The parts of a whole stream.
-    ghost whole: { Self.Form → List ℕ → List (List ℕ) → Type 0 };
+    // The parts of a whole stream, and how a run over it ends.
+    ghost whole: { Self.Form → List ℕ → List (List ℕ) → Outcome → Type 0 };
 
     // The parts that the first bytes of a stream close.
     ghost closes: { Self.Form → List ℕ → List (List ℕ) → Type 0 };
@@ -31,6 +34,9 @@ pub(crate) trait StreamReader: Drop {
 
     // The texts of whole streams.
     ghost language: { Self.Form → List ℕ → Type 0 };
+
+    // Whether the reader tells where the record stands that comes.
+    ghost explains: { Self.Form → Bool };
 
     // How many bytes were consumed.
     ghost offset: { Self → ℕ };
@@ -53,27 +59,24 @@ pub(crate) trait StreamReader: Drop {
         ensures used { result.used ≤ length piece.now }
         ensures progress { IsFoundBy (length piece.now) result.used result.what };
 
-    /// The path of the record that comes, and whether its NUL came.
-    fn record_place(&self) -> RecordPlace<'_>
-        ensures { (form : Self.Form) (p : List ℕ) → stood self.now form p →
-            IsRecordPlace p result.path.now result.in_line };
+    /// The path of the record that comes, and whether its NUL came; none of a reader that doesn't tell it.
+    fn record_place(&self) -> Option<RecordPlace<'_>>
+        ensures { (form : Self.Form) (p : List ℕ) → stood self.now form p → MatchOption result
+            (explains form ≡ false) (λ place. (explains form ≡ true) × IsRecordPlace p place.path.now place.in_line) };
 
     /// The bytes with which some stream goes on.
     fn allowed(&self) -> ByteSet
         ensures { (form : Self.Form) (p : List ℕ) → stood self.now form p →
             (byte : ℕ) → HasByte result byte ↔ Next (language form) p byte };
 
-    /// Whether what was consumed is a whole stream.
-    fn can_finish(&self) -> bool
-        ensures { (form : Self.Form) (p : List ℕ) → stood self.now form p → (IsTrue result ↔ language form p) };
+    /// Whether what was consumed ends within a record. A reader that doesn't tell where that stands leaves it to the end.
+    fn is_cut(&self) -> bool
+        ensures { (form : Self.Form) (p : List ℕ) → stood self.now form p → MatchBool result (HasNoWhole (whole form) p)
+            (explains form ≡ true → HasWhole (whole form) p) };
 
     /// How many bytes were consumed.
     fn consumed(&self) -> u64
         ensures { (form : Self.Form) (p : List ℕ) → stood self.now form p → result ≡ length p };
-
-    /// A whole stream has parts, and what has parts is one.
-    ghost spelled: { (form : Self.Form) (p : List ℕ) →
-        language form p ↔ ((parts : List (List ℕ)) × whole form p parts) };
 
     /// A reader stands behind what it consumed.
     ghost stands: { (s : Self) (form : Self.Form) (p : List ℕ) (parts : List (List ℕ)) → took s form p parts →
@@ -95,11 +98,19 @@ pub(crate) trait StreamReader: Drop {
         (offset s ≡ length p) × (length p ≤ limit form) };
 }
 
-/// A reader of a stream whose end leaves at most one part.
+/// A reader of a stream whose end leaves parts.
 pub(crate) trait LastPart: StreamReader {
-    /// Appends the text of the part that the end of the stream leaves, if it leaves one. After `Err` nothing was
-    /// appended.
-    fn finish(self, out: &mut Vec<u8>) -> Result<(), StreamFault>
+    /// Appends the texts of the parts that the end of the stream leaves, and answers how many blocks were left out of the
+    /// whole. After `Err` nothing was appended.
+    fn finish(self, out: &mut Vec<u8>) -> Result<u64, StreamFault>
         ensures { (form : Self.Form) (p : List ℕ) (parts : List (List ℕ)) → Self.took self form p parts →
             EndIs (Self.whole form) p parts out.old.items out.new.items result };
+}
+
+/// A reader of a snapshot that keeps the entries that the rules speak of.
+pub(crate) trait KeptEntries: StreamReader {
+    /// The entries that it kept, once the input has ended.
+    fn finish_kept(self) -> Result<Kept, StreamFault>
+        ensures { (form : Self.Form) (p : List ℕ) (parts : List (List ℕ)) → Self.took self form p parts →
+            MatchResult result (IsKept (Self.whole form) p parts) (IsEndFault (Self.whole form) p parts) };
 }

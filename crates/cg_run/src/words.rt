@@ -2,7 +2,7 @@
 ghost use Rattle.std.specs.Prelude.{◌≡◌, ◌<◌, ◌⊎◌, length, IfOk, IfErr, IfSome, Some, codes, false, is_some, string_bytes, true, map, []};
 ghost use Rattle.clap.specs.Words.{one_of, rows_of, found_of, first_of, takes, fault_of, kind_of, matches_of, subcommand_of, subcommand_rows_of};
 ghost use Rattle.cg_run.specs.CommandLine.{cgfile_app};
-ghost use Rattle.cg_run.specs.Words.{Answers, AnswersPlain, IsCommand, IsMade, IsRefusal, IsTold, IsToldOf, is_met, is_plain_word, is_used, is_welcome, is_word, limits_of, name_in, number_or, number_of, options_of, profile_named};
+ghost use Rattle.cg_run.specs.Words.{Answers, AnswersPlain, IsCommand, IsMade, IsRefusal, IsTold, IsToldOf, IsUnchosen, goes_on, is_fit, is_met, is_plain_word, is_used, is_welcome, is_word, limits_of, name_in, number_or, number_of, options_of, profile_named};
 
 use crate::command_line::command_line;
 use crate::help;
@@ -94,8 +94,7 @@ fn welcome_name(
 ) -> Result<Vec<u8>, UsageFault>
     ensures name { IfOk result (λ v. (v.items ≡ name_in (rows_of (found_of matches.now)))
         × (is_welcome profile (rows_of (found_of matches.now)) ≡ true)) }
-    ensures fault { IfErr result (λ e. (e ≡ UsageFault.OutOfMemory)
-        ⊎ ((e ≡ UsageFault.Bad) × (is_welcome profile (rows_of (found_of matches.now)) ≡ false))) }
+    ensures fault { IfErr result (IsUnchosen profile (rows_of (found_of matches.now))) }
 {
     let name = name_given(matches);
     if is_used(matches, "known") && !has_row(profile, name) {
@@ -112,8 +111,7 @@ fn chosen(
     inner: &ArgMatches,
 ) -> Result<Command, UsageFault>
     ensures made { IfOk result (IsCommand profile name.now (rows_of (found_of inner.now))) }
-    ensures known { is_word name.now ≡ true → IfErr result (λ e. (e ≡ UsageFault.OutOfMemory)
-        ⊎ ((e ≡ UsageFault.Bad) × (is_welcome profile (rows_of (found_of inner.now)) ≡ false))) }
+    ensures known { is_word name.now ≡ true → IfErr result (IsUnchosen profile (rows_of (found_of inner.now))) }
 {
     if name == "file" {
         return Ok(Command::File {
@@ -202,7 +200,22 @@ fn options_among(before: &ArgMatches, after: &ArgMatches) -> Options
 {
     Options {
         explain: is_used(before, "explain") || is_used(after, "explain"),
+        keep_going: is_used(before, "keep-going") || is_used(after, "keep-going"),
     }
+}
+
+/// Whether what is at fault may be left out of what the command of this word reads: of a snapshot.
+fn goes_on(name: &str) -> bool
+    ensures { result ≡ goes_on name.now }
+{
+    name == "show" || name == "json" || name == "check"
+}
+
+/// Whether the options go with the command of this word, and with one another.
+fn is_fit(name: &str, options: Options) -> bool
+    ensures { result ≡ is_fit name.now options }
+{
+    !options.keep_going || (goes_on(name) && !options.explain)
 }
 
 /// The text that `clap` has for the user. `clap` doesn't promise that it isn't empty: where it is, what the program is
@@ -242,12 +255,16 @@ fn made(alloc: Global, matches: &ArgMatches) -> Result<Request, UsageFault>
     let Some((name, inner)) = matches.subcommand() else {
         return Err(UsageFault::Bad);
     };
+    let options = options_among(matches, inner);
+    if !is_fit(name, options) {
+        return Err(UsageFault::Bad);
+    }
     let profile = profile_at(inner, profile_at(matches, Profile::One));
     Ok(Request {
         profile,
         command: chosen(alloc, profile, name, inner)?,
         limits: limits_among(matches, inner),
-        options: options_among(matches, inner),
+        options,
     })
 }
 
@@ -282,7 +299,7 @@ fn parse_named<'a>(
 ///
 /// `Help` has the text that is to be printed, where they ask for help or for the version; `Bad` is
 /// answered where they are no command line of this program, or `--known` goes with a name that the
-/// profile's file table doesn't have.
+/// profile's file table doesn't have, or `--keep-going` with `--explain` or with a command that reads no snapshot.
 pub fn parse_request(alloc: Global, words: &[String]) -> Result<Request, UsageFault>
     ensures { Answers (map (λ w. string_bytes w) words.now) result }
 {
@@ -299,7 +316,7 @@ pub fn parse_words(
     ensures { AnswersPlain (map (λ w. string_bytes w) words.now) result }
 {
     let request = parse_request(alloc, words)?;
-    if request.options.explain {
+    if request.options.uses_any() {
         return Err(UsageFault::Bad);
     }
     Ok((request.profile, request.command, request.limits))

@@ -1,29 +1,26 @@
-use Rattle.std.proofs.Common.{refl}
-use Rattle.cg_snap.specs.Snap.{SnapText}
-use Rattle.cg_snap.specs.SnapStop.{IsSnapUnstopped, SnapStopOf}
-use Rattle.cg_run.specs.Check.{HasNoParts, PartsOfAll, finding_lines}
-use Rattle.cg_run.proofs.Checking.{early_checked}
+use Rattle.cg_run.proofs.Checking.{stream_checked}
+use Rattle.cg_run.proofs.Streams.{early_right}
 use Rattle.cg_run.proofs.checked.run_check.Goals as goal
 
 pub returns-in-Err-clause-ran : goal.returns-in-Err-clause-ran
-returns-in-Err-clause-ran g c fresh lines =
-    let h = c.in-Err.ensures.read (c.args.profile, c.args.limits) refl c.new-kept.ensures fresh lines in
+returns-in-Err-clause-ran g c form limit fresh works lines =
+    let h = c.in-Err.ensures.read form limit fresh works lines in
     record {
       read = h.read;
       consumed = h.consumed;
       wanted = h.wanted;
       parts = h.parts;
-      right = early_checked (PartsOfAll finding_lines (λ bytes es. SnapText c.args.profile es bytes)) HasNoParts (IsSnapUnstopped c.args.profile c.args.limits)
-          (SnapStopOf c.args.profile c.args.limits) _ h.wanted h.parts h.right;
+      right = stream_checked (g.K.StreamReader.whole form) (g.K.StreamReader.closes form) (g.K.StreamReader.unstopped form) (g.K.StreamReader.stops form) _ h.wanted h.parts
+          (early_right (g.K.StreamReader.took c.read_stream.new.stream form) (g.K.StreamReader.whole form) (g.K.StreamReader.closes form) (g.K.StreamReader.unstopped form) (g.K.StreamReader.stops form) _ h.wanted h.parts h.right);
       more = h.more;
       tells = h.tells;
       wrote = h.wrote;
     }
 
 pub returns-in-Ok-clause-ran : goal.returns-in-Ok-clause-ran
-returns-in-Ok-clause-ran g c fresh lines =
-    let h = c.in-Ok.ensures.read (c.args.profile, c.args.limits) refl c.new-kept.ensures fresh lines in
-    let e = c.write_findings.ensures.ended (c.args.profile, c.args.limits) (g.W.Sink.taken c.args.writer.now) h.0.read c.in-Ok.field-0.written refl h.0.behind h.0.before
+returns-in-Ok-clause-ran g c form limit fresh works lines =
+    let h = c.in-Ok.ensures.read form limit fresh works lines in
+    let e = c.write_findings.ensures.ended form (g.W.Sink.taken c.args.writer.now) h.0.read limit h.0.behind h.0.before
     (g.R.Source.coming c.read_stream.new.reader) (g.R.Source.has_failed c.read_stream.new.reader) h.1 h.0.works in
     record {
       read = h.0.read;

@@ -1,47 +1,74 @@
-use Rattle.std.specs.Prelude.{is_some}
-use Rattle.std.proofs.Common.{[], ◌≤◌, ◌∙◌, length, subst, sym, true≢false, arith}
-use Rattle.cg_run.specs.Checked.{IsKeptFault}
-use Rattle.cg_run.specs.Kept.{kept_passed}
+use Rattle.std.specs.Prelude.{◌&&◌, is_some}
+use Rattle.std.proofs.Common.{◌≤◌, ◌++◌, ℕ, length, refl, subst, arith}
+use Rattle.cg_run.specs.Check.{finding_lines}
+use Rattle.cg_snap.specs.declared.stop.Stop.{Stop}
+use Rattle.cg_run.specs.Outcome.{checked, last_line}
+use Rattle.cg_run.specs.Run.{Wrote, joined}
 use Rattle.cg_run.specs.Spot.{more_words}
-use Rattle.cg_run.specs.Stood.{snap_stood, snap_within}
-use Rattle.cg_run.proofs.Checking.{cut_end, lines_end, memory_end, never_kept, nothing_written}
+use Rattle.cg_run.specs.Streaming.{IsEndFault}
+use Rattle.cg_run.specs.declared.outcome.Outcome.TheVariants as out
+use Rattle.cg_run.proofs.Checking.{ends_checked, lines_end, memory_end}
+use Rattle.cg_run.proofs.Streams.{cut_ends, never_cut, not_explained, stopped_ends}
 use Rattle.cg_run.proofs.checked.write_findings.Goals as goal
 
 pub returns-in-Err-Stopped-clause-ended : goal.returns-in-Err-Stopped-clause-ended
-returns-in-Err-Stopped-clause-ended g c form first read written limit lines b left failed ended works =
-    let fault = subst (IsKeptFault (form.0) read) c.in-Err-Stopped.field-0-is (c.in-Err-Stopped.ensures form read b.parts b.took) in
-    let stands = snap_stood c.args.kept.decoder (form.0) (form.1) read b.took.given b.took.taken in
-    absurd (never_kept (form.0) read c.in-Err-Stopped.stop ((c.can_finish.ensures form read stands).0 c.if-not-can_finish.false) fault)
+returns-in-Err-Stopped-clause-ended g c form first read limit lines b left failed ended works =
+    let whole = g.K.StreamReader.whole form in
+    let fault = subst (IsEndFault whole read b.parts) c.in-Err-Stopped.field-0-is (c.in-Err-Stopped.ensures form read b.parts b.took) in
+    let stands = g.met.K.StreamReader.stands c.args.kept form read b.parts b.took in
+    let all = rw c.if-is_cut.false at (c.is_cut.ensures form read stands) in
+    let after = c.write_after in
+    ends_checked (g.K.StreamReader.whole form) (g.K.StreamReader.closes form) (g.K.StreamReader.unstopped form) (g.K.StreamReader.stops form)
+    (g.K.StreamReader.explains form && is_some c.args.lines) (g.K.StreamReader.language form) read left failed first (g.W.Sink.taken after.new.writer) (g.W.Sink.has_failed after.new.writer) b.parts
+    (g.met.K.StreamReader.passed c.args.kept form read b.parts b.took) (g.met.K.StreamReader.closed c.args.kept form read b.parts b.took) ended works
+    after.result (stopped_ends (g.K.StreamReader.took c.args.kept form) (g.K.StreamReader.whole form) (g.K.StreamReader.closes form) (g.K.StreamReader.unstopped form) (g.K.StreamReader.stops form)
+    (g.K.StreamReader.explains form && is_some c.args.lines) (g.K.StreamReader.language form) read left failed first (g.W.Sink.taken after.new.writer) (g.W.Sink.has_failed after.new.writer) b.parts
+    (g.met.K.StreamReader.passed c.args.kept form read b.parts b.took) (g.met.K.StreamReader.closed c.args.kept form read b.parts b.took) ended works
+    c.in-Err-Stopped.stop after.result
+    (not_explained (g.K.StreamReader.explains form) (is_some c.args.lines) (λ t. never_cut whole read c.in-Err-Stopped.stop (all t) fault))
+    fault (subst (λ (s : Stop). Wrote first (g.W.Sink.taken after.new.writer) (g.W.Sink.has_failed after.new.writer) (joined b.parts ++ last_line (out.Stopped s)) (out.Stopped s) after.result)
+    c.in-Err-Stopped.stop-is (after.ensures.wrote first b.parts b.wrote)))
 
-pub returns-then-not-can_finish-clause-ended : goal.returns-then-not-can_finish-clause-ended
-returns-then-not-can_finish-clause-ended g c form first read written limit lines b left failed ended works =
-    let stands = snap_stood c.args.kept.decoder (form.0) (form.1) read b.took.given b.took.taken in
-    let few : length read ≤ 18446744073709551615 = omega (arith, snap_within c.args.kept.decoder (form.0) (form.1) read stands, limit, c.ranges.max.fits) in
-    cut_end (is_some c.args.lines) (form.0) (form.1) read left failed first (g.W.Sink.taken c.write_stop.new.writer) (g.W.Sink.has_failed c.write_stop.new.writer) ended works
-    (kept_passed c.args.kept form read b.parts b.took) c.consumed.result c.write_stop.result (more_words c.stream_spot-spot.result) (c.consumed.ensures form read stands)
-    (λ t. true≢false (sym ((c.can_finish.ensures form read stands).1 t) ∙ c.if-not-can_finish.true)) (c.stream_spot-spot.ensures form read stands few lines)
-    (c.write_stop.ensures.wrote first [] (nothing_written first (g.W.Sink.taken c.args.writer.now) b.parts written b.took.none b.wrote))
+pub returns-then-is_cut-clause-ended : goal.returns-then-is_cut-clause-ended
+returns-then-is_cut-clause-ended g c form first read limit lines b left failed ended works =
+    let stands = g.met.K.StreamReader.stands c.args.kept form read b.parts b.took in
+    let few : length read ≤ 18446744073709551615 = omega (arith, g.met.K.StreamReader.within c.args.kept form read stands, limit, c.ranges.max.fits) in
+    let none = rw c.if-is_cut.true at (c.is_cut.ensures form read stands) in
+    ends_checked (g.K.StreamReader.whole form) (g.K.StreamReader.closes form) (g.K.StreamReader.unstopped form) (g.K.StreamReader.stops form)
+    (g.K.StreamReader.explains form && is_some c.args.lines) (g.K.StreamReader.language form) read left failed first (g.W.Sink.taken c.write_stop.new.writer) (g.W.Sink.has_failed c.write_stop.new.writer) b.parts
+    (g.met.K.StreamReader.passed c.args.kept form read b.parts b.took) (g.met.K.StreamReader.closed c.args.kept form read b.parts b.took) ended works
+    c.write_stop.result (cut_ends (g.K.StreamReader.took c.args.kept form) (g.K.StreamReader.whole form) (g.K.StreamReader.closes form) (g.K.StreamReader.unstopped form) (g.K.StreamReader.stops form)
+    (g.K.StreamReader.explains form && is_some c.args.lines) (g.K.StreamReader.language form) read left failed first (g.W.Sink.taken c.write_stop.new.writer) (g.W.Sink.has_failed c.write_stop.new.writer) b.parts
+    (g.met.K.StreamReader.passed c.args.kept form read b.parts b.took) (g.met.K.StreamReader.closed c.args.kept form read b.parts b.took) ended works
+    c.consumed.result c.write_stop.result (more_words c.stream_spot-spot.result) (c.consumed.ensures form read stands, none)
+    (c.stream_spot-spot.ensures form read stands few lines)
+    (c.write_stop.ensures.wrote first b.parts b.wrote))
 
 pub returns-in-Err-OutOfMemory-clause-ended : goal.returns-in-Err-OutOfMemory-clause-ended
-returns-in-Err-OutOfMemory-clause-ended g c form first read written limit lines b left failed ended works =
+returns-in-Err-OutOfMemory-clause-ended g c form first read limit lines b left failed ended works =
     let after = c.write_after-in-Err-OutOfMemory in
-    let fault = subst (IsKeptFault (form.0) read) c.in-Err-OutOfMemory.field-0-is (c.in-Err-OutOfMemory.ensures form read b.parts b.took) in
-    memory_end (is_some c.args.lines) (form.0) (form.1) read left failed first (g.W.Sink.taken after.new.writer) (g.W.Sink.has_failed after.new.writer) ended works
-    (kept_passed c.args.kept form read b.parts b.took) after.result fault
-    (after.ensures.wrote first [] (nothing_written first (g.W.Sink.taken c.args.writer.now) b.parts written b.took.none b.wrote))
+    let fault = subst (IsEndFault (g.K.StreamReader.whole form) read b.parts) c.in-Err-OutOfMemory.field-0-is (c.in-Err-OutOfMemory.ensures form read b.parts b.took) in
+    memory_end (g.K.StreamReader.whole form) (g.K.StreamReader.closes form) (g.K.StreamReader.unstopped form) (g.K.StreamReader.stops form)
+    (g.K.StreamReader.explains form && is_some c.args.lines) (g.K.StreamReader.language form) read left failed first (g.W.Sink.taken after.new.writer) (g.W.Sink.has_failed after.new.writer) b.parts
+    (g.met.K.StreamReader.passed c.args.kept form read b.parts b.took) (g.met.K.StreamReader.closed c.args.kept form read b.parts b.took) ended works
+    (fault.0) (fault.1) after.result fault.2 (after.ensures.wrote first b.parts b.wrote)
 
 pub returns-in-Ok-findings-clause-ended : goal.returns-in-Ok-findings-clause-ended
-returns-in-Ok-findings-clause-ended g c form first read written limit lines b left failed ended works =
-    lines_end (is_some c.args.lines) (form.0) (form.1) read left failed first (g.W.Sink.taken c.write_lines.new.writer) (g.W.Sink.has_failed c.write_lines.new.writer) ended works
-    (kept_passed c.args.kept form read b.parts b.took) c.in-Ok.entries.items c.as_slice.result.now c.as_slice-in-Ok-findings.result.now
-    c.in-Ok-findings.found.items c.as_slice-in-Ok-findings-2.result.now c.write_lines.result
-    (c.in-Ok.ensures form read b.parts b.took) c.as_slice.ensures.value c.as_slice-in-Ok-findings.ensures.value c.in-Ok-findings.ensures
-    c.as_slice-in-Ok-findings-2.ensures.value
-    (c.write_lines.ensures.told first (nothing_written first (g.W.Sink.taken c.args.writer.now) b.parts written b.took.none b.wrote))
+returns-in-Ok-findings-clause-ended g c form first read limit lines b left failed ended works =
+    lines_end (g.K.StreamReader.whole form) (g.K.StreamReader.closes form) (g.K.StreamReader.unstopped form) (g.K.StreamReader.stops form)
+    (g.K.StreamReader.explains form && is_some c.args.lines) (g.K.StreamReader.language form) read left failed first (g.W.Sink.taken c.write_lines.new.writer) (g.W.Sink.has_failed c.write_lines.new.writer) b.parts
+    (g.met.K.StreamReader.passed c.args.kept form read b.parts b.took) (g.met.K.StreamReader.closed c.args.kept form read b.parts b.took) ended works
+    c.in-Ok.kept c.as_slice-entries.result.now c.as_slice-entries.result.now c.in-Ok-findings.found.items c.as_slice.result.now c.in-Ok.kept.left_out c.write_lines.result
+    (c.in-Ok.ensures form read b.parts b.took) c.as_slice-entries.ensures.value c.as_slice-entries.ensures.value c.in-Ok-findings.ensures c.as_slice.ensures.value refl
+    (c.write_lines.ensures.told first b.parts b.wrote)
 
 pub returns-clause-ended : goal.returns-clause-ended
-returns-clause-ended g c form first read written limit lines b left failed ended works =
+returns-clause-ended g c form first read limit lines b left failed ended works =
     let after = c.write_after-in-Err in
-    memory_end (is_some c.args.lines) (form.0) (form.1) read left failed first (g.W.Sink.taken after.new.writer) (g.W.Sink.has_failed after.new.writer) ended works
-    (kept_passed c.args.kept form read b.parts b.took) after.result ((c.in-Ok.ensures form read b.parts b.took).given, (c.in-Ok.ensures form read b.parts b.took).whole)
-    (after.ensures.wrote first [] (nothing_written first (g.W.Sink.taken c.args.writer.now) b.parts written b.took.none b.wrote))
+    let kept = c.in-Ok.kept in
+    let found = finding_lines kept.entries.items in
+    memory_end (g.K.StreamReader.whole form) (g.K.StreamReader.closes form) (g.K.StreamReader.unstopped form) (g.K.StreamReader.stops form)
+    (g.K.StreamReader.explains form && is_some c.args.lines) (g.K.StreamReader.language form) read left failed first (g.W.Sink.taken after.new.writer) (g.W.Sink.has_failed after.new.writer) b.parts
+    (g.met.K.StreamReader.passed c.args.kept form read b.parts b.took) (g.met.K.StreamReader.closed c.args.kept form read b.parts b.took) ended works
+    found (checked (length found) kept.left_out) after.result (c.in-Ok.ensures form read b.parts b.took)
+    (after.ensures.wrote first b.parts b.wrote)

@@ -9,7 +9,8 @@ returns-clause-app c =
     let two = arg_app _ _ _ _ _ c.in_ok-arg-2.ensures one c.count_option.ensures.rule c.count_option.ensures.local in
     let three = arg_app _ _ _ _ _ c.in_ok-arg-3.ensures two c.count_option-2.ensures.rule c.count_option-2.ensures.local in
     let four = arg_app _ _ _ _ _ c.in_ok-arg-4.ensures three c.count_option-3.ensures.rule c.count_option-3.ensures.local in
-    IfOk-weaker c.arg-5.result _ _ (λ r h. arg_app _ _ _ _ _ h four c.flag_option.ensures.rule c.flag_option.ensures.local) c.arg-5.ensures
+    let five = arg_app _ _ _ _ _ c.in_ok-arg-5.ensures four c.flag_option.ensures.rule c.flag_option.ensures.local in
+    IfOk-weaker c.arg-6.result _ _ (λ r h. arg_app _ _ _ _ _ h five c.flag_option-2.ensures.rule c.flag_option-2.ensures.local) c.arg-6.ensures
 
 pub returns-clause-local : goal.returns-clause-local
 returns-clause-local c none =
@@ -17,4 +18,5 @@ returns-clause-local c none =
     let two = arg_local _ _ _ c.in_ok-arg-2.ensures one c.count_option.ensures.local in
     let three = arg_local _ _ _ c.in_ok-arg-3.ensures two c.count_option-2.ensures.local in
     let four = arg_local _ _ _ c.in_ok-arg-4.ensures three c.count_option-3.ensures.local in
-    IfOk-weaker c.arg-5.result _ _ (λ r h. arg_local _ _ _ h four c.flag_option.ensures.local) c.arg-5.ensures
+    let five = arg_local _ _ _ c.in_ok-arg-5.ensures four c.flag_option.ensures.local in
+    IfOk-weaker c.arg-6.result _ _ (λ r h. arg_local _ _ _ h five c.flag_option-2.ensures.local) c.arg-6.ensures

@@ -77,7 +77,7 @@ returns-in-Json-clause-ran g c fresh =
 
 pub returns-in-Check-clause-ran : goal.returns-in-Check-clause-ran
 returns-in-Check-clause-ran g c fresh =
-    let h = c.run_check.ensures.ran fresh c.lines_of-lines.ensures.behind in
+    let h = c.run_checked.ensures.ran fresh c.lines_of-lines.ensures.behind in
     record {
       read = h.read;
       consumed = h.consumed;

@@ -90,7 +90,7 @@ returns-in-entries-clause-stood c profile limits p es h =
             record {
               parts = es ++ b.more;
               stands = subst (λ (t : List ℕ). Stands c.next-pulled.new.self t (es ++ b.more)) (text_on p piece rest at n back) what.3;
-              profile_is = c.next-pulled.ensures.form ∙ b.taken.form_is;
+              form_is = c.next-pulled.ensures.form ∙ b.taken.form_is;
               limits_is = c.next-pulled.ensures.limits ∙ b.taken.limits_is;
             },
           )

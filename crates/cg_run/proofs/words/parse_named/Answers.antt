@@ -45,7 +45,7 @@ pub returns-in-Ok-clause-right : goal.returns-in-Ok-clause-right
 returns-in-Ok-clause-right c = ok_always c.made.result _ (right c)
 
 pub returns-in-Ok-clause-told : goal.returns-in-Ok-clause-told
-returns-in-Ok-clause-told c = IfErr-weaker c.made.result _ _ (λ e h. refusal_told _ _ _ e (right c) h) (refusal c)
+returns-in-Ok-clause-told c = IfErr-weaker c.made.result _ _ (λ e h. refusal_told _ (matches_of (app c) (words c)) _ e (right c) h) (refusal c)
 
 pub returns-in-Ok-clause-taken : goal.returns-in-Ok-clause-taken
 returns-in-Ok-clause-taken c t = refusal c

@@ -1,13 +1,13 @@
 use Rattle.std.specs.Prelude.{Ok, Err}
-use Rattle.std.proofs.Common.{refl}
+use Rattle.std.proofs.Common.{refl, sym, ◌∙◌}
 use Rattle.std.proofs.lemmas.Result.{err_from_is_err_and}
 use Rattle.cg_run.proofs.words.parse_words.Goals as goal
 
 pub returns : goal.returns
-returns c = (Ok c.in_ok-request.request, c.in_ok-request.ensures, (c.if-request.false, refl))
+returns c = (Ok c.in_ok-request.request, c.in_ok-request.ensures, (sym c.uses_any.ensures ∙ c.if-uses_any.false, refl))
 
-pub returns-then-request : goal.returns-then-request
-returns-then-request c = (Ok c.in_ok-request.request, c.in_ok-request.ensures, (c.if-request.true, refl))
+pub returns-then-uses_any : goal.returns-then-uses_any
+returns-then-uses_any c = (Ok c.in_ok-request.request, c.in_ok-request.ensures, (sym c.uses_any.ensures ∙ c.if-uses_any.true, refl))
 
 pub returns-in_err-request : goal.returns-in_err-request
 returns-in_err-request c =

@@ -1,4 +1,6 @@
+use Rattle.std.proofs.Common.{◌∷◌, []}
 use Rattle.cg_run.specs.Stream.{json_part}
+use Rattle.cg_run.specs.declared.outcome.Outcome.TheVariants as out
 use Rattle.cg_run.proofs.Parts.{ended_cut, ended_none, ended_some, whole_some}
 use Rattle.cg_run.proofs.entries.EntryReaderLastPart.finish.Goals as goal
 
@@ -15,7 +17,9 @@ returns-in-Ok c form p parts h =
 pub returns-in-Ok-Some : goal.returns-in-Ok-Some
 returns-in-Ok-Some c form p parts h = (
   (
-    json_part c.in-Ok-Some.entry,
+    json_part c.in-Ok-Some.entry ∷ [],
+    out.Done,
+    (λ e. cc),
     whole_some json_part c.args.self.decoder (form.0) (form.1) p (h.0) parts h.2 h.1 c.in-Ok-Some.field-0 c.in-Ok-Some.entry c.in-Ok-Some.field-0-is
         (c.in-Ok-Some.ensures.finished p (h.0) h.1.stop h.1.stands),
   ),

@@ -6,4 +6,4 @@ use Rattle.cg_snap.specs.Snap.{Snap}
 use Rattle.cg_run.proofs.entries.EntryReaderStreamReader.allowed.Goals as goal
 
 pub returns : goal.returns
-returns c form p h byte = subst (λ (q : Profile). HasByte c.allowed.result byte ↔ Next (Snap q) p byte) h.profile_is (c.allowed.ensures p h.parts h.stands byte)
+returns c form p h byte = subst (λ (q : Profile). HasByte c.allowed.result byte ↔ Next (Snap q) p byte) h.form_is (c.allowed.ensures p h.parts h.stands byte)

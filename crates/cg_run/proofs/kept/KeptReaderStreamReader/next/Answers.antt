@@ -60,4 +60,4 @@ returns-in-Stopped-clause-found c form p parts h =
 pub returns-in-Stopped-clause-stood : goal.returns-in-Stopped-clause-stood
 returns-in-Stopped-clause-stood c form p parts h =
     let what = rw c.in-Stopped.is at (c.next-pulled.ensures.pulled p h.given h.taken.stop h.taken.stands) in
-    (what.1, record { parts = h.given; stands = what.3; profile_is = c.next-pulled.ensures.form ∙ h.taken.form_is; limits_is = c.next-pulled.ensures.limits ∙ h.taken.limits_is })
+    (what.1, record { parts = h.given; stands = what.3; form_is = c.next-pulled.ensures.form ∙ h.taken.form_is; limits_is = c.next-pulled.ensures.limits ∙ h.taken.limits_is })

@@ -1,6 +1,7 @@
 use Rattle.std.proofs.Common.{[], ◌∷◌, ◌++◌, ap, ◌∙◌}
 use Rattle.std.specs.Prelude.{option_to_list}
 use Rattle.cg_run.specs.Stream.{shown_part}
+use Rattle.cg_run.specs.declared.outcome.Outcome.TheVariants as out
 use Rattle.cg_run.proofs.Parts.{ended_cut, ended_none, ended_some, snap_text, whole_some}
 use Rattle.cg_run.proofs.Showing.{last_shown}
 use Rattle.cg_run.proofs.shown.ShownReaderLastPart.finish.Goals as goal
@@ -26,7 +27,9 @@ pub returns-in-Ok-Some : goal.returns-in-Ok-Some
 returns-in-Ok-Some c form p parts h =
     let entry = c.in-Ok-Some.field-0-0 in (
       (
-        shown_part entry,
+        shown_part entry ∷ [],
+        out.Done,
+        (λ e. cc),
         whole_some shown_part c.args.self.decoder (form.0) (form.1) p h.es parts h.parts_are h.taken c.in-Ok-Some.field-0 entry c.in-Ok-Some.field-0-is
             (c.in-Ok-Some.ensures.finished p h.es h.taken.stop h.taken.stands),
       ),
