@@ -30,3 +30,4 @@ pub mod SpotTold
 pub mod Spots
 pub mod WithoutOptions
 pub mod Standing
+pub mod Explaining

@@ -6,6 +6,7 @@ pub mod Decoded
 pub mod Ended
 pub mod Entries
 pub mod Explain
+pub mod Explained
 pub mod FileReader
 pub mod GoneOn
 pub mod GoneOnReader

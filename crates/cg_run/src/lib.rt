@@ -9,6 +9,7 @@ mod command_line;
 pub mod cut;
 mod entries;
 mod explain;
+pub mod explained;
 mod file_reader;
 mod going_on;
 mod help;
@@ -39,6 +40,7 @@ mod version;
 mod words;
 
 pub use cut::CutSource;
+pub use explained::{Explained, explain_file, explain_setting};
 pub use options::Options;
 pub use outcome::{Outcome, status};
 pub use plain::PlainReader;
