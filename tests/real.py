@@ -7,7 +7,7 @@ import sys
 
 library = ctypes.CDLL(os.path.abspath(sys.argv[1]))
 program, folder = sys.argv[2], sys.argv[3]
-DONE, REFUSED, CUT, NO_FORM, NO_ROOM, MORE, END = 0, 1, 2, 3, 4, 11, 12
+DONE, REFUSED, CUT, NO_FORM, NO_ROOM, MORE, END, WHOLE = 0, 1, 2, 3, 4, 11, 12, 16
 
 u32, u64, size = ctypes.c_uint32, ctypes.c_uint64, ctypes.c_size_t
 
@@ -24,6 +24,18 @@ def text_of(call, profile, name, text):
         room = used.value
     told = {REFUSED: b"cgfile: refused at %d: line\n" % at.value, CUT: b"cgfile: cut at %d\n" % at.value, NO_FORM: b"cgfile: not readable\n"}
     return out.raw[: used.value] if status == DONE else told[status]
+
+
+def explained(profile, name, text):
+    """The line of why the text is no file of the name, nothing where there is none."""
+    used, room = size(), 0
+    while True:
+        out = ctypes.create_string_buffer(room + 1)
+        status = library.cgfile_explain(u32(profile), name, size(len(name)), ctypes.c_bool(False), text, size(len(text)), out, size(room), ctypes.byref(used))
+        if status != NO_ROOM:
+            break
+        room = used.value
+    return {DONE: out.raw[: used.value], NO_FORM: b"", WHOLE: b""}[status]
 
 
 def run(profile, words, text):
@@ -46,7 +58,8 @@ for file in sorted(os.listdir(folder)):
     for profile in (1, 2, 3):
         for given in (text, text[:-1], text + b"x"):
             runs += 1
-            wrong += differ(f"{file}, profile {profile}", text_of(library.cgfile_file, profile, name.encode(), given), run(profile, ["file", name], given))
+            told = text_of(library.cgfile_file, profile, name.encode(), given) + explained(profile, name.encode(), given)
+            wrong += differ(f"{file}, profile {profile}", told, run(profile, ["file", "--explain", name], given))
         record = b"".join(b"a/%s\0%s\n" % (name.encode(), line) for line in text.split(b"\n")[:-1])
         if record:
             runs += 1

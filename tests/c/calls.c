@@ -68,6 +68,11 @@ static uint32_t kind(uint32_t profile, const char *name, bool is_written, size_t
     return cgfile_kind(profile, (const uint8_t *)name, strlen(name), is_written, out, room, &used);
 }
 
+static uint32_t explain(uint32_t profile, const char *name, bool is_written, const uint8_t *text, size_t text_len,
+                        size_t room) {
+    return cgfile_explain(profile, (const uint8_t *)name, strlen(name), is_written, text, text_len, out, room, &used);
+}
+
 static void settings(void) {
     GIVES(setting(1, "memory.max", BYTES("15E\n"), 21), "17293822569102704640\n");
     GIVES(setting(1, "io.max", BYTES("8:16 wiops=7 rbps=max\n"), sizeof out), "8:16 rbps=max wiops=7\n");
@@ -150,6 +155,43 @@ static void lines(void) {
     TELLS(json(0, "a/cpu.max", BYTES("max 100000\n"), sizeof out), CGFILE_NO_PROFILE, UNSET);
 }
 
+static void explained(void) {
+    GIVES(explain(1, "cpu.weight", false, BYTES("10001\n"), 70),
+          "cgfile: line 1, cpu.weight, byte 5: '1' where newline or '0' may come\n");
+    GIVES(explain(1, "cpu.weight", false, BYTES("100"), sizeof out),
+          "cgfile: line 1, cpu.weight, byte 4: the end where newline or '0' to '9' may come\n");
+    GIVES(explain(1, "cpu.weight", false, BYTES("1\n1\n"), sizeof out),
+          "cgfile: line 2, cpu.weight, byte 1: '1' where nothing may come\n");
+    GIVES(explain(1, "cpuset.cpus", false, BYTES("0-3,4\n"), sizeof out),
+          "cgfile: line 1, cpuset.cpus, byte 6: newline where '0' to '9' may come\n");
+    GIVES(explain(1, "memory.max", false, BYTES("x"), sizeof out),
+          "cgfile: line 1, memory.max, byte 1: 'x' where '0' to '9' or 'm' may come\n");
+    GIVES(explain(1, "cgroup.type", false, BYTES("domain x\n"), sizeof out),
+          "cgfile: line 1, cgroup.type, byte 8: 'x' where 'i' or 't' may come\n");
+    GIVES(explain(1, "memory.stat", false, BYTES("anon 1\nanon 2\n"), sizeof out),
+          "cgfile: line 2, memory.stat, byte 5: space where '!' to '<' or '>' to '~' may come\n");
+    GIVES(explain(1, "x", false, BYTES("a\0"), sizeof out),
+          "cgfile: line 1, x, byte 2: NUL where any byte but NUL may come\n");
+    GIVES(explain(1, "", true, BYTES("a\0"), sizeof out),
+          "cgfile: line 1, , byte 2: NUL where any byte but NUL may come\n");
+    GIVES(explain(1, "cpu.max", true, BYTES("500\n"), sizeof out),
+          "cgfile: line 1, cpu.max, byte 4: newline where '0' to '9' may come\n");
+    GIVES(explain(1, "cpu.pressure", true, BYTES("some 9999999 2"), sizeof out),
+          "cgfile: line 1, cpu.pressure, byte 14: '2' where '1' or '9' may come\n");
+    GIVES(explain(1, "cpuset.cpus", true, BYTES("65536\n"), sizeof out),
+          "cgfile: line 1, cpuset.cpus, byte 5: '6' where newline, ',', '-' or '0' to '5' may come\n");
+    LACKS(explain(1, "cpu.weight", false, BYTES("10001\n"), 69), 70);
+    LACKS(explain(1, "cpu.weight", false, BYTES("10001\n"), 0), 70);
+    TELLS(explain(1, "cpu.weight", false, BYTES("100\n"), sizeof out), CGFILE_WHOLE, UNSET);
+    TELLS(explain(2, "cpuset.cpus", true, BYTES("65536\n"), sizeof out), CGFILE_WHOLE, UNSET);
+    TELLS(explain(1, "cgroup.procs", false, BYTES(""), 0), CGFILE_WHOLE, UNSET);
+    TELLS(explain(1, "", false, BYTES("\n"), sizeof out), CGFILE_WHOLE, UNSET);
+    TELLS(explain(1, "cgroup.kill", false, BYTES("x"), sizeof out), CGFILE_NO_FORM, UNSET);
+    TELLS(explain(1, "cpu.stat", true, BYTES("x"), sizeof out), CGFILE_NO_FORM, UNSET);
+    TELLS(explain(0, "cpu.weight", false, BYTES("x"), sizeof out), CGFILE_NO_PROFILE, UNSET);
+    TELLS(explain(4294967295u, "cpu.weight", true, BYTES("x"), sizeof out), CGFILE_NO_PROFILE, UNSET);
+}
+
 static uint32_t first(const uint8_t *bytes, size_t len, bool is_end, bool is_json, size_t room) {
     return cgfile_first(1, bytes, len, is_end, is_json, out, room, &used, &taken, &path_len, &at);
 }
@@ -204,6 +246,7 @@ int main(void) {
     files();
     numbers();
     lines();
+    explained();
     streams();
     kinds();
     printf("%d rows, %d differ\n", rows, wrong);

@@ -36,6 +36,8 @@ pub(crate) const TOO_LONG: u32 = 13;
 pub(crate) const TOO_MANY: u32 = 14;
 /// A stream is longer than 1073741824 bytes.
 pub(crate) const TOO_MUCH: u32 = 15;
+/// The bytes are a text, so there is nothing to explain.
+pub(crate) const WHOLE: u32 = 16;
 
 /// The profile of a number.
 pub(crate) fn profile_of(number: u32) -> Option<Profile>
