@@ -63,3 +63,24 @@ pub(crate) fn put(text: &[u8], out: &mut [u8]) -> bool
     out[..text.len()].copy_from_slice(text);
     true
 }
+
+/// What was read; or else the call answers the fault, with its place where it has one.
+macro_rules! read_or_answer {
+    ($read:expr, $at:ident, $faults:ident::$no_form:ident) => {
+        match $read {
+            Ok(read) => read,
+            Err($faults::$no_form) => return $crate::answer::NO_FORM,
+            Err($faults::Refused { at: place }) => {
+                *$at = place;
+                return $crate::answer::REFUSED;
+            }
+            Err($faults::Cut { at: place }) => {
+                *$at = place;
+                return $crate::answer::CUT;
+            }
+            Err($faults::OutOfMemory) => return $crate::answer::NO_MEMORY,
+        }
+    };
+}
+
+pub(crate) use read_or_answer;
