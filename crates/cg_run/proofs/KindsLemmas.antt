@@ -15,6 +15,12 @@ longest_name One = omega arith
 longest_name Two = omega arith
 longest_name Kernel = omega arith
 
+-- No profile has more rows than these.
+pub few_rows : (profile : Profile) → length (rows profile) ≤ 78
+few_rows One = omega arith
+few_rows Two = omega arith
+few_rows Kernel = omega arith
+
 pub lines_count : (profile : Profile) → length (kinds_lines profile) ≡ length (rows profile)
 unfolding kinds_lines
 lines_count profile = length-map (rows profile) kinds_line

@@ -33,9 +33,9 @@ fn word_written(kind: Option<WriteKind>) -> &'static [u8]
 }
 
 /// The line of a row.
-fn line_of(row: TableRow) -> Line
-    requires { length row.name.now ≤ 31 }
-    ensures line { result ≡ kinds_line (row_told row) }
+fn line_of(row: &TableRow) -> Line
+    requires { length row.now.name.now ≤ 31 }
+    ensures line { result ≡ kinds_line (row_told row.now) }
     ensures short { length result ≤ 80 }
 {
     let mut line = Line::new();
@@ -56,7 +56,7 @@ pub(crate) fn told_kinds<W: Sink>(profile: Profile, writer: &mut W) -> Outcome
     let mut written = 0;
     let mut place = 0;
     'lines: while let Some(row) = table_row(profile, place) {
-        let line = line_of(row);
+        let line = line_of(&row);
         match write_text(writer, line.bytes()) {
             Ok(()) => written += line.bytes().len() as u64,
             Err(WriteStopped { written: more }) => {

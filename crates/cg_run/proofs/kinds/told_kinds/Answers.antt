@@ -4,11 +4,8 @@ use Rattle.cg_print.proofs.Known.{Appends-trans}
 use Rattle.cg_value.specs.TableRows.{row_at}
 use Rattle.cg_run.specs.Kinds.{kinds_line, kinds_lines}
 use Rattle.cg_run.specs.Run.{joined}
-use Rattle.cg_run.proofs.KindsLemmas.{longest_name, lines_more, lines_all, first_bytes, within_all}
+use Rattle.cg_run.proofs.KindsLemmas.{few_rows, longest_name, lines_more, lines_all, first_bytes, within_all}
 use Rattle.cg_run.proofs.kinds.told_kinds.Goals as goal
-
-pub line_of-requires : goal.line_of-requires
-line_of-requires g c = omega (arith, c.in-Some.ensures.short, longest_name c.args.profile)
 
 pub lines-preserved : goal.lines-preserved
 lines-preserved g c =
@@ -42,7 +39,7 @@ returns-in-Err g c =
       length front + more,
       within_all profile place more within part_is,
       rw (first_bytes profile place more within part_is, ← line_is) taken,
-      ap (λ n. n + more) c.lines.invariant.count ∙ sym (min-eq_left (omega (arith, part, few, within, c.lines.invariant.small, c.lines.invariant.count))),
+      ap (λ n. n + more) c.lines.invariant.count ∙ sym (min-eq_left (omega (arith, part, few, within, few_rows profile, c.lines.invariant.small, c.lines.invariant.count))),
       c.in-Err.ensures.failed,
     )
 

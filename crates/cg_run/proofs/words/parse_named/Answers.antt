@@ -25,7 +25,7 @@ module _ (c : goal.Joined-matches) where
   right : fault_of app words ≡ []
   right = sym (ap (λ (a : App). fault_of a words) c.in_ok-command.ensures.app) ∙ c.in-Ok.ensures.kinds (ap is_simple_and_free c.in_ok-command.ensures.app ∙ free_app c.args.profiles)
 
-  before : rows_of (found_of c.in-Ok.matches.now) ≡ matches_of app words
+  before : rows_of (found_of c.in-Ok.matches) ≡ matches_of app words
   before = (c.in-Ok.ensures.matches (ap is_simple c.in_ok-command.ensures.app ∙ simple_app c.args.profiles)).0 ∙ ap (λ (a : App). matches_of a words) c.in_ok-command.ensures.app
 
   refusal : IfErr c.made.result (IsRefusal (matches_of app words) (subcommand_of app words))
@@ -35,7 +35,7 @@ module _ (c : goal.Joined-matches) where
       let rows : is_some (subcommand_rows_of c.in-Ok.matches) ≡ true = some_rows _ _ met in
       let word = ap is_met same ∙ met_is_word c.args.profiles words (ap is_some (sym same) ∙ rows) in
       subst (λ (s : Option (Text × List Row)). IfErr c.made.result (IsRefusal (matches_of app words) s)) same
-      (subst (λ (rows : List Row). IfErr c.made.result (IsRefusal rows (subcommand_rows_of c.in-Ok.matches))) before (c.made.ensures.known word))
+      (subst (λ (b : List Row). IfErr c.made.result (IsRefusal b (subcommand_rows_of c.in-Ok.matches))) before (c.made.ensures.known word))
 
 pub returns-in-Ok-clause-made : goal.returns-in-Ok-clause-made
 returns-in-Ok-clause-made c =

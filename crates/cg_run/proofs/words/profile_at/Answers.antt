@@ -19,8 +19,8 @@ returns-then-eq-2 c =
     let kernel : bytes_eq c.in-Some.name.now (codes "kernel") ≡ true = search rules in
     is_kernel c.args.given _ _ two kernel same
 
-pub returns-else-eq : goal.returns-else-eq
-returns-else-eq c =
+pub returns-else-eq-2 : goal.returns-else-eq-2
+returns-else-eq-2 c =
     let same = c.in-Some.ensures ∙ first_value-rows (found_of c.args.matches.now) (codes "profile") in
     let two : bytes_eq c.in-Some.name.now (codes "2") ≡ false = search rules in
     let kernel : bytes_eq c.in-Some.name.now (codes "kernel") ≡ false = search rules in
