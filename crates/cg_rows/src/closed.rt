@@ -54,11 +54,12 @@ fn going_on_lines(alloc: Global, asked: &Asked, read: &[u8]) -> usize {
     let mut lines: usize = 0;
     for _ in 0..=read.len() {
         let pulled = decoder.next(rest);
+        let used = pulled.used;
         let Event::Given(found) = pulled.what else {
             return lines;
         };
         lines = lines.saturating_add(found_lines(&asked.command, &found));
-        rest = rest.get(pulled.used..).unwrap_or(b"");
+        rest = rest.get(used..).unwrap_or(b"");
     }
     lines
 }
