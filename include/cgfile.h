@@ -16,8 +16,9 @@
  * table is that of a file of raw lines, of which nearly all texts are some: so a path, or a typing error, as a name
  * checks nothing. Ask cgfile_known() where a name must be one of the table.
  *
- * PROFILE is 1 or 2: two grammars that differ in the greatest number of a list (65535 or 1048575) and in
- * memory.numa_stat (raw lines, or nested keys). 1 is what the program takes where none is named.
+ * PROFILE is 1, 2 or 3. Grammars 1 and 2 differ in the greatest number of a list (65535 or 1048575) and in
+ * memory.numa_stat (raw lines, or nested keys). 3 is the kernel profile: 2 with more files that kernels of today print,
+ * as hugetlb.2MB.max. 1 is what the program takes where none is named.
  *
  * Unless a call says otherwise:
  * - With CGFILE_DONE the answer lies in the first *used of the out_len bytes at out; the others are as they were.
@@ -123,7 +124,7 @@ uint32_t cgfile_json(uint32_t profile, const uint8_t *path, size_t path_len, con
                      uint8_t *out, size_t out_len, size_t *used, uint64_t *at);
 
 /*
- * Whether the file table has the name. It takes no memory.
+ * Whether the file table of profiles 1 and 2 has the name. It takes no memory.
  */
 bool cgfile_known(const uint8_t *name, size_t name_len);
 

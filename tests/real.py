@@ -27,7 +27,7 @@ def text_of(call, profile, name, text):
 
 
 def run(profile, words, text):
-    return subprocess.run([program, "--profile", str(profile), *words], input=text, stdout=subprocess.PIPE).stdout
+    return subprocess.run([program, "--profile", "kernel" if profile == 3 else str(profile), *words], input=text, stdout=subprocess.PIPE).stdout
 
 
 def differ(what, one, other):
@@ -43,7 +43,7 @@ for file in sorted(os.listdir(folder)):
     name = re.sub(r"\.\d+$", "", file)
     if name == file:
         continue
-    for profile in (1, 2):
+    for profile in (1, 2, 3):
         for given in (text, text[:-1], text + b"x"):
             runs += 1
             wrong += differ(f"{file}, profile {profile}", text_of(library.cgfile_file, profile, name.encode(), given), run(profile, ["file", name], given))
@@ -82,7 +82,7 @@ def stream(text, piece, is_json, profile):
 for file in sorted(it for it in os.listdir(folder) if it.endswith(".snap")):
     with open(os.path.join(folder, file), "rb") as it:
         text = it.read()
-    for profile in (1, 2):
+    for profile in (1, 2, 3):
         for piece in (997, 65536):
             runs += 2
             lines = b"".join(line for _, line in stream(text, piece, True, profile))

@@ -80,7 +80,7 @@ static void settings(void) {
     TELLS(setting(1, "cpu.weight", BYTES(""), sizeof out), CGFILE_CUT, 0);
     TELLS(setting(1, "cpu.stat", BYTES("usage_usec 1\n"), sizeof out), CGFILE_NO_FORM, UNSET);
     TELLS(setting(0, "cpu.max", BYTES("max\n"), sizeof out), CGFILE_NO_PROFILE, UNSET);
-    TELLS(setting(3, "cpu.max", BYTES("max\n"), sizeof out), CGFILE_NO_PROFILE, UNSET);
+    TELLS(setting(4, "cpu.max", BYTES("max\n"), sizeof out), CGFILE_NO_PROFILE, UNSET);
     TELLS(setting(4294967295u, "cpu.max", BYTES("max\n"), sizeof out), CGFILE_NO_PROFILE, UNSET);
     LACKS(setting(1, "memory.max", BYTES("15E\n"), 20), 21);
     LACKS(setting(1, "memory.max", BYTES("15E\n"), 0), 21);
@@ -90,6 +90,9 @@ static void settings(void) {
     /* a profile has its own greatest list number */
     TELLS(setting(1, "cpuset.cpus", BYTES("65536\n"), sizeof out), CGFILE_REFUSED, 4);
     GIVES(setting(2, "cpuset.cpus", BYTES("65536\n"), sizeof out), "65536\n");
+    /* and its own names */
+    GIVES(setting(2, "hugetlb.2MB.max", BYTES("2M\n"), sizeof out), "2M\n");
+    GIVES(setting(3, "hugetlb.2MB.max", BYTES("2M\n"), sizeof out), "2097152\n");
 }
 
 static void files(void) {
@@ -101,7 +104,7 @@ static void files(void) {
     TELLS(file(1, "cpuset.cpus", BYTES("0-3,4\n"), sizeof out), CGFILE_REFUSED, 5);
     TELLS(file(1, "cpu.weight", BYTES("100"), sizeof out), CGFILE_CUT, 3);
     TELLS(file(1, "cgroup.kill", BYTES("1\n"), sizeof out), CGFILE_NO_FORM, UNSET);
-    TELLS(file(3, "cpu.weight", BYTES("100\n"), sizeof out), CGFILE_NO_PROFILE, UNSET);
+    TELLS(file(4, "cpu.weight", BYTES("100\n"), sizeof out), CGFILE_NO_PROFILE, UNSET);
     LACKS(file(1, "cpu.weight", BYTES("100\n"), 3), 4);
     LACKS(file(1, "cgroup.controllers", BYTES(""), 0), 1);
 }
@@ -128,7 +131,7 @@ static void numbers(void) {
     TELLS(value("memory.stat", "anon", BYTES("anon 1")), CGFILE_CUT, 6);
     TELLS(value("cgroup.kill", "", BYTES("1\n")), CGFILE_NO_FORM, UNSET);
     begin();
-    ROW(cgfile_number(3, BYTES("pids.max"), BYTES("1\n"), BYTES(""), &number, &at) == CGFILE_NO_PROFILE);
+    ROW(cgfile_number(4, BYTES("pids.max"), BYTES("1\n"), BYTES(""), &number, &at) == CGFILE_NO_PROFILE);
 }
 
 static void lines(void) {
@@ -172,7 +175,7 @@ static void streams(void) {
     TELLS(first(BYTES("a/cpu.max\0max 100000\nb/\0"), false, false, sizeof out), CGFILE_REFUSED, 23);
     TELLS(first(BYTES("\n"), false, false, sizeof out), CGFILE_REFUSED, 0);
     begin();
-    ROW(cgfile_first(3, BYTES(""), true, false, out, sizeof out, &used, &taken, &path_len, &at) == CGFILE_NO_PROFILE);
+    ROW(cgfile_first(4, BYTES(""), true, false, out, sizeof out, &used, &taken, &path_len, &at) == CGFILE_NO_PROFILE);
 }
 
 static void kinds(void) {
@@ -187,12 +190,13 @@ static void kinds(void) {
     begin();
     ROW(kind(1, "cpu.stat", true, sizeof out) == CGFILE_NO_FORM && is_clean() && used == UNSET);
     begin();
-    ROW(kind(3, "cpu.stat", false, sizeof out) == CGFILE_NO_PROFILE && is_clean() && used == UNSET);
+    ROW(kind(4, "cpu.stat", false, sizeof out) == CGFILE_NO_PROFILE && is_clean() && used == UNSET);
     ROW(cgfile_known(BYTES("cpu.weight")));
     ROW(cgfile_known(BYTES("cpuset.cpus.partition")));
     ROW(!cgfile_known(BYTES("cpu.weigh")));
     ROW(!cgfile_known(BYTES("a/cpu.weight")));
     ROW(!cgfile_known(BYTES("")));
+    ROW(!cgfile_known(BYTES("hugetlb.2MB.max")));
 }
 
 int main(void) {

@@ -44,6 +44,7 @@ pub(crate) fn profile_of(number: u32) -> Option<Profile>
     match number {
         1 => Some(Profile::One),
         2 => Some(Profile::Two),
+        3 => Some(Profile::Kernel),
         _ => None,
     }
 }

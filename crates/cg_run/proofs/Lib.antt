@@ -1,4 +1,3 @@
-pub mod AmongNames
 pub mod Builds
 pub mod Checking
 pub mod Commands

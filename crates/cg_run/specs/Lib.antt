@@ -25,7 +25,6 @@ pub mod Spot
 pub mod Stood
 pub mod Stream
 pub mod Streaming
-pub mod TableNames
 pub mod Taken
 pub mod TextReader
 pub mod Words

@@ -5,10 +5,10 @@ use Rattle.std.specs.List.{list_all}
 use Rattle.std.specs.Str.{bytes_eq}
 use Rattle.std.specs.Str.Parse.{digits_value, without_leading_plus}
 use Rattle.cg_snap.specs.declared.limits.Limits.{Limits}
+use Rattle.cg_value.specs.Table.{has_row}
 use Rattle.cg_value.specs.declared.profile.Profile.{Profile}
-use Rattle.cg_value.specs.declared.profile.Profile.TheVariants.{One, Two}
+use Rattle.cg_value.specs.declared.profile.Profile.TheVariants.{One, Two, Kernel}
 use Rattle.cg_run.specs.CommandLine.{Lent, cgfile_app, texts_of}
-use Rattle.cg_run.specs.TableNames.{is_in_table}
 use Rattle.cg_run.specs.declared.words.Command.{Command}
 use Rattle.cg_run.specs.declared.words.Command.TheVariants.{File, Setting, Show, Json, Check, Plan, Kinds}
 use Rattle.cg_run.specs.declared.options.Options.{Options}
@@ -47,7 +47,7 @@ limits_of before after = record {
 -- the profile that has this name, and another where none is named
 abbrev pub profile_named : (given : Profile) → Option Text → Profile
 profile_named given None = given
-profile_named given (Some name) = if bytes_eq name (codes "2") then Two else One
+profile_named given (Some name) = if bytes_eq name (codes "2") then Two else (if bytes_eq name (codes "kernel") then Kernel else One)
 
 abbrev pub profile_of : (before after : List Row) → Profile
 profile_of before after = profile_named (profile_named One (first_of (codes "profile") before)) (first_of (codes "profile") after)
@@ -74,19 +74,19 @@ name_in rows = unwrap_or (first_of (codes "NAME") rows) []
 abbrev pub wants_known : List Row → Bool
 wants_known rows = is_used (codes "known") rows
 
--- NAME may stand there: with `--known` only a name of the file table may
-abbrev pub is_welcome : List Row → Bool
-is_welcome rows = not (wants_known rows) || is_in_table (name_in rows)
+-- NAME may stand there: with `--known` only a name of the profile's file table may
+abbrev pub is_welcome : Profile → List Row → Bool
+is_welcome profile rows = not (wants_known rows) || has_row profile (name_in rows)
 
 -- the command that a subcommand's name and matches stand for
-abbrev pub IsCommand : (name : Text) → List Row → Command → Type 0
-IsCommand name rows (File held) = (name ≡ codes "file") × (held.items ≡ name_in rows) × (is_welcome rows ≡ true)
-IsCommand name rows (Setting held) = (name ≡ codes "setting") × (held.items ≡ name_in rows) × (is_welcome rows ≡ true)
-IsCommand name rows Show = name ≡ codes "show"
-IsCommand name rows Json = name ≡ codes "json"
-IsCommand name rows Check = name ≡ codes "check"
-IsCommand name rows Plan = name ≡ codes "plan"
-IsCommand name rows Kinds = name ≡ codes "kinds"
+abbrev pub IsCommand : Profile → (name : Text) → List Row → Command → Type 0
+IsCommand profile name rows (File held) = (name ≡ codes "file") × (held.items ≡ name_in rows) × (is_welcome profile rows ≡ true)
+IsCommand profile name rows (Setting held) = (name ≡ codes "setting") × (held.items ≡ name_in rows) × (is_welcome profile rows ≡ true)
+IsCommand profile name rows Show = name ≡ codes "show"
+IsCommand profile name rows Json = name ≡ codes "json"
+IsCommand profile name rows Check = name ≡ codes "check"
+IsCommand profile name rows Plan = name ≡ codes "plan"
+IsCommand profile name rows Kinds = name ≡ codes "kinds"
 
 -- the words of commands
 abbrev pub is_plain_word : Text → Bool
@@ -101,7 +101,7 @@ pub record IsMadeFrom (before : List Row) (sub : Text × List Row) (r : Request)
   pub profile : r.profile ≡ profile_of before sub.1
   pub limits : r.limits ≡ limits_of before sub.1
   pub options : r.options ≡ options_of before sub.1
-  pub command : IsCommand sub.0 sub.1 r.command
+  pub command : IsCommand (profile_of before sub.1) sub.0 sub.1 r.command
 
 -- ... where a subcommand is met
 abbrev pub IsMade : (before : List Row) → Option (Text × List Row) → Request → Type 0
@@ -113,12 +113,12 @@ is_met None = false
 is_met (Some s) = is_word s.0
 
 -- the name that is given to the subcommand isn't welcome
-abbrev pub IsUnwelcome : Option (Text × List Row) → Type 0
-IsUnwelcome sub = IsSomeAnd sub (λ s. is_welcome s.1 ≡ false)
+abbrev pub IsUnwelcome : (before : List Row) → Option (Text × List Row) → Type 0
+IsUnwelcome before sub = IsSomeAnd sub (λ s. is_welcome (profile_of before s.1) s.1 ≡ false)
 
 -- why matches give no command: no memory was left, or the name isn't welcome
-abbrev pub IsRefusal : Option (Text × List Row) → UsageFault → Type 0
-IsRefusal sub fault = (fault ≡ OutOfMemory) ⊎ ((fault ≡ Bad) × IsUnwelcome sub)
+abbrev pub IsRefusal : (before : List Row) → Option (Text × List Row) → UsageFault → Type 0
+IsRefusal before sub fault = (fault ≡ OutOfMemory) ⊎ ((fault ≡ Bad) × IsUnwelcome before sub)
 
 -- ---- what the words ask for
 
@@ -130,20 +130,20 @@ IsToldOf kind OutOfMemory = Unit {0}
 
 -- Which faults are told of words at which `clap`'s function gives these kinds of errors: a text only where help or the
 -- version is asked for, and a bad command line only where something else is wrong, or the name isn't welcome.
-abbrev pub IsTold : Errors → Option (Text × List Row) → UsageFault → Type 0
-IsTold kinds sub OutOfMemory = Unit {0}
-IsTold kinds sub (Help text) = (kind : ErrorKind) × IsAmong kind kinds × IsToldOf kind (Help text)
-IsTold kinds sub Bad = ((kind : ErrorKind) × IsAmong kind kinds × IsToldOf kind Bad) ⊎ ((kinds ≡ []) × IsUnwelcome sub)
+abbrev pub IsTold : Errors → (before : List Row) → Option (Text × List Row) → UsageFault → Type 0
+IsTold kinds before sub OutOfMemory = Unit {0}
+IsTold kinds before sub (Help text) = (kind : ErrorKind) × IsAmong kind kinds × IsToldOf kind (Help text)
+IsTold kinds before sub Bad = ((kind : ErrorKind) × IsAmong kind kinds × IsToldOf kind Bad) ⊎ ((kinds ≡ []) × IsUnwelcome before sub)
 
 -- The answer to these words, the profiles' names lying somewhere. It is made of what `clap`'s function of the words gives,
 -- and only where that gives no error; a fault is told as that function's errors say; and where `clap` takes the words, the
 -- only faults are want of memory and a name that isn't welcome.
 pub record IsAnswer (names : Lent) (words : List Text) (answer : Result Request UsageFault) : Type 0 where
-  pub profiles : texts_of names ≡ codes "1" ∷ codes "2" ∷ []
+  pub profiles : texts_of names ≡ codes "1" ∷ codes "2" ∷ codes "kernel" ∷ []
   pub made : IfOk answer (IsMade (matches_of (cgfile_app names) words) (subcommand_of (cgfile_app names) words))
   pub right : IfOk answer (λ _. fault_of (cgfile_app names) words ≡ [])
-  pub told : IfErr answer (IsTold (fault_of (cgfile_app names) words) (subcommand_of (cgfile_app names) words))
-  pub taken : takes (cgfile_app names) words ≡ true → IfErr answer (IsRefusal (subcommand_of (cgfile_app names) words))
+  pub told : IfErr answer (IsTold (fault_of (cgfile_app names) words) (matches_of (cgfile_app names) words) (subcommand_of (cgfile_app names) words))
+  pub taken : takes (cgfile_app names) words ≡ true → IfErr answer (IsRefusal (matches_of (cgfile_app names) words) (subcommand_of (cgfile_app names) words))
 
 abbrev pub Answers : (words : List Text) → Result Request UsageFault → Type 0
 Answers words answer = (names : Lent) × IsAnswer names words answer

@@ -30,7 +30,6 @@ pub mod source;
 mod spot;
 mod stream_reader;
 mod streaming;
-mod table_names;
 mod text_reader;
 mod told;
 mod version;

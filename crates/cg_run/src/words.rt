@@ -7,9 +7,8 @@ ghost use Rattle.cg_run.specs.Words.{Answers, AnswersPlain, IsCommand, IsMade, I
 use crate::command_line::command_line;
 use crate::help;
 use crate::options::Options;
-use crate::table_names::is_in_table;
 use cg_snap::Limits;
-use cg_value::Profile;
+use cg_value::{Profile, has_row};
 use clap::ArgMatches;
 use clap::error::ErrorKind;
 use std::alloc::{AllocError, Global};
@@ -87,34 +86,43 @@ fn is_used(matches: &ArgMatches, id: &str) -> bool
     }
 }
 
-/// The bytes of NAME, if it may stand there: with `--known` only a name of the file table may.
-fn welcome_name(alloc: Global, matches: &ArgMatches) -> Result<Vec<u8>, UsageFault>
+/// The bytes of NAME, if it may stand there: with `--known` only a name of the profile's file table may.
+fn welcome_name(
+    alloc: Global,
+    profile: Profile,
+    matches: &ArgMatches,
+) -> Result<Vec<u8>, UsageFault>
     ensures name { IfOk result (λ v. (v.items ≡ name_in (rows_of (found_of matches.now)))
-        × (is_welcome (rows_of (found_of matches.now)) ≡ true)) }
+        × (is_welcome profile (rows_of (found_of matches.now)) ≡ true)) }
     ensures fault { IfErr result (λ e. (e ≡ UsageFault.OutOfMemory)
-        ⊎ ((e ≡ UsageFault.Bad) × (is_welcome (rows_of (found_of matches.now)) ≡ false))) }
+        ⊎ ((e ≡ UsageFault.Bad) × (is_welcome profile (rows_of (found_of matches.now)) ≡ false))) }
 {
     let name = name_given(matches);
-    if is_used(matches, "known") && !is_in_table(name) {
+    if is_used(matches, "known") && !has_row(profile, name) {
         return Err(UsageFault::Bad);
     }
     Ok(Vec::from_slice(alloc, name)?)
 }
 
 /// The command of a subcommand and its matches.
-fn chosen(alloc: Global, name: &str, inner: &ArgMatches) -> Result<Command, UsageFault>
-    ensures made { IfOk result (IsCommand name.now (rows_of (found_of inner.now))) }
-    ensures known { is_word name.now ≡ true
-        → IfErr result (IsRefusal (Some (name.now, rows_of (found_of inner.now)))) }
+fn chosen(
+    alloc: Global,
+    profile: Profile,
+    name: &str,
+    inner: &ArgMatches,
+) -> Result<Command, UsageFault>
+    ensures made { IfOk result (IsCommand profile name.now (rows_of (found_of inner.now))) }
+    ensures known { is_word name.now ≡ true → IfErr result (λ e. (e ≡ UsageFault.OutOfMemory)
+        ⊎ ((e ≡ UsageFault.Bad) × (is_welcome profile (rows_of (found_of inner.now)) ≡ false))) }
 {
     if name == "file" {
         return Ok(Command::File {
-            name: welcome_name(alloc, inner)?,
+            name: welcome_name(alloc, profile, inner)?,
         });
     }
     if name == "setting" {
         return Ok(Command::Setting {
-            name: welcome_name(alloc, inner)?,
+            name: welcome_name(alloc, profile, inner)?,
         });
     }
     plain_command(name).ok_or(UsageFault::Bad)
@@ -122,7 +130,7 @@ fn chosen(alloc: Global, name: &str, inner: &ArgMatches) -> Result<Command, Usag
 
 /// The command of a subcommand that names no file.
 fn plain_command(name: &str) -> Option<Command>
-    ensures made { IfSome result (IsCommand name.now []) }
+    ensures made { IfSome result (IsCommand Profile.One name.now []) }
     ensures known { is_plain_word name.now ≡ is_some result }
 {
     if name == "show" {
@@ -178,6 +186,8 @@ fn profile_at(matches: &ArgMatches, given: Profile) -> Profile
         Some(name) => {
             if name == "2" {
                 Profile::Two
+            } else if name == "kernel" {
+                Profile::Kernel
             } else {
                 Profile::One
             }
@@ -227,14 +237,15 @@ fn made(alloc: Global, matches: &ArgMatches) -> Result<Request, UsageFault>
     ensures made { IfOk result
         (IsMade (rows_of (found_of matches.now)) (subcommand_rows_of matches.now)) }
     ensures known { is_met (subcommand_rows_of matches.now) ≡ true
-        → IfErr result (IsRefusal (subcommand_rows_of matches.now)) }
+        → IfErr result (IsRefusal (rows_of (found_of matches.now)) (subcommand_rows_of matches.now)) }
 {
     let Some((name, inner)) = matches.subcommand() else {
         return Err(UsageFault::Bad);
     };
+    let profile = profile_at(inner, profile_at(matches, Profile::One));
     Ok(Request {
-        profile: profile_at(inner, profile_at(matches, Profile::One)),
-        command: chosen(alloc, name, inner)?,
+        profile,
+        command: chosen(alloc, profile, name, inner)?,
         limits: limits_among(matches, inner),
         options: options_among(matches, inner),
     })
@@ -253,9 +264,11 @@ fn parse_named<'a>(
         fault_of (cgfile_app profiles.entry) (map (λ w. string_bytes w) words.entry.now) ≡ []) }
     ensures told { IfErr result
         (IsTold (fault_of (cgfile_app profiles.entry) (map (λ w. string_bytes w) words.entry.now))
+        (matches_of (cgfile_app profiles.entry) (map (λ w. string_bytes w) words.entry.now))
         (subcommand_of (cgfile_app profiles.entry) (map (λ w. string_bytes w) words.entry.now))) }
     ensures taken { takes (cgfile_app profiles.entry) (map (λ w. string_bytes w) words.entry.now) ≡ true
         → IfErr result (IsRefusal
+        (matches_of (cgfile_app profiles.entry) (map (λ w. string_bytes w) words.entry.now))
         (subcommand_of (cgfile_app profiles.entry) (map (λ w. string_bytes w) words.entry.now))) }
 {
     let command = command_line(alloc, profiles)?;
@@ -269,11 +282,11 @@ fn parse_named<'a>(
 ///
 /// `Help` has the text that is to be printed, where they ask for help or for the version; `Bad` is
 /// answered where they are no command line of this program, or `--known` goes with a name that the
-/// file table doesn't have.
+/// profile's file table doesn't have.
 pub fn parse_request(alloc: Global, words: &[String]) -> Result<Request, UsageFault>
     ensures { Answers (map (λ w. string_bytes w) words.now) result }
 {
-    let profiles: [&str; 2] = ["1", "2"];
+    let profiles: [&str; 3] = ["1", "2", "kernel"];
     parse_named(alloc, profiles.as_slice(), words)
 }
 
