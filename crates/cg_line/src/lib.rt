@@ -19,4 +19,4 @@ pub use decode_write::{SettingFault, decode_setting};
 pub use push::PushFault;
 pub use reader::{PushedRun, ReaderCut, ValueReader};
 pub use setting_reader::{SettingCut, SettingReader};
-pub use upgrading::{UpgradeFault, upgrade};
+pub use upgrading::{UpgradeFault, upgrade, upgrade_to};

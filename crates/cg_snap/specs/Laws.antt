@@ -5,7 +5,7 @@ use Rattle.cg_value.specs.Entry.{EntryData, IsEntry, IsItem, ItemData}
 use Rattle.cg_value.specs.Print.{print_lines, print_setting_of}
 use Rattle.cg_value.specs.Records.{records}
 use Rattle.cg_value.specs.declared.profile.Profile.{Profile}
-use Rattle.cg_value.specs.declared.profile.Profile.TheVariants.{One, Two}
+use Rattle.cg_value.specs.declared.profile.Profile.TheVariants.{One, Two, Kernel}
 use Rattle.cg_line.specs.Upgrading.{IsUp}
 use Rattle.cg_snap.specs.Begun.{IsBegun}
 use Rattle.cg_snap.specs.Closed.{Closed}
@@ -87,8 +87,26 @@ PlanIsOfItems = (profile : Profile) (items : List ItemData) (text : List ℕ) �
 abbrev pub ClosedPlanOnce : Type 0
 ClosedPlanOnce = (profile : Profile) (bytes : List ℕ) (xs ys : List ItemData) → ClosedPlan profile bytes xs → ClosedPlan profile bytes ys → xs ≡ ys
 
--- ---- Two profiles
+-- ---- Profiles
 
--- Where a text is a snapshot of both profiles, the entries of the second are those of the first, upgraded.
+-- The profile is the other, or comes before it.
+abbrev pub IsBefore : Profile → Profile → Type 0
+IsBefore One to = Unit {0}
+IsBefore Two One = ⊥
+IsBefore Two Two = Unit {0}
+IsBefore Two Kernel = Unit {0}
+IsBefore Kernel One = ⊥
+IsBefore Kernel Two = ⊥
+IsBefore Kernel Kernel = Unit {0}
+
+-- Where a text is a snapshot of two profiles, the entries of the later one are those of the earlier one, upgraded.
 abbrev pub TwoProfiles : Type 0
-TwoProfiles = (es fs : List EntryData) (text : List ℕ) → SnapText One es text → SnapText Two fs text → AllZip IsUp es fs
+TwoProfiles = (from to : Profile) → IsBefore from to → (es fs : List EntryData) (text : List ℕ) → SnapText from es text → SnapText to fs text → AllZip (IsUp to) es fs
+
+-- So it is from the second profile to that of the kernel.
+abbrev pub KernelProfile : Type 0
+KernelProfile = (es fs : List EntryData) (text : List ℕ) → SnapText Two es text → SnapText Kernel fs text → AllZip (IsUp Kernel) es fs
+
+-- An entry that is upgraded by way of a profile before another one is upgraded to that at once.
+abbrev pub ByTheWay : Type 0
+ByTheWay = (by to : Profile) → IsBefore by to → (e f g : EntryData) → IsUp by e f → IsUp to f g → IsUp to e g

@@ -2,7 +2,7 @@
 ghost use Rattle.cg_snap.specs.Decoder.{PulledIsClosed};
 ghost use Rattle.cg_snap.specs.GoingOnLaws.{AllAreDecoded, AllAreTold, FirstFault, NothingLeftOut, NothingStops, OneAllTold, OneTold, OwnFaults, OwnLines, PlainStopped, PlainUnstopped, ToldStays, UnstoppedCloses};
 ghost use Rattle.cg_snap.specs.Headline.{EntriesOfTheBytes, ItemsOfTheBytes, OnePlanStop, OneStop};
-ghost use Rattle.cg_snap.specs.Laws.{ClosedOnce, ClosedPlanOnce, EntriesPrinted, ItemsPrinted, OneBegun, OneClosing, OneList, OnePlan, PlanIsOfItems, SnapIsOfEntries, SnapIsPrint, TwoProfiles};
+ghost use Rattle.cg_snap.specs.Laws.{ByTheWay, ClosedOnce, ClosedPlanOnce, EntriesPrinted, ItemsPrinted, KernelProfile, OneBegun, OneClosing, OneList, OnePlan, PlanIsOfItems, SnapIsOfEntries, SnapIsPrint, TwoProfiles};
 ghost use Rattle.cg_snap.specs.PlanDecoder.{PulledPlanIsClosed};
 ghost use Rattle.cg_snap.specs.RoundTrip.{EntriesGivenBack, ItemsGivenBack, PlanEncodedTwice, SnapGivenBack};
 
@@ -69,10 +69,17 @@ pub fn closed_plan_once()
     ensures { ClosedPlanOnce }
 {}
 
-/// Where a text is a snapshot of both profiles, the entries that it has in the second are those of the first, in order,
-/// each upgraded: raw lines of `memory.numa_stat` are read as nested, and every other entry is itself.
+/// Where a text is a snapshot of two profiles, the entries that it has in the later one are those of the earlier one, in
+/// order, each upgraded: raw lines are read by the kind of their file, and every other entry is itself.
 pub fn two_profiles()
     ensures { TwoProfiles }
+{}
+
+/// Where a text is a snapshot of the second profile and of that of the kernel, the entries of the latter are those of
+/// the former, upgraded. And an entry that is upgraded to it by way of the second is upgraded to it at once.
+pub fn kernel_profile()
+    ensures upgraded { KernelProfile }
+    ensures at_once { ByTheWay }
 {}
 
 /// The bytes that a decoder of snapshots consumed close the entries that it gave, which are one list; some snapshot

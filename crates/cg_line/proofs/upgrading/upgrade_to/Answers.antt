@@ -1,0 +1,7 @@
+use Rattle.cg_line.proofs.upgrading.upgrade_to.Goals as goal
+
+pub returns-in-Ok : goal.returns-in-Ok
+returns-in-Ok c = record { read = λ kind lines r. absurd (c.in_default.ensures kind lines r); same = λ none. c.in-Ok.ensures }
+
+pub returns-in-Err : goal.returns-in-Err
+returns-in-Err c kind lines r = absurd (c.in_default.ensures kind lines r)
