@@ -2,7 +2,7 @@
 use Rattle.std.proofs.Common.{◌≡◌, ◌≤◌, ℕ, ◌↔◌, Bool, true, false, List, [], ◌∷◌, refl, sym, ◌∙◌, ap, arith, codes}
 use Rattle.cg_text.specs.Amount.{IsAmount}
 use Rattle.cg_text.specs.Decimal.{IsDecimal}
-use Rattle.cg_text.specs.Device.{IsDevice}
+use Rattle.cg_text.specs.Device.{IsDevice, IsDeviceName}
 use Rattle.cg_text.specs.Hundredths.{IsHundredths}
 use Rattle.cg_text.specs.HundredthsLaws.{hundredths_new, hundredths_completes, hundredths_one, hundredths_bytes}
 use Rattle.cg_text.specs.HundredthsState.{WholePart}
@@ -12,12 +12,14 @@ use Rattle.cg_text.specs.Token.{AreBytes, HasOneText}
 use Rattle.cg_text.specs.declared.decimal.Progress.TheVariants.{Start}
 use Rattle.cg_text.specs.declared.hundredths.Form.TheVariants.{Read}
 use Rattle.cg_text.specs.declared.hundredths.Part.TheVariants.{Whole}
-use Rattle.cg_text.specs.declared.keyword.Keyword.TheVariants.{Max}
+use Rattle.cg_text.specs.declared.keyword.Keyword.TheVariants.{Max, Unknown}
 use Rattle.cg_join.specs.AmountLaws.{whole_not_fraction, max_not_negated, others_apart, amount_is}
 use Rattle.cg_join.specs.AmountState.{amount_of}
 use Rattle.cg_join.specs.ApartLaws.{fixed_apart}
 use Rattle.cg_join.specs.ByteLaws.{sequence_bytes}
 use Rattle.cg_join.specs.DeviceLaws.{colon_apart, major_apart, device_is, device_of}
+use Rattle.cg_join.specs.DeviceNameLaws.{device_not_gone, device_name_is}
+use Rattle.cg_join.specs.DeviceNameState.{device_named}
 use Rattle.cg_join.specs.DeviceState.{numbers_of}
 use Rattle.cg_join.specs.Join.{IsPair}
 use Rattle.cg_join.specs.LimitLaws.{limit_is}
@@ -134,3 +136,7 @@ device_startable =
       one = λ text v w h k. ap device_of (a.one text (numbers_of v) (numbers_of w) h k);
       bytes = λ text v h. a.bytes text (numbers_of v) h;
     }
+
+pub device_name_startable : (unknown : Bool) → Startable (λ text device. IsDeviceName unknown device text)
+device_name_startable unknown =
+    startable_as (device_name_is unknown) (turned_startable device_named (conditional_startable unknown device_not_gone device_startable (fixed_startable (codes "(unknown)") (keyword_bytes Unknown))))

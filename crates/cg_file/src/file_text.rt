@@ -96,10 +96,16 @@ fn text_of(alloc: Global, form: ReadForm) -> FileText
         ReadForm::Numbers { lo, hi } => FileText::Numbers(NumbersFile::new(alloc, lo, hi)),
         ReadForm::Words => FileText::Words(WordsFile::new(alloc)),
         ReadForm::Flat => FileText::Flat(FlatFile::new(alloc)),
-        ReadForm::DeviceStats => FileText::DeviceStats(DeviceStatsFile::new(alloc)),
-        ReadForm::DeviceLimits => FileText::DeviceLimits(DeviceLimitsFile::new(alloc)),
+        ReadForm::DeviceStats { kernel } => {
+            FileText::DeviceStats(DeviceStatsFile::new(alloc, kernel))
+        }
+        ReadForm::DeviceLimits { kernel } => {
+            FileText::DeviceLimits(DeviceLimitsFile::new(alloc, kernel))
+        }
         ReadForm::DeviceWeights => FileText::DeviceWeights(DeviceWeightsFile::new(alloc)),
-        ReadForm::DeviceTargets => FileText::DeviceTargets(DeviceTargetsFile::new(alloc)),
+        ReadForm::DeviceTargets { kernel } => {
+            FileText::DeviceTargets(DeviceTargetsFile::new(alloc, kernel))
+        }
         ReadForm::Set { most } => FileText::Set(SetFile::new(alloc, most)),
         ReadForm::Partition => FileText::Partition(PartitionFile::new(alloc)),
         ReadForm::Pressure => FileText::Pressure(PressureFile::new()),

@@ -100,12 +100,12 @@ unfolding serde_json_on_literals
 cpu_max_text quota period = refl
 
 pub stat_text : (l : StatLine)
-    → compact_text (stat_data l) ≡ codes "{\"device\":" ++ (compact_text (device_data l.device) ++ (codes ",\"stats\":" ++ (compact_text (keyed (λ p. p.key) (λ p. amount_data p.amount) l.pairs) ++ 125 ∷ [])))
+    → compact_text (stat_data l) ≡ codes "{\"device\":" ++ (compact_text (given_data device_data l.device) ++ (codes ",\"stats\":" ++ (compact_text (keyed (λ p. p.key) (λ p. amount_data p.amount) l.pairs) ++ 125 ∷ [])))
 unfolding serde_json_on_literals
 stat_text l = refl
 
 pub limits_text : (l : LimitLine)
-    → compact_text (limits_data l) ≡ codes "{\"device\":" ++ (compact_text (device_data l.device) ++ (codes ",\"rbps\":" ++ (compact_text (limit_data l.rbps)
+    → compact_text (limits_data l) ≡ codes "{\"device\":" ++ (compact_text (given_data device_data l.device) ++ (codes ",\"rbps\":" ++ (compact_text (limit_data l.rbps)
     ++ (codes ",\"riops\":" ++ (compact_text (limit_data l.riops) ++ (codes ",\"wbps\":" ++ (compact_text (limit_data l.wbps)
     ++ (codes ",\"wiops\":" ++ (compact_text (limit_data l.wiops) ++ 125 ∷ [])))))))))
 unfolding serde_json_on_literals
@@ -120,7 +120,7 @@ pub weights_text : (default : ℕ) (ls : List WeightLine)
 unfolding serde_json_on_literals
 weights_text default ls = refl
 
-pub target_text : (l : TargetLine) → compact_text (target_data l) ≡ codes "{\"device\":" ++ (compact_text (device_data l.device) ++ (codes ",\"target\":" ++ (decimal l.target ++ 125 ∷ [])))
+pub target_text : (l : TargetLine) → compact_text (target_data l) ≡ codes "{\"device\":" ++ (compact_text (given_data device_data l.device) ++ (codes ",\"target\":" ++ (decimal l.target ++ 125 ∷ [])))
 unfolding serde_json_on_literals
 target_text l = refl
 

@@ -88,10 +88,10 @@ cpu_max_data quota period = fields ((codes "period", number_data period) ∷ (co
 
 -- The pad isn't shown.
 abbrev pub stat_data : StatLine → Data
-stat_data l = fields ((codes "device", device_data l.device) ∷ (codes "stats", keyed (λ p. p.key) (λ p. amount_data p.amount) l.pairs) ∷ [])
+stat_data l = fields ((codes "device", given_data device_data l.device) ∷ (codes "stats", keyed (λ p. p.key) (λ p. amount_data p.amount) l.pairs) ∷ [])
 
 abbrev pub limits_data : LimitLine → Data
-limits_data l = fields ((codes "device", device_data l.device) ∷ (codes "rbps", limit_data l.rbps) ∷ (codes "riops", limit_data l.riops)
+limits_data l = fields ((codes "device", given_data device_data l.device) ∷ (codes "rbps", limit_data l.rbps) ∷ (codes "riops", limit_data l.riops)
     ∷ (codes "wbps", limit_data l.wbps) ∷ (codes "wiops", limit_data l.wiops) ∷ [])
 
 abbrev pub weight_data : WeightLine → Data
@@ -101,7 +101,7 @@ abbrev pub weights_data : ℕ → List WeightLine → Data
 weights_data default ls = fields ((codes "default", number_data default) ∷ (codes "devices", array_of weight_data ls) ∷ [])
 
 abbrev pub target_data : TargetLine → Data
-target_data l = fields ((codes "device", device_data l.device) ∷ (codes "target", number_data l.target) ∷ [])
+target_data l = fields ((codes "device", given_data device_data l.device) ∷ (codes "target", number_data l.target) ∷ [])
 
 abbrev pub partition_data : Role → Bool → Option (List ℕ) → Data
 partition_data role valid reason = fields ((codes "reason", given_data text_data reason) ∷ (codes "role", string (role_text role)) ∷ (codes "valid", boolean valid) ∷ [])

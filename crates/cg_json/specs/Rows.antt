@@ -31,7 +31,7 @@ abbrev pub stat_pair : List ℕ → Amount → StatPair
 stat_pair key a = record { key = key; amount = a }
 
 abbrev pub stat_line : ℕ → Bool → List StatPair → StatLine
-stat_line major pad pairs = record { device = block major 0; pad = pad; pairs = pairs }
+stat_line major pad pairs = record { device = Some (block major 0); pad = pad; pairs = pairs }
 
 abbrev pub nested_pair : List ℕ → ℕ → NestedPair
 nested_pair key number = record { key = key; number = number }

@@ -1,7 +1,7 @@
 //! The canonical texts of tokens.
 ghost use Rattle.std.specs.Prelude.{◌∷◌, decimal};
 ghost use Rattle.std.specs.Fmt.{signed_decimal};
-ghost use Rattle.cg_value.specs.Print.{print_limit, print_hundredths, print_clamp, print_amount, print_device, print_range, print_set};
+ghost use Rattle.cg_value.specs.Print.{print_limit, print_hundredths, print_clamp, print_amount, print_device, print_device_name, print_range, print_set};
 ghost use Rattle.cg_value.specs.ReadLine.{mode_text, role_text, words_line};
 ghost use Rattle.cg_value.specs.WriteLine.{sign_of, toggles_line};
 
@@ -94,6 +94,18 @@ impl Canonical for Device {
         self.major.append_to(out)?;
         append_bytes(out, b":")?;
         self.minor.append_to(out)
+    }
+}
+
+/// A device, or `(unknown)` for one that is gone.
+impl Canonical for Option<Device> {
+    ghost printed = { print_device_name };
+
+    fn append_to(&self, out: &mut Vec<u8>) -> Result<(), OutOfMemory> {
+        match self {
+            Some(device) => device.append_to(out),
+            None => append_bytes(out, b"(unknown)"),
+        }
     }
 }
 

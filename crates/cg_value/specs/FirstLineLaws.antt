@@ -104,20 +104,20 @@ first_value form.Flat b = (
     };
   },
 )
-first_value form.DeviceStats b = (
-  value.DeviceStats (record { device = record { major = 0; minor = 0 }; pad = false; pairs = [] } ∷ []),
+first_value (form.DeviceStats kernel) b = (
+  value.DeviceStats (record { device = Some (record { major = 0; minor = 0 }); pad = false; pairs = [] } ∷ []),
   codes "0:0",
   record {
-    xs = record { device = record { major = 0; minor = 0 }; pad = false; pairs = [] } ∷ [];
+    xs = record { device = Some (record { major = 0; minor = 0 }); pad = false; pairs = [] } ∷ [];
     value = refl;
     spelled = (record { device = codes "0:0"; pairs = []; line_is = refl; device_is = device; pairs_are = refl; distinct = tt }, tt);
   },
 )
-first_value form.DeviceLimits b = (
-  value.DeviceLimits (record { device = record { major = 0; minor = 0 }; rbps = limit.Max; wbps = limit.Max; riops = limit.Max; wiops = limit.Max } ∷ []),
+first_value (form.DeviceLimits kernel) b = (
+  value.DeviceLimits (record { device = Some (record { major = 0; minor = 0 }); rbps = limit.Max; wbps = limit.Max; riops = limit.Max; wiops = limit.Max } ∷ []),
   codes "0:0 rbps=max wbps=max riops=max wiops=max",
   record {
-    xs = record { device = record { major = 0; minor = 0 }; rbps = limit.Max; wbps = limit.Max; riops = limit.Max; wiops = limit.Max } ∷ [];
+    xs = record { device = Some (record { major = 0; minor = 0 }); rbps = limit.Max; wbps = limit.Max; riops = limit.Max; wiops = limit.Max } ∷ [];
     value = refl;
     spelled = (
       record {
@@ -151,11 +151,11 @@ first_value form.DeviceWeights b = (
     others_are = tt;
   },
 )
-first_value form.DeviceTargets b = (
-  value.DeviceTargets (record { device = record { major = 0; minor = 0 }; target = 0 } ∷ []),
+first_value (form.DeviceTargets kernel) b = (
+  value.DeviceTargets (record { device = Some (record { major = 0; minor = 0 }); target = 0 } ∷ []),
   codes "0:0 target=0",
   record {
-    xs = record { device = record { major = 0; minor = 0 }; target = 0 } ∷ [];
+    xs = record { device = Some (record { major = 0; minor = 0 }); target = 0 } ∷ [];
     value = refl;
     spelled = (record { front = codes "0:0"; back = codes "0"; text_is = refl; front_is = device; back_is = zero any_u64 }, tt);
   },
@@ -206,10 +206,10 @@ may_be form.Clamp h = absurd h
 may_be (form.Numbers lo hi) h = (value.Numbers [], record { xs = []; value = refl; spelled = tt })
 may_be form.Words h = (value.Words [], record { x = []; value = refl; spelled = record { each = All-nil IsControllerWord; distinct = tt; lines_are = inr (refl, refl) } })
 may_be form.Flat h = (value.Flat [], record { x = []; value = refl; spelled = record { each = tt; distinct = tt } })
-may_be form.DeviceStats h = (value.DeviceStats [], record { xs = []; value = refl; spelled = tt })
-may_be form.DeviceLimits h = (value.DeviceLimits [], record { xs = []; value = refl; spelled = tt })
+may_be (form.DeviceStats kernel) h = (value.DeviceStats [], record { xs = []; value = refl; spelled = tt })
+may_be (form.DeviceLimits kernel) h = (value.DeviceLimits [], record { xs = []; value = refl; spelled = tt })
 may_be form.DeviceWeights h = absurd h
-may_be form.DeviceTargets h = (value.DeviceTargets [], record { xs = []; value = refl; spelled = tt })
+may_be (form.DeviceTargets kernel) h = (value.DeviceTargets [], record { xs = []; value = refl; spelled = tt })
 may_be (form.Set most) h = absurd h
 may_be form.Partition h = absurd h
 may_be form.Pressure h = absurd h
@@ -232,10 +232,10 @@ may_only form.Clamp v lines h e = no_first h.line lines [] h.lines_are e
 may_only (form.Numbers lo hi) v lines h e = tt
 may_only form.Words v lines h e = tt
 may_only form.Flat v lines h e = tt
-may_only form.DeviceStats v lines h e = tt
-may_only form.DeviceLimits v lines h e = tt
+may_only (form.DeviceStats kernel) v lines h e = tt
+may_only (form.DeviceLimits kernel) v lines h e = tt
 may_only form.DeviceWeights v lines h e = no_first h.first lines h.others h.lines_are e
-may_only form.DeviceTargets v lines h e = tt
+may_only (form.DeviceTargets kernel) v lines h e = tt
 may_only (form.Set most) v lines h e = no_first h.line lines [] h.lines_are e
 may_only form.Partition v lines h e = no_first h.line lines [] h.lines_are e
 may_only form.Pressure v lines h e = no_pressure (h.x.0) (h.x.1) lines h.spelled e

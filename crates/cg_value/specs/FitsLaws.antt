@@ -106,11 +106,11 @@ flat_lines ps d = (
 pub flat_fits : (ps : List FlatPair) → HasDistinctKeys ps → HasLines (AllZip IsFlatLine ps) ↔ Fits form.Flat (value.Flat ps)
 flat_fits ps d = through form.Flat (value.Flat ps) (λ h. made_on AreFlatLines value.Flat (λ x y e. cc) ps ((flat_lines ps d).0 h)) (λ lines h. (flat_lines ps d).1 (made_back AreFlatLines value.Flat (λ x y e. cc) ps lines h))
 
-pub stats_fit : (ls : List StatLine) → HasLines (AllZip IsStatLine ls) ↔ Fits form.DeviceStats (value.DeviceStats ls)
-stats_fit ls = through form.DeviceStats (value.DeviceStats ls) (of_on IsStatLine value.DeviceStats (λ x y e. cc) ls) (of_back IsStatLine value.DeviceStats (λ x y e. cc) ls)
+pub stats_fit : (kernel : Bool) (ls : List StatLine) → HasLines (AllZip (IsStatLine kernel) ls) ↔ Fits (form.DeviceStats kernel) (value.DeviceStats ls)
+stats_fit kernel ls = through (form.DeviceStats kernel) (value.DeviceStats ls) (of_on (IsStatLine kernel) value.DeviceStats (λ x y e. cc) ls) (of_back (IsStatLine kernel) value.DeviceStats (λ x y e. cc) ls)
 
-pub limits_fit : (ls : List LimitLine) → HasLines (AllZip IsLimitLine ls) ↔ Fits form.DeviceLimits (value.DeviceLimits ls)
-limits_fit ls = through form.DeviceLimits (value.DeviceLimits ls) (of_on IsLimitLine value.DeviceLimits (λ x y e. cc) ls) (of_back IsLimitLine value.DeviceLimits (λ x y e. cc) ls)
+pub limits_fit : (kernel : Bool) (ls : List LimitLine) → HasLines (AllZip (IsLimitLine kernel) ls) ↔ Fits (form.DeviceLimits kernel) (value.DeviceLimits ls)
+limits_fit kernel ls = through (form.DeviceLimits kernel) (value.DeviceLimits ls) (of_on (IsLimitLine kernel) value.DeviceLimits (λ x y e. cc) ls) (of_back (IsLimitLine kernel) value.DeviceLimits (λ x y e. cc) ls)
 
 default_line : (weight : ℕ) → HasText (IsDecimal 1 10000 weight) ↔ HasText (IsDefaultLine weight)
 default_line weight = (
@@ -133,8 +133,8 @@ weights_back weight ls lines h =
 pub weights_fit : (weight : ℕ) (ls : List WeightLine) → (HasText (IsDecimal 1 10000 weight) × HasLines (AllZip IsWeightLine ls)) ↔ Fits form.DeviceWeights (value.DeviceWeights weight ls)
 weights_fit weight ls = through form.DeviceWeights (value.DeviceWeights weight ls) (weights_on weight ls) (weights_back weight ls)
 
-pub targets_fit : (ls : List TargetLine) → HasLines (AllZip IsTargetLine ls) ↔ Fits form.DeviceTargets (value.DeviceTargets ls)
-targets_fit ls = through form.DeviceTargets (value.DeviceTargets ls) (of_on IsTargetLine value.DeviceTargets (λ x y e. cc) ls) (of_back IsTargetLine value.DeviceTargets (λ x y e. cc) ls)
+pub targets_fit : (kernel : Bool) (ls : List TargetLine) → HasLines (AllZip (IsTargetLine kernel) ls) ↔ Fits (form.DeviceTargets kernel) (value.DeviceTargets ls)
+targets_fit kernel ls = through (form.DeviceTargets kernel) (value.DeviceTargets ls) (of_on (IsTargetLine kernel) value.DeviceTargets (λ x y e. cc) ls) (of_back (IsTargetLine kernel) value.DeviceTargets (λ x y e. cc) ls)
 
 pub set_fits : (most : ℕ) (set : List (ℕ × ℕ)) → HasText (IsStrictList most set) ↔ Fits (form.Set most) (value.Set set)
 set_fits most set = through (form.Set most) (value.Set set) (one_on (IsStrictList most) value.Set (λ x y e. cc) set) (one_back (IsStrictList most) value.Set (λ x y e. cc) set)

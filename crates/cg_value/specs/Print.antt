@@ -50,6 +50,11 @@ print_amount (amount.Below n) = 45 ∷ decimal n
 abbrev pub print_device : Device → List ℕ
 print_device d = decimal d.major ++ 58 ∷ decimal d.minor
 
+-- A device that is gone has a word of its own.
+abbrev pub print_device_name : Option Device → List ℕ
+print_device_name (Some d) = print_device d
+print_device_name None = codes "(unknown)"
+
 -- The maximal ranges in order, a-b or a, with commas between.
 abbrev pub print_range : ℕ × ℕ → List ℕ
 print_range r = cond (nat_eq (r.0) (r.1)) (decimal (r.0)) (decimal (r.0) ++ 45 ∷ decimal (r.1))
@@ -72,10 +77,10 @@ abbrev pub print_stat_pair : StatPair → List ℕ
 print_stat_pair p = p.key ++ 61 ∷ print_amount p.amount
 
 abbrev pub print_stat_line : StatLine → List ℕ
-print_stat_line s = print_device s.device ++ pad_text s.pad ++ print_led print_stat_pair s.pairs
+print_stat_line s = print_device_name s.device ++ pad_text s.pad ++ print_led print_stat_pair s.pairs
 
 abbrev pub print_limit_line : LimitLine → List ℕ
-print_limit_line l = print_device l.device ++ codes " rbps=" ++ print_limit l.rbps ++ codes " wbps=" ++ print_limit l.wbps ++ codes " riops=" ++ print_limit l.riops ++ codes " wiops=" ++ print_limit l.wiops
+print_limit_line l = print_device_name l.device ++ codes " rbps=" ++ print_limit l.rbps ++ codes " wbps=" ++ print_limit l.wbps ++ codes " riops=" ++ print_limit l.riops ++ codes " wiops=" ++ print_limit l.wiops
 
 abbrev pub print_default_line : ℕ → List ℕ
 print_default_line weight = codes "default " ++ decimal weight
@@ -84,7 +89,7 @@ abbrev pub print_weight_line : WeightLine → List ℕ
 print_weight_line w = print_device w.device ++ 32 ∷ decimal w.weight
 
 abbrev pub print_target_line : TargetLine → List ℕ
-print_target_line t = print_device t.device ++ codes " target=" ++ decimal t.target
+print_target_line t = print_device_name t.device ++ codes " target=" ++ decimal t.target
 
 abbrev pub print_reason : Option (List ℕ) → List ℕ
 print_reason None = []

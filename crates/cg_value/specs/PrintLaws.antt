@@ -100,10 +100,10 @@ one_text form.Clamp v lines b h = inl (one_line_is (IsClamp Read) value.Clamp pr
 one_text (form.Numbers lo hi) v lines b h = inl (many_lines_are (IsDecimal lo hi) value.Numbers decimal (λ xs. refl) (λ x line. decimal_text_is lo hi x line b.1) v lines h)
 one_text form.Words v lines b h = words_are h.x v lines h.value h.spelled.lines_are
 one_text form.Flat v lines b h = inl (made_lines_are AreFlatLines value.Flat (λ x ls k. lines_are IsFlatLine print_flat_line flat_line_is x ls k.each) v lines h)
-one_text form.DeviceStats v lines b h = inl (many_lines_are IsStatLine value.DeviceStats print_stat_line (λ xs. refl) stat_line_is v lines h)
-one_text form.DeviceLimits v lines b h = inl (many_lines_are IsLimitLine value.DeviceLimits print_limit_line (λ xs. refl) limit_line_is v lines h)
+one_text (form.DeviceStats kernel) v lines b h = inl (many_lines_are (IsStatLine kernel) value.DeviceStats print_stat_line (λ xs. refl) (stat_line_is kernel) v lines h)
+one_text (form.DeviceLimits kernel) v lines b h = inl (many_lines_are (IsLimitLine kernel) value.DeviceLimits print_limit_line (λ xs. refl) (limit_line_is kernel) v lines h)
 one_text form.DeviceWeights v lines b h = inl (weight_lines_are v lines h)
-one_text form.DeviceTargets v lines b h = inl (many_lines_are IsTargetLine value.DeviceTargets print_target_line (λ xs. refl) target_line_is v lines h)
+one_text (form.DeviceTargets kernel) v lines b h = inl (many_lines_are (IsTargetLine kernel) value.DeviceTargets print_target_line (λ xs. refl) (target_line_is kernel) v lines h)
 one_text (form.Set most) v lines b h = inl (one_line_is (IsStrictList most) value.Set print_set (λ x. refl) (λ x line k. set_text_is most x line (end_small most b) k.1) v lines h)
 one_text form.Partition v lines b h =
     inl (one_line_is (λ (x : Role × Bool × Option (List ℕ)) line. IsPartition (x.0) (x.1) (x.2) line) (λ x. value.Partition (x.0) (x.1) (x.2)) (λ (x : Role × Bool × Option (List ℕ)). print_partition (x.0) (x.1) (x.2))

@@ -6,7 +6,7 @@ use Rattle.std.specs.Fmt.{decimal, signed_decimal}
 use Rattle.cg_text.specs.Amount.{IsAmount}
 use Rattle.cg_text.specs.Clamp.{IsClamp}
 use Rattle.cg_text.specs.Decimal.{IsDecimal}
-use Rattle.cg_text.specs.Device.{IsDevice}
+use Rattle.cg_text.specs.Device.{IsDevice, IsDeviceName}
 use Rattle.cg_text.specs.Hundredths.{IsHundredths}
 use Rattle.cg_text.specs.Limit.{IsLimit}
 use Rattle.cg_text.specs.List.{IsRangeText, AreRangeTexts}
@@ -23,7 +23,7 @@ use Rattle.cg_text.specs.declared.values.Limit.{Limit}
 use Rattle.cg_text.specs.declared.values.Limit.TheVariants as limit
 use Rattle.cg_value.specs.Kind.{any_u64}
 use Rattle.cg_value.specs.Lines.{HasParts, IsKey, AreLed}
-use Rattle.cg_value.specs.Print.{print_limit, print_hundredths, print_clamp, print_amount, print_device, print_range, print_set, print_led, print_flat_line, print_stat_pair, print_stat_line}
+use Rattle.cg_value.specs.Print.{print_limit, print_hundredths, print_clamp, print_amount, print_device, print_device_name, print_range, print_set, print_led, print_flat_line, print_stat_pair, print_stat_line}
 use Rattle.cg_value.specs.Print.{print_limit_line, print_default_line, print_weight_line, print_target_line, print_partition, print_averages, print_nested_pair, print_nested_line}
 use Rattle.cg_value.specs.ReadLine.{role_text, IsCpuMax, IsFlatLine, IsStatPair, IsStatLine, IsLimitLine, IsDefaultLine, IsWeightLine, IsTargetLine, IsPartition, AreAverages, IsPressureLine, IsNestedPair, IsNestedLine}
 use Rattle.cg_value.specs.declared.flat.FlatPair.{FlatPair}
@@ -69,6 +69,10 @@ device_text_is d text h =
     let major = decimal_text_is 0 4095 d.major h.major (omega arith) h.major_is in
     let minor = decimal_text_is 0 1048575 d.minor h.minor (omega arith) h.minor_is in
     h.text_is ∙ rw (major, minor)
+
+device_name_is : (kernel : Bool) (d : Option Device) (text : List ℕ) → IsDeviceName kernel d text → text ≡ print_device_name d
+device_name_is kernel (Some d) text h = device_text_is d text h
+device_name_is kernel None text h = h.1
 
 -- A signed number of 64 bits.
 pub signed_text_is : (z : ℤ) (text : List ℕ) → negsuc 9223372036854775807 ≤ℤ z → z ≤ℤ pos 9223372036854775807 → IsSignedNumeral z text → text ≡ signed_decimal z
@@ -123,18 +127,18 @@ cpu_max_line_is x line h = parts_are (IsLimit 0 any_u64) 32 (IsDecimal 0 any_u64
 pub flat_line_is : (p : FlatPair) (line : List ℕ) → IsFlatLine p line → line ≡ print_flat_line p
 flat_line_is p line h = parts_are IsKey 32 (IsDecimal 0 any_u64) p.key p.number line p.key (decimal p.number) (λ t k. k.0) (any_decimal p.number) h
 
-pub stat_pair_is : (p : StatPair) (text : List ℕ) → IsStatPair p text → text ≡ print_stat_pair p
-stat_pair_is p text h = parts_are IsKey 61 (IsAmount false) p.key p.amount text p.key (print_amount p.amount) (λ t k. k.0) (amount_text_is false p.amount) h
+pub stat_pair_is : (kernel : Bool) (p : StatPair) (text : List ℕ) → IsStatPair kernel p text → text ≡ print_stat_pair p
+stat_pair_is kernel p text h = parts_are IsKey 61 (IsAmount kernel) p.key p.amount text p.key (print_amount p.amount) (λ t k. k.0) (amount_text_is kernel p.amount) h
 
-pub stat_line_is : (s : StatLine) (line : List ℕ) → IsStatLine s line → line ≡ print_stat_line s
-stat_line_is s line h =
-    let device = device_text_is s.device h.device h.device_is in
-    let pairs = led_texts_are IsStatPair print_stat_pair stat_pair_is s.pairs h.pairs h.pairs_are in
+pub stat_line_is : (kernel : Bool) (s : StatLine) (line : List ℕ) → IsStatLine kernel s line → line ≡ print_stat_line s
+stat_line_is kernel s line h =
+    let device = device_name_is kernel s.device h.device h.device_is in
+    let pairs = led_texts_are (IsStatPair kernel) print_stat_pair (stat_pair_is kernel) s.pairs h.pairs h.pairs_are in
     h.line_is ∙ rw (device, pairs)
 
-pub limit_line_is : (l : LimitLine) (line : List ℕ) → IsLimitLine l line → line ≡ print_limit_line l
-limit_line_is l line h =
-    let device = device_text_is l.device h.device h.device_is in
+pub limit_line_is : (kernel : Bool) (l : LimitLine) (line : List ℕ) → IsLimitLine kernel l line → line ≡ print_limit_line l
+limit_line_is kernel l line h =
+    let device = device_name_is kernel l.device h.device h.device_is in
     let rbps = any_limit l.rbps h.rbps h.rbps_is in
     let wbps = any_limit l.wbps h.wbps h.wbps_is in
     let riops = any_limit l.riops h.riops h.riops_is in
@@ -147,9 +151,9 @@ default_line_is weight line h = h.1 ∙ ap (λ t. codes "default " ++ t) (weight
 pub weight_line_is : (w : WeightLine) (line : List ℕ) → IsWeightLine w line → line ≡ print_weight_line w
 weight_line_is w line h = parts_are IsDevice 32 (IsDecimal 1 10000) w.device w.weight line (print_device w.device) (decimal w.weight) (device_text_is w.device) (weight_text_is w.weight) h
 
-pub target_line_is : (t : TargetLine) (line : List ℕ) → IsTargetLine t line → line ≡ print_target_line t
-target_line_is t line h =
-    let device = device_text_is t.device h.front h.front_is in
+pub target_line_is : (kernel : Bool) (t : TargetLine) (line : List ℕ) → IsTargetLine kernel t line → line ≡ print_target_line t
+target_line_is kernel t line h =
+    let device = device_name_is kernel t.device h.front h.front_is in
     let target = any_decimal t.target h.back h.back_is in
     h.text_is ∙ rw (device, target)
 

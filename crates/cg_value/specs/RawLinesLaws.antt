@@ -8,7 +8,7 @@ use Rattle.cg_text.specs.AboveSpaceLaws.{numeral_above}
 use Rattle.cg_text.specs.Amount.{IsAmount, IsBelow}
 use Rattle.cg_text.specs.Clamp.{IsClamp}
 use Rattle.cg_text.specs.Decimal.{IsNumeral, IsDecimal}
-use Rattle.cg_text.specs.Device.{IsDevice}
+use Rattle.cg_text.specs.Device.{IsDevice, IsDeviceName}
 use Rattle.cg_text.specs.Hundredths.{IsHundredths}
 use Rattle.cg_text.specs.Limit.{IsLimit}
 use Rattle.cg_text.specs.List.{IsRangeText, AreRangeTexts}
@@ -111,6 +111,10 @@ device_raw d text h =
     along (h.major ++ 58 ∷ h.minor) text h.text_is (raw_append h.major (58 ∷ h.minor) (decimal_raw 0 4095 d.major h.major h.major_is)
     (omega arith, omega arith, (λ e. omega (arith, e)), decimal_raw 0 1048575 d.minor h.minor h.minor_is))
 
+device_name_raw : (kernel : Bool) (d : Option Device) (text : List ℕ) → IsDeviceName kernel d text → IsRawLine text
+device_name_raw kernel (Some d) text h = device_raw d text h
+device_name_raw kernel None text h = rw h.1 (printable (codes "(unknown)") refl)
+
 word_bytes_raw : (xs : List ℕ) → AreWordBytes xs → IsRawLine xs
 word_bytes_raw [] h = tt
 word_bytes_raw (x ∷ xs) h = let byte = h.0 in (omega (arith, byte.0), omega (arith, byte.1), (λ e. omega (arith, byte.0, e)), word_bytes_raw xs h.1)
@@ -162,27 +166,27 @@ cpu_max_raw x line h = parts_raw (IsLimit 0 any_u64) (codes " ") (IsDecimal 0 an
 flat_raw : (p : FlatPair) (line : List ℕ) → IsFlatLine p line → IsRawLine line
 flat_raw p line h = parts_raw IsKey (codes " ") (IsDecimal 0 any_u64) p.key p.number line (key_raw p.key) (printable (codes " ") refl) (any_decimal p.number) h
 
-stat_pair_raw : (p : StatPair) (text : List ℕ) → IsStatPair p text → IsRawLine text
-stat_pair_raw p text h = parts_raw IsKey (codes "=") (IsAmount false) p.key p.amount text (key_raw p.key) (printable (codes "=") refl) (amount_raw false p.amount) h
+stat_pair_raw : (kernel : Bool) (p : StatPair) (text : List ℕ) → IsStatPair kernel p text → IsRawLine text
+stat_pair_raw kernel p text h = parts_raw IsKey (codes "=") (IsAmount kernel) p.key p.amount text (key_raw p.key) (printable (codes "=") refl) (amount_raw kernel p.amount) h
 
 pad_raw : (pad : Bool) → IsRawLine (pad_text pad)
 pad_raw true = printable (codes " ") refl
 pad_raw false = tt
 
-stat_raw : (s : StatLine) (line : List ℕ) → IsStatLine s line → IsRawLine line
-stat_raw s line h =
+stat_raw : (kernel : Bool) (s : StatLine) (line : List ℕ) → IsStatLine kernel s line → IsRawLine line
+stat_raw kernel s line h =
     along (h.device ++ pad_text s.pad ++ h.pairs) line h.line_is
     (raw_append (h.device ++ pad_text s.pad) h.pairs
-    (raw_append h.device (pad_text s.pad) (device_raw s.device h.device h.device_is) (pad_raw s.pad))
-    (led_raw IsStatPair stat_pair_raw s.pairs h.pairs h.pairs_are))
+    (raw_append h.device (pad_text s.pad) (device_name_raw kernel s.device h.device h.device_is) (pad_raw s.pad))
+    (led_raw (IsStatPair kernel) (stat_pair_raw kernel) s.pairs h.pairs h.pairs_are))
 
 -- What comes before, a text, and what comes after.
 then_raw : (front mark back : List ℕ) → list_all (λ b. nat_lt 31 b && nat_lt b 127) mark ≡ true → IsRawLine front → IsRawLine back → IsRawLine (front ++ mark ++ back)
 then_raw front mark back e h k = raw_append (front ++ mark) back (raw_append front mark h (printable mark e)) k
 
-limits_raw : (l : LimitLine) (line : List ℕ) → IsLimitLine l line → IsRawLine line
-limits_raw l line h =
-    let one = then_raw h.device (codes " rbps=") h.rbps refl (device_raw l.device h.device h.device_is) (any_limit l.rbps h.rbps h.rbps_is) in
+limits_raw : (kernel : Bool) (l : LimitLine) (line : List ℕ) → IsLimitLine kernel l line → IsRawLine line
+limits_raw kernel l line h =
+    let one = then_raw h.device (codes " rbps=") h.rbps refl (device_name_raw kernel l.device h.device h.device_is) (any_limit l.rbps h.rbps h.rbps_is) in
     let two = then_raw (h.device ++ codes " rbps=" ++ h.rbps) (codes " wbps=") h.wbps refl one (any_limit l.wbps h.wbps h.wbps_is) in
     let three = then_raw (h.device ++ codes " rbps=" ++ h.rbps ++ codes " wbps=" ++ h.wbps) (codes " riops=") h.riops refl two (any_limit l.riops h.riops h.riops_is) in
     let four = then_raw (h.device ++ codes " rbps=" ++ h.rbps ++ codes " wbps=" ++ h.wbps ++ codes " riops=" ++ h.riops) (codes " wiops=") h.wiops refl three (any_limit l.wiops h.wiops h.wiops_is) in
@@ -194,8 +198,8 @@ default_raw weight line h = along (codes "default " ++ h.0) line h.1 (raw_append
 weight_raw : (w : WeightLine) (line : List ℕ) → IsWeightLine w line → IsRawLine line
 weight_raw w line h = parts_raw IsDevice (codes " ") (IsDecimal 1 10000) w.device w.weight line (device_raw w.device) (printable (codes " ") refl) (decimal_raw 1 10000 w.weight) h
 
-target_raw : (t : TargetLine) (line : List ℕ) → IsTargetLine t line → IsRawLine line
-target_raw t line h = parts_raw IsDevice (codes " target=") (IsDecimal 0 any_u64) t.device t.target line (device_raw t.device) (printable (codes " target=") refl) (any_decimal t.target) h
+target_raw : (kernel : Bool) (t : TargetLine) (line : List ℕ) → IsTargetLine kernel t line → IsRawLine line
+target_raw kernel t line h = parts_raw (IsDeviceName kernel) (codes " target=") (IsDecimal 0 any_u64) t.device t.target line (device_name_raw kernel t.device) (printable (codes " target=") refl) (any_decimal t.target) h
 
 role_raw : (role : Role) → IsRawLine (role_text role)
 role_raw Member = printable (role_text Member) refl
@@ -273,10 +277,10 @@ raw_lines form.Clamp v lines h = one_raw h.line lines h.lines_are (clamp_raw h.x
 raw_lines (form.Numbers lo hi) v lines h = each_raw (IsDecimal lo hi) (decimal_raw lo hi) h.xs lines h.spelled
 raw_lines form.Words v lines h = words_lines_raw h.x lines h.spelled
 raw_lines form.Flat v lines h = each_raw IsFlatLine flat_raw h.x lines h.spelled.each
-raw_lines form.DeviceStats v lines h = each_raw IsStatLine stat_raw h.xs lines h.spelled
-raw_lines form.DeviceLimits v lines h = each_raw IsLimitLine limits_raw h.xs lines h.spelled
+raw_lines (form.DeviceStats kernel) v lines h = each_raw (IsStatLine kernel) (stat_raw kernel) h.xs lines h.spelled
+raw_lines (form.DeviceLimits kernel) v lines h = each_raw (IsLimitLine kernel) (limits_raw kernel) h.xs lines h.spelled
 raw_lines form.DeviceWeights v lines h = weights_raw v lines h
-raw_lines form.DeviceTargets v lines h = each_raw IsTargetLine target_raw h.xs lines h.spelled
+raw_lines (form.DeviceTargets kernel) v lines h = each_raw (IsTargetLine kernel) (target_raw kernel) h.xs lines h.spelled
 raw_lines (form.Set most) v lines h = one_raw h.line lines h.lines_are (ranges_raw most h.x h.line h.spelled.1)
 raw_lines form.Partition v lines h = one_raw h.line lines h.lines_are (partition_raw (h.x.0) (h.x.1) (h.x.2) h.line h.spelled)
 raw_lines form.Pressure v lines h = pressures_raw (h.x.0) (h.x.1) lines h.spelled

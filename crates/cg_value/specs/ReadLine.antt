@@ -5,7 +5,7 @@ use Rattle.std.specs.Prelude.{◌≡◌, ℕ, Bool, true, false, List, [], ◌�
 use Rattle.std.specs.List.{AllZip}
 use Rattle.cg_text.specs.Amount.{IsAmount}
 use Rattle.cg_text.specs.Decimal.{IsDecimal}
-use Rattle.cg_text.specs.Device.{IsDevice}
+use Rattle.cg_text.specs.Device.{IsDevice, IsDeviceName}
 use Rattle.cg_text.specs.Distinct.{AreDistinct}
 use Rattle.cg_text.specs.Hundredths.{IsHundredths}
 use Rattle.cg_text.specs.Limit.{IsLimit}
@@ -65,31 +65,32 @@ pub record AreFlatLines (pairs : List FlatPair) (lines : List (List ℕ)) : Type
   pub each : AllZip IsFlatLine pairs lines
   pub distinct : AreDistinct (map (λ p. p.key) pairs)
 
--- device_stats: io.stat. A device, at most one space of its own, and pairs, no sub-key twice in a line.
-abbrev pub IsStatPair : StatPair → List ℕ → Type 0
-IsStatPair p text = HasParts IsKey (codes "=") (IsAmount false) p.key p.amount text
+-- device_stats: io.stat. A device, at most one space of its own, and pairs, no sub-key twice in a line. Where kernel, the
+-- device may be gone, and an amount below 0.
+abbrev pub IsStatPair : Bool → StatPair → List ℕ → Type 0
+IsStatPair kernel p text = HasParts IsKey (codes "=") (IsAmount kernel) p.key p.amount text
 
 abbrev pub pad_text : Bool → List ℕ
 pad_text true = codes " "
 pad_text false = []
 
-pub record IsStatLine (s : StatLine) (line : List ℕ) : Type 0 where
+pub record IsStatLine (kernel : Bool) (s : StatLine) (line : List ℕ) : Type 0 where
   pub device : List ℕ
   pub pairs : List ℕ
   pub line_is : line ≡ device ++ pad_text s.pad ++ pairs
-  pub device_is : IsDevice s.device device
-  pub pairs_are : AreLed IsStatPair s.pairs pairs
+  pub device_is : IsDeviceName kernel s.device device
+  pub pairs_are : AreLed (IsStatPair kernel) s.pairs pairs
   pub distinct : AreDistinct (map (λ p. p.key) s.pairs)
 
--- device_limits: io.max. A device and its four limits in this order.
-pub record IsLimitLine (l : LimitLine) (line : List ℕ) : Type 0 where
+-- device_limits: io.max. A device and its four limits in this order. Where kernel, the device may be gone.
+pub record IsLimitLine (kernel : Bool) (l : LimitLine) (line : List ℕ) : Type 0 where
   pub device : List ℕ
   pub rbps : List ℕ
   pub wbps : List ℕ
   pub riops : List ℕ
   pub wiops : List ℕ
   pub line_is : line ≡ device ++ codes " rbps=" ++ rbps ++ codes " wbps=" ++ wbps ++ codes " riops=" ++ riops ++ codes " wiops=" ++ wiops
-  pub device_is : IsDevice l.device device
+  pub device_is : IsDeviceName kernel l.device device
   pub rbps_is : IsLimit 0 any_u64 l.rbps rbps
   pub wbps_is : IsLimit 0 any_u64 l.wbps wbps
   pub riops_is : IsLimit 0 any_u64 l.riops riops
@@ -112,9 +113,9 @@ pub record AreWeightLines (v : Value) (lines : List (List ℕ)) : Type 0 where
   pub first_is : IsDefaultLine default first
   pub others_are : AllZip IsWeightLine devices others
 
--- device_targets: io.latency. A device and its target latency a line.
-abbrev pub IsTargetLine : TargetLine → List ℕ → Type 0
-IsTargetLine t line = HasParts IsDevice (codes " target=") (IsDecimal 0 any_u64) t.device t.target line
+-- device_targets: io.latency. A device and its target latency a line. Where kernel, the device may be gone.
+abbrev pub IsTargetLine : Bool → TargetLine → List ℕ → Type 0
+IsTargetLine kernel t line = HasParts (IsDeviceName kernel) (codes " target=") (IsDecimal 0 any_u64) t.device t.target line
 
 -- partition: cpuset.cpus.partition. The role; of one that is not valid, also why, where that is known.
 abbrev pub role_text : Role → List ℕ

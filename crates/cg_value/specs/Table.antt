@@ -2,7 +2,7 @@
 -- Interface Files", "CPU", "Memory", "IO", "PID" and "Cpuset"). The bounds of cpu.weight as it is read include 0, which
 -- kernels print where a group is idle. The document is that of Linux 6.1.192:
 -- https://www.kernel.org/doc/html/v6.1/admin-guide/cgroup-v2.html.
-use Rattle.std.specs.Prelude.{ℕ, pos, negsuc, List, [], ◌∷◌, Option, Some, None, codes, if◌then◌else◌}
+use Rattle.std.specs.Prelude.{ℕ, false, pos, negsuc, List, [], ◌∷◌, Option, Some, None, codes, if◌then◌else◌}
 use Rattle.std.specs.Str.{bytes_eq}
 use Rattle.cg_value.specs.Kind.{any_u64}
 use Rattle.cg_value.specs.declared.kind.ReadForm.{ReadForm}
@@ -73,10 +73,10 @@ rows profile = row (codes "cgroup.type") (Some read.Mode) (Some write.Mode)
     ∷ row (codes "memory.reclaim") (None) (Some write.Reclaim)
     ∷ row (codes "memory.numa_stat") (Some (numa_stat profile)) (None)
     ∷ row (codes "memory.pressure") (Some read.Pressure) (Some write.Trigger)
-    ∷ row (codes "io.stat") (Some read.DeviceStats) (None)
-    ∷ row (codes "io.max") (Some read.DeviceLimits) (Some write.DeviceLimits)
+    ∷ row (codes "io.stat") (Some (read.DeviceStats false)) (None)
+    ∷ row (codes "io.max") (Some (read.DeviceLimits false)) (Some write.DeviceLimits)
     ∷ row (codes "io.weight") (Some read.DeviceWeights) (Some write.DeviceWeight)
-    ∷ row (codes "io.latency") (Some read.DeviceTargets) (Some write.DeviceTarget)
+    ∷ row (codes "io.latency") (Some (read.DeviceTargets false)) (Some write.DeviceTarget)
     ∷ row (codes "io.pressure") (Some read.Pressure) (Some write.Trigger)
     ∷ row (codes "irq.pressure") (Some read.Pressure) (Some write.Trigger)
     ∷ row (codes "pids.max") (Some read.Limit) (Some (write.Limit 0 4194304))

@@ -132,10 +132,10 @@ lines_can_end form.Clamp v first before after h = (v, one_line_ends (IsClamp Rea
 lines_can_end (form.Numbers lo hi) v first before after h = many_lines_end (IsDecimal lo hi) value.Numbers v (first ∷ before) after h
 lines_can_end form.Words v first before after h = (v, record { x = h.x; value = h.value; spelled = words_end h.x first before after h.spelled })
 lines_can_end form.Flat v first before after h = let front = flat_end h.x (first ∷ before) after h.spelled in (value.Flat front.0, record { x = front.0; value = refl; spelled = front.1 })
-lines_can_end form.DeviceStats v first before after h = many_lines_end IsStatLine value.DeviceStats v (first ∷ before) after h
-lines_can_end form.DeviceLimits v first before after h = many_lines_end IsLimitLine value.DeviceLimits v (first ∷ before) after h
+lines_can_end (form.DeviceStats kernel) v first before after h = many_lines_end (IsStatLine kernel) value.DeviceStats v (first ∷ before) after h
+lines_can_end (form.DeviceLimits kernel) v first before after h = many_lines_end (IsLimitLine kernel) value.DeviceLimits v (first ∷ before) after h
 lines_can_end form.DeviceWeights v first before after h = weights_end v first before after h
-lines_can_end form.DeviceTargets v first before after h = many_lines_end IsTargetLine value.DeviceTargets v (first ∷ before) after h
+lines_can_end (form.DeviceTargets kernel) v first before after h = many_lines_end (IsTargetLine kernel) value.DeviceTargets v (first ∷ before) after h
 lines_can_end (form.Set most) v first before after h = (v, one_line_ends (IsStrictList most) value.Set v first before after h)
 lines_can_end form.Partition v first before after h =
     (v, one_line_ends (λ (x : Role × Bool × Option (List ℕ)) line. IsPartition (x.0) (x.1) (x.2) line) (λ x. value.Partition (x.0) (x.1) (x.2)) v first before after h)

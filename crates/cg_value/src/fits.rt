@@ -7,7 +7,10 @@ ghost use Rattle.cg_value.specs.ReadLine.{ArePressureLines, AreWords, CanBeInval
 ghost use Rattle.cg_value.specs.SpelledLaws.{HasText, HasLines};
 
 use crate::kind::{ReadForm, ReadKind};
-use crate::spelled::{Spelled, are_keyed, are_spelled, are_within, is_between, is_raw, is_within};
+use crate::spelled::{
+    Spelled, are_keyed, are_limits, are_spelled, are_stats, are_targets, are_within, is_between,
+    is_raw, is_within,
+};
 use crate::value::{Averages, Role, Value};
 use cg_index::KeyedItems;
 use cg_text::{Items, Key, NumberSet};
@@ -89,12 +92,18 @@ impl Value {
             }
             (ReadForm::Words, Value::Words(words)) => are_words(words),
             (ReadForm::Flat, Value::Flat(flat)) => are_spelled(flat.pairs()),
-            (ReadForm::DeviceStats, Value::DeviceStats(lines)) => are_spelled(lines.as_slice()),
-            (ReadForm::DeviceLimits, Value::DeviceLimits(lines)) => are_spelled(lines.as_slice()),
+            (ReadForm::DeviceStats { kernel }, Value::DeviceStats(lines)) => {
+                are_stats(kernel, lines.as_slice())
+            }
+            (ReadForm::DeviceLimits { kernel }, Value::DeviceLimits(lines)) => {
+                are_limits(kernel, lines.as_slice())
+            }
             (ReadForm::DeviceWeights, Value::DeviceWeights { default, lines }) => {
                 is_within(1, 10_000, *default) && are_spelled(lines.as_slice())
             }
-            (ReadForm::DeviceTargets, Value::DeviceTargets(lines)) => are_spelled(lines.as_slice()),
+            (ReadForm::DeviceTargets { kernel }, Value::DeviceTargets(lines)) => {
+                are_targets(kernel, lines.as_slice())
+            }
             (ReadForm::Set { most }, Value::Set(set)) => is_set_within(most, set),
             (
                 ReadForm::Partition,

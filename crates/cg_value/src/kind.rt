@@ -25,14 +25,15 @@ pub enum ReadForm {
     Words,
     /// Flat keyed: a key and a number a line.
     Flat,
-    /// A device a line, with pairs of a sub-key and an amount.
-    DeviceStats,
-    /// A device a line, with its four limits.
-    DeviceLimits,
+    /// A device a line, with pairs of a sub-key and an amount. Where `kernel`, a device may be gone, and an amount be
+    /// below 0.
+    DeviceStats { kernel: bool },
+    /// A device a line, with its four limits. Where `kernel`, a device may be gone.
+    DeviceLimits { kernel: bool },
     /// A default weight, and then a device a line with its weight.
     DeviceWeights,
-    /// A device a line, with its target latency in microseconds.
-    DeviceTargets,
+    /// A device a line, with its target latency in microseconds. Where `kernel`, a device may be gone.
+    DeviceTargets { kernel: bool },
     /// A set of numbers of at most `most`, as a list of ranges.
     Set { most: u32 },
     /// The role of a cpuset partition, and whether it is valid.
@@ -134,10 +135,10 @@ impl ReadKind {
             ReadForm::Numbers { .. } => "numbers",
             ReadForm::Words => "words",
             ReadForm::Flat => "flat",
-            ReadForm::DeviceStats => "device_stats",
-            ReadForm::DeviceLimits => "device_limits",
+            ReadForm::DeviceStats { .. } => "device_stats",
+            ReadForm::DeviceLimits { .. } => "device_limits",
             ReadForm::DeviceWeights => "device_weights",
-            ReadForm::DeviceTargets => "device_targets",
+            ReadForm::DeviceTargets { .. } => "device_targets",
             ReadForm::Set { .. } => "set",
             ReadForm::Partition => "partition",
             ReadForm::Pressure => "pressure",

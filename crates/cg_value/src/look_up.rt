@@ -1,6 +1,6 @@
 //! Look-ups in values.
 ghost use Rattle.std.specs.Prelude.{◌≡◌};
-ghost use Rattle.cg_value.specs.LookUp.{number_in, pair_amount, line_amount, amount_in, line_weight, weight_in};
+ghost use Rattle.cg_value.specs.LookUp.{is_of, number_in, pair_amount, line_amount, amount_in, line_weight, weight_in};
 
 use crate::value::{StatLine, StatPair, Value, WeightLine};
 use cg_index::KeyedItems;
@@ -14,12 +14,22 @@ fn pair_amount(pairs: &KeyedItems<StatPair>, key: &[u8]) -> Option<Amount>
     Some(pair.amount)
 }
 
+/// Whether a line's device is this one.
+fn is_of(own: Option<Device>, device: Device) -> bool
+    ensures { result ≡ is_of own device }
+{
+    match own {
+        Some(own) => own == device,
+        None => false,
+    }
+}
+
 /// The amount of the sub-key in the first line of the device that has it.
 fn line_amount(lines: &[StatLine], device: Device, key: &[u8]) -> Option<Amount>
     ensures { result ≡ line_amount device key.now lines.now }
 {
     for line in lines {
-        if line.device == device {
+        if is_of(line.device, device) {
             if let Some(amount) = pair_amount(&line.pairs, key) {
                 return Some(amount);
             }

@@ -4,7 +4,7 @@ ghost use Rattle.std.specs.List.{AllZip};
 ghost use Rattle.cg_text.specs.Amount.{IsAmount};
 ghost use Rattle.cg_text.specs.Clamp.{IsClamp};
 ghost use Rattle.cg_text.specs.Decimal.{IsDecimal};
-ghost use Rattle.cg_text.specs.Device.{IsDevice};
+ghost use Rattle.cg_text.specs.Device.{IsDevice, IsDeviceName};
 ghost use Rattle.cg_text.specs.Distinct.{AreDistinct};
 ghost use Rattle.cg_text.specs.Hundredths.{IsHundredths};
 ghost use Rattle.cg_text.specs.Limit.{IsLimit};
@@ -120,17 +120,16 @@ impl Spelled for Clamp {
     }
 }
 
-impl Spelled for Amount {
-    ghost spells = { IsAmount false };
-
-    #[tactic(auto, using(crate::specs::SpelledLaws::max_amount))]
-    fn is_spelled(&self) -> bool {
-        match self {
-            Amount::Whole(number) => number.is_spelled(),
-            Amount::Decimal(number) => is_at_most(99_999_999_999, *number),
-            Amount::Max => true,
-            Amount::Below(_) => false,
-        }
+/// Whether some text spells the amount. Where `signed`, it may be below 0.
+#[tactic(auto, using(crate::specs::SpelledLaws::amount_laws))]
+fn is_amount(signed: bool, amount: &Amount) -> bool
+    ensures { IsTrue result ↔ HasText (IsAmount signed amount.now) }
+{
+    match amount {
+        Amount::Whole(number) => number.is_spelled(),
+        Amount::Decimal(number) => is_at_most(99_999_999_999, *number),
+        Amount::Max => true,
+        Amount::Below(number) => signed && is_within(1, 2_147_483_648, *number),
     }
 }
 
@@ -140,6 +139,17 @@ impl Spelled for Device {
     #[tactic(auto, using(crate::specs::SpelledLaws::device_text))]
     fn is_spelled(&self) -> bool {
         is_within(0, 4095, u64::from(self.major)) && is_within(0, 1_048_575, u64::from(self.minor))
+    }
+}
+
+/// Whether some text spells the device. Where `unknown`, it may be one that is gone.
+#[tactic(auto, using(crate::specs::SpelledLaws::gone_text))]
+fn is_device_name(unknown: bool, device: &Option<Device>) -> bool
+    ensures { IsTrue result ↔ HasText (IsDeviceName unknown device.now) }
+{
+    match device {
+        Some(device) => device.is_spelled(),
+        None => unknown,
     }
 }
 
@@ -161,31 +171,51 @@ impl Spelled for FlatPair {
     }
 }
 
-impl Spelled for StatPair {
-    ghost spells = { IsStatPair };
-
-    #[tactic(auto, using(crate::specs::SpelledLaws::stat_pair_text))]
-    fn is_spelled(&self) -> bool {
-        self.key.is_spelled() && self.amount.is_spelled()
-    }
+/// Whether some text spells the pair.
+#[tactic(auto, using(crate::specs::SpelledLaws::stat_pair_text))]
+fn is_stat_pair(kernel: bool, pair: &StatPair) -> bool
+    ensures { IsTrue result ↔ HasText (IsStatPair kernel pair.now) }
+{
+    pair.key.is_spelled() && is_amount(kernel, &pair.amount)
 }
 
-impl Spelled for StatLine {
-    ghost spells = { IsStatLine };
-
-    #[tactic(auto, using(crate::specs::SpelledLaws::stat_text))]
-    fn is_spelled(&self) -> bool {
-        self.device.is_spelled() && are_keyed(&self.pairs)
-    }
+/// Whether some text spells each of the pairs. No two have one key.
+fn are_stat_pairs(kernel: bool, pairs: &KeyedItems<StatPair>) -> bool
+    ensures { IsTrue result ↔ (HasLines (AllZip (IsStatPair kernel) pairs.now) ×
+        AreDistinct (map (λ p. p.key) pairs.now)) }
+{
+    pairs.cells().iter().all(|cell| is_stat_pair(kernel, &cell.item))
 }
 
-impl Spelled for LimitLine {
-    ghost spells = { IsLimitLine };
+/// Whether some text spells the line of a device.
+#[tactic(auto, using(crate::specs::SpelledLaws::stat_text))]
+fn is_stat(kernel: bool, line: &StatLine) -> bool
+    ensures { IsTrue result ↔ HasText (IsStatLine kernel line.now) }
+{
+    is_device_name(kernel, &line.device) && are_stat_pairs(kernel, &line.pairs)
+}
 
-    #[tactic(auto, using(crate::specs::SpelledLaws::limits_text))]
-    fn is_spelled(&self) -> bool {
-        self.device.is_spelled() && are_spelled(&[self.rbps, self.wbps, self.riops, self.wiops])
-    }
+/// Whether some text spells each of the lines. Where `kernel`, a device may be gone, and an amount be below 0.
+pub(crate) fn are_stats(kernel: bool, lines: &[StatLine]) -> bool
+    ensures { IsTrue result ↔ HasLines (AllZip (IsStatLine kernel) lines.now) }
+{
+    lines.iter().all(|line| is_stat(kernel, line))
+}
+
+/// Whether some text spells the limits of a device.
+#[tactic(auto, using(crate::specs::SpelledLaws::limits_text))]
+fn is_limits(kernel: bool, line: &LimitLine) -> bool
+    ensures { IsTrue result ↔ HasText (IsLimitLine kernel line.now) }
+{
+    is_device_name(kernel, &line.device)
+        && are_spelled(&[line.rbps, line.wbps, line.riops, line.wiops])
+}
+
+/// Whether some text spells each of the lines. Where `kernel`, a device may be gone.
+pub(crate) fn are_limits(kernel: bool, lines: &[LimitLine]) -> bool
+    ensures { IsTrue result ↔ HasLines (AllZip (IsLimitLine kernel) lines.now) }
+{
+    lines.iter().all(|line| is_limits(kernel, line))
 }
 
 impl Spelled for WeightLine {
@@ -197,13 +227,19 @@ impl Spelled for WeightLine {
     }
 }
 
-impl Spelled for TargetLine {
-    ghost spells = { IsTargetLine };
+/// Whether some text spells the target latency of a device.
+#[tactic(auto, using(crate::specs::SpelledLaws::target_text))]
+fn is_target(kernel: bool, line: &TargetLine) -> bool
+    ensures { IsTrue result ↔ HasText (IsTargetLine kernel line.now) }
+{
+    is_device_name(kernel, &line.device) && line.target.is_spelled()
+}
 
-    #[tactic(auto, using(crate::specs::SpelledLaws::target_text))]
-    fn is_spelled(&self) -> bool {
-        self.device.is_spelled() && self.target.is_spelled()
-    }
+/// Whether some text spells each of the lines. Where `kernel`, a device may be gone.
+pub(crate) fn are_targets(kernel: bool, lines: &[TargetLine]) -> bool
+    ensures { IsTrue result ↔ HasLines (AllZip (IsTargetLine kernel) lines.now) }
+{
+    lines.iter().all(|line| is_target(kernel, line))
 }
 
 impl Spelled for Averages {

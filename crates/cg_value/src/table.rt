@@ -289,12 +289,12 @@ static ROWS: [Row; 60] = [
     },
     Row {
         name: b"io.stat",
-        reads: Some(ReadForm::DeviceStats),
+        reads: Some(ReadForm::DeviceStats { kernel: false }),
         writes: None,
     },
     Row {
         name: b"io.max",
-        reads: Some(ReadForm::DeviceLimits),
+        reads: Some(ReadForm::DeviceLimits { kernel: false }),
         writes: Some(WriteForm::DeviceLimits),
     },
     Row {
@@ -304,7 +304,7 @@ static ROWS: [Row; 60] = [
     },
     Row {
         name: b"io.latency",
-        reads: Some(ReadForm::DeviceTargets),
+        reads: Some(ReadForm::DeviceTargets { kernel: false }),
         writes: Some(WriteForm::DeviceTarget),
     },
     Row {

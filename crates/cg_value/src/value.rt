@@ -95,18 +95,19 @@ impl HasKey for StatPair {
     }
 }
 
-/// What a device did (cgroup-v2.rst, io.stat). Where `pad` is true, a space of its own follows the device.
+/// What a device did (cgroup-v2.rst, io.stat). Where `pad` is true, a space of its own follows the device. None stands
+/// for a device that is gone.
 #[derive(Debug, Drop, PartialEq)]
 pub struct StatLine {
-    pub device: Device,
+    pub device: Option<Device>,
     pub pad: bool,
     pub pairs: KeyedItems<StatPair>,
 }
 
-/// The limits of a device, in bytes and operations a second (cgroup-v2.rst, io.max).
+/// The limits of a device, in bytes and operations a second (cgroup-v2.rst, io.max). None stands for one that is gone.
 #[derive(Clone, Copy, Debug, Drop, PartialEq, Eq)]
 pub struct LimitLine {
-    pub device: Device,
+    pub device: Option<Device>,
     pub rbps: Limit,
     pub wbps: Limit,
     pub riops: Limit,
@@ -120,10 +121,10 @@ pub struct WeightLine {
     pub weight: u64,
 }
 
-/// The target latency of a device, in microseconds (cgroup-v2.rst, io.latency).
+/// The target latency of a device, in microseconds (cgroup-v2.rst, io.latency). None stands for one that is gone.
 #[derive(Clone, Copy, Debug, Drop, PartialEq, Eq)]
 pub struct TargetLine {
-    pub device: Device,
+    pub device: Option<Device>,
     pub target: u64,
 }
 

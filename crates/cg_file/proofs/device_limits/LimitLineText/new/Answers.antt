@@ -20,15 +20,15 @@ new-four-requires c =
     let two = sequence_spells riops wiops c.new-two.ensures.spells in
     apart_spells (label_spells c.limit_in-4.ensures.spells c.labelled-rbps.ensures.spells) (sequence_spells wbps two c.new-three.ensures.spells) limits_first
 
-pub new-requires-2 : goal.new-requires-2
-new-requires-2 c =
+pub new-requires : goal.new-requires
+new-requires c =
     let wiops = label_spells c.limit_in.ensures.spells c.labelled-wiops.ensures.spells in
     let riops = label_spells c.limit_in-2.ensures.spells c.labelled-riops.ensures.spells in
     let wbps = label_spells c.limit_in-3.ensures.spells c.labelled-wbps.ensures.spells in
     let rbps = label_spells c.limit_in-4.ensures.spells c.labelled-rbps.ensures.spells in
     let two = sequence_spells riops wiops c.new-two.ensures.spells in
     let three = sequence_spells wbps two c.new-three.ensures.spells in
-    apart_spells c.new.ensures.spells (sequence_spells rbps three c.new-four.ensures.spells) device_before_limits
+    apart_spells c.device_name.ensures.spells (sequence_spells rbps three c.new-four.ensures.spells) (device_before_limits c.args.kernel)
 
 pub returns-clause-spells : goal.returns-clause-spells
 returns-clause-spells c =
@@ -39,5 +39,5 @@ returns-clause-spells c =
     let two = sequence_spells riops wiops c.new-two.ensures.spells in
     let three = sequence_spells wbps two c.new-three.ensures.spells in
     let four = sequence_spells rbps three c.new-four.ensures.spells in
-    let whole = spells_as (mapped_spells limit_line (sequence_spells c.new.ensures.spells four c.new-2.ensures.spells) c.new-3.ensures.spells) limits_is in
+    let whole = spells_as (mapped_spells limit_line (sequence_spells c.device_name.ensures.spells four c.new.ensures.spells) c.new-2.ensures.spells) (limits_is c.args.kernel) in
     record { is = whole.is }
