@@ -4,6 +4,7 @@ use Rattle.cg_value.specs.declared.value.Value.{Value}
 use Rattle.cg_file.specs.contracts.clamp.ClampFileToken.TheImpl as clamp
 use Rattle.cg_file.specs.contracts.cpu_max.CpuMaxFileToken.TheImpl as cpu_max
 use Rattle.cg_file.specs.contracts.device_limits.DeviceLimitsFileToken.TheImpl as device_limits
+use Rattle.cg_file.specs.contracts.device_params.DeviceParamsFileToken.TheImpl as device_params
 use Rattle.cg_file.specs.contracts.device_stats.DeviceStatsFileToken.TheImpl as device_stats
 use Rattle.cg_file.specs.contracts.device_targets.DeviceTargetsFileToken.TheImpl as device_targets
 use Rattle.cg_file.specs.contracts.device_weights.DeviceWeightsFileToken.TheImpl as device_weights
@@ -36,6 +37,7 @@ file_rests (text.DeviceStats t) = device_stats.ghosts.means t
 file_rests (text.DeviceLimits t) = device_limits.ghosts.means t
 file_rests (text.DeviceWeights t) = device_weights.ghosts.means t
 file_rests (text.DeviceTargets t) = device_targets.ghosts.means t
+file_rests (text.DeviceParams t) = device_params.ghosts.means t
 file_rests (text.Set t) = set.ghosts.means t
 file_rests (text.Partition t) = partition.ghosts.means t
 file_rests (text.Pressure t) = pressure.ghosts.means t
@@ -56,6 +58,7 @@ file_size (text.DeviceStats t) = device_stats.ghosts.size t
 file_size (text.DeviceLimits t) = device_limits.ghosts.size t
 file_size (text.DeviceWeights t) = device_weights.ghosts.size t
 file_size (text.DeviceTargets t) = device_targets.ghosts.size t
+file_size (text.DeviceParams t) = device_params.ghosts.size t
 file_size (text.Set t) = set.ghosts.size t
 file_size (text.Partition t) = partition.ghosts.size t
 file_size (text.Pressure t) = pressure.ghosts.size t
@@ -76,6 +79,7 @@ file_ends (text.DeviceStats t) = device_stats.ghosts.ends t
 file_ends (text.DeviceLimits t) = device_limits.ghosts.ends t
 file_ends (text.DeviceWeights t) = device_weights.ghosts.ends t
 file_ends (text.DeviceTargets t) = device_targets.ghosts.ends t
+file_ends (text.DeviceParams t) = device_params.ghosts.ends t
 file_ends (text.Set t) = set.ghosts.ends t
 file_ends (text.Partition t) = partition.ghosts.ends t
 file_ends (text.Pressure t) = pressure.ghosts.ends t

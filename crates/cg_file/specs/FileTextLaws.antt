@@ -5,6 +5,7 @@ use Rattle.cg_file.specs.FileText.{file_ends, file_rests}
 use Rattle.cg_file.specs.contracts.clamp.ClampFileToken.TheImpl as clamp
 use Rattle.cg_file.specs.contracts.cpu_max.CpuMaxFileToken.TheImpl as cpu_max
 use Rattle.cg_file.specs.contracts.device_limits.DeviceLimitsFileToken.TheImpl as device_limits
+use Rattle.cg_file.specs.contracts.device_params.DeviceParamsFileToken.TheImpl as device_params
 use Rattle.cg_file.specs.contracts.device_stats.DeviceStatsFileToken.TheImpl as device_stats
 use Rattle.cg_file.specs.contracts.device_targets.DeviceTargetsFileToken.TheImpl as device_targets
 use Rattle.cg_file.specs.contracts.device_weights.DeviceWeightsFileToken.TheImpl as device_weights
@@ -37,6 +38,7 @@ file_completes (text.DeviceStats t) = device_stats.ghosts.completes t
 file_completes (text.DeviceLimits t) = device_limits.ghosts.completes t
 file_completes (text.DeviceWeights t) = device_weights.ghosts.completes t
 file_completes (text.DeviceTargets t) = device_targets.ghosts.completes t
+file_completes (text.DeviceParams t) = device_params.ghosts.completes t
 file_completes (text.Set t) = set.ghosts.completes t
 file_completes (text.Partition t) = partition.ghosts.completes t
 file_completes (text.Pressure t) = pressure.ghosts.completes t
@@ -57,6 +59,7 @@ file_ends_is (text.DeviceStats t) = device_stats.ghosts.ends_is t
 file_ends_is (text.DeviceLimits t) = device_limits.ghosts.ends_is t
 file_ends_is (text.DeviceWeights t) = device_weights.ghosts.ends_is t
 file_ends_is (text.DeviceTargets t) = device_targets.ghosts.ends_is t
+file_ends_is (text.DeviceParams t) = device_params.ghosts.ends_is t
 file_ends_is (text.Set t) = set.ghosts.ends_is t
 file_ends_is (text.Partition t) = partition.ghosts.ends_is t
 file_ends_is (text.Pressure t) = pressure.ghosts.ends_is t
@@ -77,6 +80,7 @@ file_one_value (text.DeviceStats t) = device_stats.ghosts.one_value t
 file_one_value (text.DeviceLimits t) = device_limits.ghosts.one_value t
 file_one_value (text.DeviceWeights t) = device_weights.ghosts.one_value t
 file_one_value (text.DeviceTargets t) = device_targets.ghosts.one_value t
+file_one_value (text.DeviceParams t) = device_params.ghosts.one_value t
 file_one_value (text.Set t) = set.ghosts.one_value t
 file_one_value (text.Partition t) = partition.ghosts.one_value t
 file_one_value (text.Pressure t) = pressure.ghosts.one_value t
@@ -97,6 +101,7 @@ file_holds_bytes (text.DeviceStats t) = device_stats.ghosts.holds_bytes t
 file_holds_bytes (text.DeviceLimits t) = device_limits.ghosts.holds_bytes t
 file_holds_bytes (text.DeviceWeights t) = device_weights.ghosts.holds_bytes t
 file_holds_bytes (text.DeviceTargets t) = device_targets.ghosts.holds_bytes t
+file_holds_bytes (text.DeviceParams t) = device_params.ghosts.holds_bytes t
 file_holds_bytes (text.Set t) = set.ghosts.holds_bytes t
 file_holds_bytes (text.Partition t) = partition.ghosts.holds_bytes t
 file_holds_bytes (text.Pressure t) = pressure.ghosts.holds_bytes t

@@ -31,11 +31,13 @@ use Rattle.cg_file.specs.NestedFileLaws.{nested_value}
 use Rattle.cg_file.specs.OneLineTurned.{set_value}
 use Rattle.cg_file.specs.PartitionFileLaws.{partition_held}
 use Rattle.cg_file.specs.PartitionTurned.{InvalidValue, ReasonValue, RootValue, partition_value}
+use Rattle.cg_file.specs.ParamFileLaws.{device_params_value, params_held, params_size}
 use Rattle.cg_file.specs.StatFileLaws.{stat_size, stats_value, stats_held}
 use Rattle.cg_file.specs.RawFileLaws.{raw_file_held}
 use Rattle.cg_file.specs.LineHeldLaws.{bare_lines_held, bare_lines_held_after, flat_held, line_held, nested_held, words_held}
 use Rattle.cg_file.specs.WeightFileLaws.{weights_value}
 use Rattle.cg_file.specs.WordsTurned.{words_value}
+use Rattle.cg_file.specs.contracts.device_params.ParamLineTextToken.TheImpl as param_line
 use Rattle.cg_file.specs.contracts.device_stats.StatLineTextToken.TheImpl as stat_line
 use Rattle.cg_file.specs.contracts.partition.InvalidTextToken.TheImpl as invalid
 use Rattle.cg_file.specs.contracts.partition.RootTextToken.TheImpl as root
@@ -48,6 +50,7 @@ use Rattle.cg_file.specs.declared.partition.WhyText.{WhyText}
 use Rattle.cg_file.specs.contracts.clamp.ClampFileToken.TheImpl as clamp
 use Rattle.cg_file.specs.contracts.cpu_max.CpuMaxFileToken.TheImpl as cpu_max
 use Rattle.cg_file.specs.contracts.device_limits.DeviceLimitsFileToken.TheImpl as device_limits
+use Rattle.cg_file.specs.contracts.device_params.DeviceParamsFileToken.TheImpl as device_params
 use Rattle.cg_file.specs.contracts.device_stats.DeviceStatsFileToken.TheImpl as device_stats
 use Rattle.cg_file.specs.contracts.device_targets.DeviceTargetsFileToken.TheImpl as device_targets
 use Rattle.cg_file.specs.contracts.device_weights.DeviceWeightsFileToken.TheImpl as device_weights
@@ -67,6 +70,7 @@ use Rattle.cg_file.specs.contracts.words.WordsFileToken.TheImpl as words
 use Rattle.cg_file.specs.declared.clamp.ClampFile.{ClampFile}
 use Rattle.cg_file.specs.declared.cpu_max.CpuMaxFile.{CpuMaxFile}
 use Rattle.cg_file.specs.declared.device_limits.DeviceLimitsFile.{DeviceLimitsFile}
+use Rattle.cg_file.specs.declared.device_params.DeviceParamsFile.{DeviceParamsFile}
 use Rattle.cg_file.specs.declared.device_stats.DeviceStatsFile.{DeviceStatsFile}
 use Rattle.cg_file.specs.declared.device_targets.DeviceTargetsFile.{DeviceTargetsFile}
 use Rattle.cg_file.specs.declared.device_weights.DeviceWeightsFile.{DeviceWeightsFile}
@@ -161,6 +165,11 @@ device_targets_settled s v h =
     let l = s.text.token in
     turned_settled targets_value _ (items_size (λ _. 0)) held_of_whole h.0 v h.2 (lines_settled _ _ l.end l.items.items l.begun (λ _. 0) 0 l.fresh h.0 h.1) (bare_lines_held _ h.0)
 
+device_params_settled : (s : DeviceParamsFile) (v : Value) → device_params.ghosts.means s [] v → device_params.ghosts.size s ≤ held_of_whole v
+device_params_settled s v h =
+    let l = s.text.token in
+    turned_settled device_params_value _ (items_size params_size) held_of_whole h.0 v h.2 (lines_settled _ _ l.end l.items.items l.begun params_size (param_line.ghosts.size l.current) l.fresh h.0 h.1) (params_held h.0)
+
 set_settled : (s : SetFile) (v : Value) → set.ghosts.means s [] v → set.ghosts.size s ≤ held_of_whole v
 set_settled s v h =
     let q = s.text.token in
@@ -225,6 +234,7 @@ file_settled (text.DeviceStats t) = device_stats_settled t
 file_settled (text.DeviceLimits t) = device_limits_settled t
 file_settled (text.DeviceWeights t) = device_weights_settled t
 file_settled (text.DeviceTargets t) = device_targets_settled t
+file_settled (text.DeviceParams t) = device_params_settled t
 file_settled (text.Set t) = set_settled t
 file_settled (text.Partition t) = partition_settled t
 file_settled (text.Pressure t) = pressure_settled t

@@ -22,6 +22,7 @@ pub mod OneOrBothLaws
 pub mod OneValueLaws
 pub mod Pad
 pub mod PadLaws
+pub mod ParamFileLaws
 pub mod PartitionFileLaws
 pub mod PartitionTurned
 pub mod PressureFileLaws

@@ -48,7 +48,7 @@ use Rattle.cg_value.specs.LineLaws.{plain_lines}
 use Rattle.cg_value.specs.Lines.{AreLinesOf, IsOneLine, unlines}
 use Rattle.cg_value.specs.Print.{print_of}
 use Rattle.cg_value.specs.PrintLaws.{print_fits}
-use Rattle.cg_value.specs.ReadLine.{AreAverages, AreFlatLines, AreNestedLines, ArePressureLines, AreWeightLines, AreWords, IsCpuMax, IsDefaultLine, IsFlatLine, IsLimitLine, IsMode, IsNestedLine}
+use Rattle.cg_value.specs.ReadLine.{AreAverages, AreFlatLines, AreNestedLines, ArePressureLines, AreWeightLines, AreWords, IsCpuMax, IsDefaultLine, IsFlatLine, IsLimitLine, IsMode, IsNestedLine, IsParamLine}
 use Rattle.cg_value.specs.ReadLine.{IsPartition, IsPressureLine, IsRaw, IsStatLine, IsTargetLine, IsWeightLine, mode_text, words_line}
 use Rattle.cg_value.specs.TableLaws.{read_form_ok}
 use Rattle.cg_value.specs.declared.flat.FlatPair.{FlatPair}
@@ -75,6 +75,7 @@ use Rattle.cg_file.specs.PartitionFileLaws.{member_differs, partition_is}
 use Rattle.cg_file.specs.PartitionTurned.{IsInvalidText, IsReasonText, IsRootText, IsRootWord, partition_parts}
 use Rattle.cg_file.specs.PressureFileLaws.{AveragesValues, averages_from, line_averages, values_of}
 use Rattle.cg_file.specs.StartableLaws.{Startable, decimal_startable, hundredths_startable, limit_startable}
+use Rattle.cg_file.specs.ParamFileLaws.{params_startable}
 use Rattle.cg_file.specs.StatFileLaws.{stat_startable}
 use Rattle.cg_file.specs.WordsFileLaws.{line_joined}
 
@@ -318,6 +319,7 @@ lines_value (form.DeviceStats kernel) v w lines h k = many_lines (IsStatLine ker
 lines_value (form.DeviceLimits kernel) v w lines h k = many_lines (IsLimitLine kernel) value.DeviceLimits (limits_startable kernel).one v w lines h k
 lines_value form.DeviceWeights v w lines h k = weights_one v w lines h k
 lines_value (form.DeviceTargets kernel) v w lines h k = many_lines (IsTargetLine kernel) value.DeviceTargets (target_startable kernel).one v w lines h k
+lines_value form.DeviceParams v w lines h k = many_lines IsParamLine value.DeviceParams params_startable.one v w lines h k
 lines_value (form.Set most) v w lines h k = one_line (IsStrictList most) value.Set (set_one most) v w lines h k
 lines_value form.Partition v w lines h k = one_line (λ (x : Role × Bool × Option (List ℕ)) line. IsPartition (x.0) (x.1) (x.2) line) (λ x. value.Partition (x.0) (x.1) (x.2)) partition_one v w lines h k
 lines_value form.Pressure v w lines h k = made_one (λ (x : Option Averages × Option Averages) ls. ArePressureLines (x.0) (x.1) ls) (λ x. value.Pressure (x.0) (x.1))

@@ -8,7 +8,10 @@ use Rattle.cg_text.specs.HundredthsLaws.{hundredths_new, hundredths_completes, h
 use Rattle.cg_text.specs.HundredthsState.{WholePart}
 use Rattle.cg_text.specs.KeywordLaws.{keyword_bytes}
 use Rattle.cg_text.specs.Limit.{IsLimit}
+use Rattle.cg_text.specs.Name.{IsNameValue}
+use Rattle.cg_text.specs.Param.{IsParam}
 use Rattle.cg_text.specs.Token.{AreBytes, HasOneText}
+use Rattle.cg_text.specs.WordLaws.{words_bytes}
 use Rattle.cg_text.specs.declared.decimal.Progress.TheVariants.{Start}
 use Rattle.cg_text.specs.declared.hundredths.Form.TheVariants.{Read}
 use Rattle.cg_text.specs.declared.hundredths.Part.TheVariants.{Whole}
@@ -25,6 +28,8 @@ use Rattle.cg_join.specs.Join.{IsPair}
 use Rattle.cg_join.specs.LimitLaws.{limit_is}
 use Rattle.cg_join.specs.LimitState.{limit_of}
 use Rattle.cg_join.specs.MaxLaws.{max_not_decimal}
+use Rattle.cg_join.specs.ParamLaws.{IsName, name_not_number, param_is}
+use Rattle.cg_join.specs.ParamState.{param_of}
 use Rattle.cg_join.specs.SequenceLaws.{sequence_completes, sequence_one, both_same}
 use Rattle.cg_join.specs.Spelling.{IsAllowed, IsConcat, IsEither, IsTurned, Apart, Disjoint}
 use Rattle.cg_join.specs.StartLaws.{some_decimal, one_decimal, decimal_bytes}
@@ -140,3 +145,18 @@ device_startable =
 pub device_name_startable : (unknown : Bool) → Startable (λ text device. IsDeviceName unknown device text)
 device_name_startable unknown =
     startable_as (device_name_is unknown) (turned_startable device_named (conditional_startable unknown device_not_gone device_startable (fixed_startable (codes "(unknown)") (keyword_bytes Unknown))))
+
+name_bytes : (text : List ℕ) → IsNameValue text → AreBytes text
+name_bytes [] h = absurd h
+name_bytes (c ∷ cs) h = words_bytes (c ∷ cs) h.1.1
+
+pub name_startable : Startable IsName
+name_startable = record {
+  some = (97 ∷ [], 97 ∷ [], (refl, ((omega arith, omega arith), (omega arith, ((omega arith, omega arith, (λ e. omega (arith, e))), tt)))));
+  one = λ text v w h k. h.0 ∙ sym k.0;
+  bytes = λ text name h. name_bytes text h.1;
+}
+
+pub param_startable : Startable (λ text v. IsParam v text)
+param_startable = startable_as param_is (turned_startable param_of (either_startable name_not_number name_startable
+    (either_startable whole_not_fraction (decimal_startable (omega arith)) (hundredths_startable 99999999999))))

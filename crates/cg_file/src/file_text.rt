@@ -10,6 +10,7 @@ ghost use Rattle.cg_file.specs.Kinds.{TextsOf};
 use crate::clamp::ClampFile;
 use crate::cpu_max::CpuMaxFile;
 use crate::device_limits::DeviceLimitsFile;
+use crate::device_params::DeviceParamsFile;
 use crate::device_stats::DeviceStatsFile;
 use crate::device_targets::DeviceTargetsFile;
 use crate::device_weights::DeviceWeightsFile;
@@ -47,6 +48,7 @@ pub enum FileText {
     DeviceLimits(DeviceLimitsFile),
     DeviceWeights(DeviceWeightsFile),
     DeviceTargets(DeviceTargetsFile),
+    DeviceParams(DeviceParamsFile),
     Set(SetFile),
     Partition(PartitionFile),
     Pressure(PressureFile),
@@ -71,6 +73,7 @@ macro_rules! with_text {
             FileText::DeviceLimits($text) => $call,
             FileText::DeviceWeights($text) => $call,
             FileText::DeviceTargets($text) => $call,
+            FileText::DeviceParams($text) => $call,
             FileText::Set($text) => $call,
             FileText::Partition($text) => $call,
             FileText::Pressure($text) => $call,
@@ -106,6 +109,7 @@ fn text_of(alloc: Global, form: ReadForm) -> FileText
         ReadForm::DeviceTargets { kernel } => {
             FileText::DeviceTargets(DeviceTargetsFile::new(alloc, kernel))
         }
+        ReadForm::DeviceParams => FileText::DeviceParams(DeviceParamsFile::new(alloc)),
         ReadForm::Set { most } => FileText::Set(SetFile::new(alloc, most)),
         ReadForm::Partition => FileText::Partition(PartitionFile::new(alloc)),
         ReadForm::Pressure => FileText::Pressure(PressureFile::new()),
@@ -154,6 +158,7 @@ impl FileText {
             FileText::DeviceStats(text) => text.take_line(line, b'\n'),
             FileText::DeviceLimits(text) => text.take_line(line, b'\n'),
             FileText::DeviceTargets(text) => text.take_line(line, b'\n'),
+            FileText::DeviceParams(text) => text.take_line(line, b'\n'),
             FileText::Nested(text) => text.take_line(line, b'\n'),
             _ => false,
         }
@@ -192,6 +197,7 @@ impl FileText {
             | FileText::DeviceStats(_)
             | FileText::DeviceLimits(_)
             | FileText::DeviceTargets(_)
+            | FileText::DeviceParams(_)
             | FileText::Nested(_) => self.take_ended(bytes),
             _ => 0,
         }

@@ -5,6 +5,7 @@ pub mod branch;
 pub mod clamp;
 pub mod cpu_max;
 pub mod device_limits;
+pub mod device_params;
 pub mod device_stats;
 pub mod device_targets;
 pub mod device_weights;

@@ -21,13 +21,14 @@ use Rattle.cg_value.specs.ReadLine.{role_text}
 use Rattle.cg_value.specs.declared.value.Averages.{Averages}
 use Rattle.cg_value.specs.declared.value.LimitLine.{LimitLine}
 use Rattle.cg_value.specs.declared.value.Role.{Role}
+use Rattle.cg_value.specs.declared.value.ParamLine.{ParamLine}
 use Rattle.cg_value.specs.declared.value.StatLine.{StatLine}
 use Rattle.cg_value.specs.declared.value.TargetLine.{TargetLine}
 use Rattle.cg_value.specs.declared.value.WeightLine.{WeightLine}
 use Rattle.cg_json.specs.Compact.{led, joined, member_text, listed, ArePlain, IsPlainByte}
 use Rattle.cg_json.specs.Entry.{line_of}
-use Rattle.cg_json.specs.Json.{array_of, keyed, given_data, signed_data, text_data, limit_data, amount_data, device_data}
-use Rattle.cg_json.specs.Json.{cpu_max_data, stat_data, limits_data, weight_data, weights_data, target_data, partition_data, averages_data, pressure_data}
+use Rattle.cg_json.specs.Json.{array_of, keyed, given_data, signed_data, text_data, limit_data, amount_data, param_data, device_data}
+use Rattle.cg_json.specs.Json.{cpu_max_data, stat_data, limits_data, weight_data, weights_data, params_data, target_data, partition_data, averages_data, pressure_data}
 use Rattle.cg_json.specs.Value.{kind_word, value_data}
 
 -- ---- Parts one after another
@@ -123,6 +124,11 @@ weights_text default ls = refl
 pub target_text : (l : TargetLine) → compact_text (target_data l) ≡ codes "{\"device\":" ++ (compact_text (given_data device_data l.device) ++ (codes ",\"target\":" ++ (decimal l.target ++ 125 ∷ [])))
 unfolding serde_json_on_literals
 target_text l = refl
+
+pub params_text : (l : ParamLine)
+    → compact_text (params_data l) ≡ codes "{\"device\":" ++ (compact_text (given_data device_data l.device) ++ (codes ",\"params\":" ++ (compact_text (keyed (λ p. p.key) (λ p. param_data p.value) l.params) ++ 125 ∷ [])))
+unfolding serde_json_on_literals
+params_text l = refl
 
 pub averages_text : (a : Averages)
     → compact_text (averages_data a) ≡ codes "{\"avg10\":" ++ (decimal a.avg10.count ++ (codes ",\"avg300\":" ++ (decimal a.avg300.count

@@ -13,11 +13,14 @@ use Rattle.cg_text.specs.declared.values.Device.{Device}
 use Rattle.cg_text.specs.declared.values.Hundredths.{Hundredths}
 use Rattle.cg_text.specs.declared.values.Limit.{Limit}
 use Rattle.cg_text.specs.declared.values.Limit.TheVariants as limit
+use Rattle.cg_text.specs.declared.values.ParamValue.{ParamValue}
+use Rattle.cg_text.specs.declared.values.ParamValue.TheVariants as param
 use Rattle.cg_value.specs.Print.{print_device}
 use Rattle.cg_value.specs.ReadLine.{role_text}
 use Rattle.cg_value.specs.declared.value.Averages.{Averages}
 use Rattle.cg_value.specs.declared.value.LimitLine.{LimitLine}
 use Rattle.cg_value.specs.declared.value.NestedLine.{NestedLine}
+use Rattle.cg_value.specs.declared.value.ParamLine.{ParamLine}
 use Rattle.cg_value.specs.declared.value.Role.{Role}
 use Rattle.cg_value.specs.declared.value.StatLine.{StatLine}
 use Rattle.cg_value.specs.declared.value.TargetLine.{TargetLine}
@@ -74,6 +77,12 @@ amount_data (amount.Decimal h) = fields ((codes "hundredths", hundredths_data h)
 amount_data amount.Max = string (codes "max")
 amount_data (amount.Below n) = signed_data (below_zero n)
 
+-- A number, an object with its hundredths, or the name.
+abbrev pub param_data : ParamValue → Data
+param_data (param.Whole n) = number_data n
+param_data (param.Decimal h) = amount_data (amount.Decimal h)
+param_data (param.Name name) = string name
+
 -- Major and minor, as 8:0.
 abbrev pub device_data : Device → Data
 device_data d = string (print_device d)
@@ -99,6 +108,9 @@ weight_data l = fields ((codes "device", device_data l.device) ∷ (codes "weigh
 
 abbrev pub weights_data : ℕ → List WeightLine → Data
 weights_data default ls = fields ((codes "default", number_data default) ∷ (codes "devices", array_of weight_data ls) ∷ [])
+
+abbrev pub params_data : ParamLine → Data
+params_data l = fields ((codes "device", given_data device_data l.device) ∷ (codes "params", keyed (λ p. p.key) (λ p. param_data p.value) l.params) ∷ [])
 
 abbrev pub target_data : TargetLine → Data
 target_data l = fields ((codes "device", given_data device_data l.device) ∷ (codes "target", number_data l.target) ∷ [])

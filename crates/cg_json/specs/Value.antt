@@ -5,7 +5,7 @@ use Rattle.cg_value.specs.ReadLine.{mode_text}
 use Rattle.cg_value.specs.declared.value.Value.{Value}
 use Rattle.cg_value.specs.declared.value.Value.TheVariants as value
 use Rattle.cg_json.specs.Json.{array_of, keyed, number_data, signed_data, text_data, limit_data, clamp_data, range_data}
-use Rattle.cg_json.specs.Json.{cpu_max_data, stat_data, limits_data, weights_data, target_data, partition_data, pressure_data, nested_data}
+use Rattle.cg_json.specs.Json.{cpu_max_data, stat_data, limits_data, weights_data, target_data, params_data, partition_data, pressure_data, nested_data}
 
 -- The word of the kind of files that hold such a value.
 abbrev pub kind_word : Value → List ℕ
@@ -22,6 +22,7 @@ kind_word (value.DeviceStats ls) = codes "device_stats"
 kind_word (value.DeviceLimits ls) = codes "device_limits"
 kind_word (value.DeviceWeights default ls) = codes "device_weights"
 kind_word (value.DeviceTargets ls) = codes "device_targets"
+kind_word (value.DeviceParams ls) = codes "device_params"
 kind_word (value.Set rs) = codes "set"
 kind_word (value.Partition role valid reason) = codes "partition"
 kind_word (value.Pressure some full) = codes "pressure"
@@ -42,6 +43,7 @@ value_data (value.DeviceStats ls) = array_of stat_data ls
 value_data (value.DeviceLimits ls) = array_of limits_data ls
 value_data (value.DeviceWeights default ls) = weights_data default ls
 value_data (value.DeviceTargets ls) = array_of target_data ls
+value_data (value.DeviceParams ls) = array_of params_data ls
 value_data (value.Set rs) = array_of range_data rs
 value_data (value.Partition role valid reason) = partition_data role valid reason
 value_data (value.Pressure some full) = pressure_data some full

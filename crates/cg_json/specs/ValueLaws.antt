@@ -21,6 +21,7 @@ word_is (form.DeviceStats kernel) v f = ap kind_word f.spelled.value
 word_is (form.DeviceLimits kernel) v f = ap kind_word f.spelled.value
 word_is form.DeviceWeights v f = ap kind_word f.spelled.value
 word_is (form.DeviceTargets kernel) v f = ap kind_word f.spelled.value
+word_is form.DeviceParams v f = ap kind_word f.spelled.value
 word_is (form.Set most) v f = ap kind_word f.spelled.value
 word_is form.Partition v f = ap kind_word f.spelled.value
 word_is form.Pressure v f = ap kind_word f.spelled.value

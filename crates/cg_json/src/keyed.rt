@@ -1,11 +1,11 @@
 //! Pairs of a key and a number, and lines of such pairs.
-ghost use Rattle.cg_json.specs.Json.{keyed, number_data, amount_data, nested_data};
+ghost use Rattle.cg_json.specs.Json.{keyed, number_data, amount_data, param_data, nested_data};
 
 use crate::compact::append_object;
 use crate::json::{Json, object};
 use cg_index::{HasKey, KeyedItems};
 use cg_text::OutOfMemory;
-use cg_value::{FlatPair, NestedLine, NestedPair, StatPair};
+use cg_value::{FlatPair, NestedLine, NestedPair, ParamPair, StatPair};
 use serde_json::Value;
 use std::alloc::Global;
 
@@ -45,6 +45,19 @@ impl Json for StatPair {
 
     fn append_to(&self, out: &mut Vec<u8>) -> Result<(), OutOfMemory> {
         self.amount.append_to(out)
+    }
+}
+
+/// The parameter.
+impl Json for ParamPair {
+    ghost tree_of = { λ pair. param_data pair.value };
+
+    fn json(&self, alloc: Global) -> Result<Value, OutOfMemory> {
+        self.value.json(alloc)
+    }
+
+    fn append_to(&self, out: &mut Vec<u8>) -> Result<(), OutOfMemory> {
+        self.value.append_to(out)
     }
 }
 

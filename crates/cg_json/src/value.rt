@@ -30,6 +30,7 @@ pub(crate) fn kind_word(value: &Value) -> &'static str
         Value::DeviceLimits(_) => "device_limits",
         Value::DeviceWeights { .. } => "device_weights",
         Value::DeviceTargets(_) => "device_targets",
+        Value::DeviceParams(_) => "device_params",
         Value::Set(_) => "set",
         Value::Partition { .. } => "partition",
         Value::Pressure { .. } => "pressure",
@@ -57,6 +58,7 @@ impl Json for Value {
             Value::DeviceLimits(lines) => array(alloc, lines.as_slice()),
             Value::DeviceWeights { default, lines } => weights(alloc, *default, lines.as_slice()),
             Value::DeviceTargets(lines) => array(alloc, lines.as_slice()),
+            Value::DeviceParams(lines) => array(alloc, lines.as_slice()),
             Value::Set(set) => array(alloc, set.ranges()),
             Value::Partition {
                 role,
@@ -88,6 +90,7 @@ impl Json for Value {
                 lines.as_slice(),
             ),
             Value::DeviceTargets(lines) => append_array(out, lines.as_slice()),
+            Value::DeviceParams(lines) => append_array(out, lines.as_slice()),
             Value::Set(set) => append_array(out, set.ranges()),
             Value::Partition {
                 role,

@@ -53,6 +53,7 @@ pub(crate) fn append_value(
             lines.as_slice(),
         ),
         Value::DeviceTargets(lines) => append_lines(text, head, lines.as_slice()),
+        Value::DeviceParams(lines) => append_lines(text, head, lines.as_slice()),
         Value::Set(set) => append_line(text, head, set),
         Value::Partition {
             role,

@@ -1,13 +1,15 @@
 //! The canonical texts of tokens.
 ghost use Rattle.std.specs.Prelude.{◌∷◌, decimal};
 ghost use Rattle.std.specs.Fmt.{signed_decimal};
-ghost use Rattle.cg_value.specs.Print.{print_limit, print_hundredths, print_clamp, print_amount, print_device, print_device_name, print_range, print_set};
+ghost use Rattle.cg_value.specs.Print.{print_limit, print_hundredths, print_clamp, print_amount, print_device, print_device_name, print_param, print_range, print_set};
 ghost use Rattle.cg_value.specs.ReadLine.{mode_text, role_text, words_line};
 ghost use Rattle.cg_value.specs.WriteLine.{sign_of, toggles_line};
 
 use crate::canonical::{Canonical, append_bytes, append_joined};
 use cg_index::KeyedItems;
-use cg_text::{Amount, Clamp, Device, Hundredths, Items, Key, Limit, NumberSet, OutOfMemory};
+use cg_text::{
+    Amount, Clamp, Device, Hundredths, Items, Key, Limit, NumberSet, OutOfMemory, ParamValue,
+};
 use cg_value::{GroupMode, Role, Toggle};
 use itoa::Buffer;
 
@@ -94,6 +96,18 @@ impl Canonical for Device {
         self.major.append_to(out)?;
         append_bytes(out, b":")?;
         self.minor.append_to(out)
+    }
+}
+
+impl Canonical for ParamValue {
+    ghost printed = { print_param };
+
+    fn append_to(&self, out: &mut Vec<u8>) -> Result<(), OutOfMemory> {
+        match self {
+            ParamValue::Whole(number) => number.append_to(out),
+            ParamValue::Decimal(hundredths) => hundredths.append_to(out),
+            ParamValue::Name(name) => name.append_to(out),
+        }
     }
 }
 

@@ -8,7 +8,7 @@ use Rattle.cg_value.specs.Files.{ReadLines, KindFile}
 use Rattle.cg_value.specs.LineLaws.{plain_lines}
 use Rattle.cg_value.specs.Lines.{unlines, AreLinesOf}
 use Rattle.cg_text.specs.Decimal.{IsDecimal}
-use Rattle.cg_value.specs.ReadLine.{IsLimitLine, IsRaw, IsStatLine, IsTargetLine}
+use Rattle.cg_value.specs.ReadLine.{IsLimitLine, IsParamLine, IsRaw, IsStatLine, IsTargetLine}
 use Rattle.cg_value.specs.declared.kind.ReadForm.{ReadForm}
 use Rattle.cg_value.specs.declared.kind.ReadForm.TheVariants as form
 use Rattle.cg_value.specs.declared.value.Value.{Value}
@@ -74,6 +74,9 @@ limits_alone kernel = many_alone (IsLimitLine kernel) value.DeviceLimits (form.D
 pub targets_alone : (kernel : Bool) → HasLinesAlone (form.DeviceTargets kernel)
 targets_alone kernel = many_alone (IsTargetLine kernel) value.DeviceTargets (form.DeviceTargets kernel) (λ v lines. (λ h. h, λ h. h))
 
+pub params_alone : HasLinesAlone form.DeviceParams
+params_alone = many_alone IsParamLine value.DeviceParams form.DeviceParams (λ v lines. (λ h. h, λ h. h))
+
 pub raw_alone : HasLinesAlone form.Raw
 raw_alone = many_alone IsRaw value.Raw form.Raw (λ v lines. (λ h. h, λ h. h))
 
@@ -83,18 +86,20 @@ kinds_alone (form.Numbers lo hi) alone = numbers_alone lo hi
 kinds_alone (form.DeviceStats kernel) alone = stats_alone kernel
 kinds_alone (form.DeviceLimits kernel) alone = limits_alone kernel
 kinds_alone (form.DeviceTargets kernel) alone = targets_alone kernel
+kinds_alone form.DeviceParams alone = params_alone
 kinds_alone form.Raw alone = raw_alone
 kinds_alone _ alone = absurd (cc)
 
 -- No other kind is among them.
 pub others_depend : (kind : ReadForm) → ((lo hi : ℕ) → kind ≡ form.Numbers lo hi → ⊥) → ((kernel : Bool) → kind ≡ form.DeviceStats kernel → ⊥) → ((kernel : Bool) → kind ≡ form.DeviceLimits kernel → ⊥) →
-    ((kernel : Bool) → kind ≡ form.DeviceTargets kernel → ⊥) → (kind ≡ form.Raw → ⊥) → lines_alone kind ≡ false
-others_depend (form.Numbers lo hi) numbers stats limits targets raw = absurd (numbers lo hi refl)
-others_depend (form.DeviceStats kernel) numbers stats limits targets raw = absurd (stats kernel refl)
-others_depend (form.DeviceLimits kernel) numbers stats limits targets raw = absurd (limits kernel refl)
-others_depend (form.DeviceTargets kernel) numbers stats limits targets raw = absurd (targets kernel refl)
-others_depend form.Raw numbers stats limits targets raw = absurd (raw refl)
-others_depend _ numbers stats limits targets raw = refl
+    ((kernel : Bool) → kind ≡ form.DeviceTargets kernel → ⊥) → (kind ≡ form.DeviceParams → ⊥) → (kind ≡ form.Raw → ⊥) → lines_alone kind ≡ false
+others_depend (form.Numbers lo hi) numbers stats limits targets params raw = absurd (numbers lo hi refl)
+others_depend (form.DeviceStats kernel) numbers stats limits targets params raw = absurd (stats kernel refl)
+others_depend (form.DeviceLimits kernel) numbers stats limits targets params raw = absurd (limits kernel refl)
+others_depend (form.DeviceTargets kernel) numbers stats limits targets params raw = absurd (targets kernel refl)
+others_depend form.DeviceParams numbers stats limits targets params raw = absurd (params refl)
+others_depend form.Raw numbers stats limits targets params raw = absurd (raw refl)
+others_depend _ numbers stats limits targets params raw = refl
 
 -- ---- What was let go of
 

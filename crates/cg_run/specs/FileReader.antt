@@ -21,6 +21,7 @@ lines_alone (form.Numbers lo hi) = true
 lines_alone (form.DeviceStats kernel) = true
 lines_alone (form.DeviceLimits kernel) = true
 lines_alone (form.DeviceTargets kernel) = true
+lines_alone form.DeviceParams = true
 lines_alone form.Raw = true
 lines_alone _ = false
 

@@ -37,6 +37,7 @@ fn has_lines_alone(kind: ReadKind) -> bool
         ReadForm::DeviceStats { kernel: _ } => true,
         ReadForm::DeviceLimits { kernel: _ } => true,
         ReadForm::DeviceTargets { kernel: _ } => true,
+        ReadForm::DeviceParams => true,
         ReadForm::Raw => true,
         _ => false,
     }

@@ -41,6 +41,7 @@ ReadLines (form.DeviceStats kernel) v lines = AreLinesOf (IsStatLine kernel) val
 ReadLines (form.DeviceLimits kernel) v lines = AreLinesOf (IsLimitLine kernel) value.DeviceLimits v lines
 ReadLines form.DeviceWeights v lines = AreWeightLines v lines
 ReadLines (form.DeviceTargets kernel) v lines = AreLinesOf (IsTargetLine kernel) value.DeviceTargets v lines
+ReadLines form.DeviceParams v lines = AreLinesOf IsParamLine value.DeviceParams v lines
 ReadLines (form.Set most) v lines = IsOneLine (IsStrictList most) value.Set v lines
 ReadLines form.Partition v lines = IsOneLine (λ (x : Role × Bool × Option (List ℕ)) line. IsPartition (x.0) (x.1) (x.2) line) (λ x. value.Partition (x.0) (x.1) (x.2)) v lines
 ReadLines form.Pressure v lines = IsMadeOf (λ (x : Option Averages × Option Averages) ls. ArePressureLines (x.0) (x.1) ls) (λ x. value.Pressure (x.0) (x.1)) v lines

@@ -13,6 +13,7 @@ use Rattle.cg_text.specs.Word.{IsControllerWord}
 use Rattle.cg_text.specs.declared.hundredths.Form.TheVariants.{Read}
 use Rattle.cg_text.specs.declared.values.Clamp.TheVariants as clamp
 use Rattle.cg_text.specs.declared.values.Limit.TheVariants as limit
+use Rattle.cg_text.specs.declared.values.ParamValue.TheVariants as param
 use Rattle.cg_value.specs.Files.{ReadLines, KindFile}
 use Rattle.cg_value.specs.Kind.{any_u64, IsReadForm}
 use Rattle.cg_value.specs.Laws.{IsFirstLine, MayHaveNoLine}
@@ -160,6 +161,26 @@ first_value (form.DeviceTargets kernel) b = (
     spelled = (record { front = codes "0:0"; back = codes "0"; text_is = refl; front_is = device; back_is = zero any_u64 }, tt);
   },
 )
+first_value form.DeviceParams b = (
+  value.DeviceParams (record { device = Some (record { major = 0; minor = 0 }); params = record { key = codes "a"; value = param.Whole 0 } ∷ [] } ∷ []),
+  codes "0:0 a=0",
+  record {
+    xs = record { device = Some (record { major = 0; minor = 0 }); params = record { key = codes "a"; value = param.Whole 0 } ∷ [] } ∷ [];
+    value = refl;
+    spelled = (
+      record {
+        device = codes "0:0";
+        params = codes " a=0";
+        line_is = refl;
+        device_is = device;
+        some = omega arith;
+        params_are = (codes "a=0", [], refl, record { front = codes "a"; back = codes "0"; text_is = refl; front_is = (refl, (omega arith, ((omega arith, omega arith, (λ e. omega (arith, e))), tt))); back_is = zero any_u64 }, refl);
+        distinct = (tt, tt);
+      },
+      tt,
+    );
+  },
+)
 first_value (form.Set most) b = (value.Set [], [], record { x = []; line = []; value = refl; lines_are = refl; spelled = (tt, refl) })
 first_value form.Partition b = (value.Partition Member true None, codes "member", record { x = (Member, true, None); line = codes "member"; value = refl; lines_are = refl; spelled = refl })
 first_value form.Pressure b = (
@@ -210,6 +231,7 @@ may_be (form.DeviceStats kernel) h = (value.DeviceStats [], record { xs = []; va
 may_be (form.DeviceLimits kernel) h = (value.DeviceLimits [], record { xs = []; value = refl; spelled = tt })
 may_be form.DeviceWeights h = absurd h
 may_be (form.DeviceTargets kernel) h = (value.DeviceTargets [], record { xs = []; value = refl; spelled = tt })
+may_be form.DeviceParams h = (value.DeviceParams [], record { xs = []; value = refl; spelled = tt })
 may_be (form.Set most) h = absurd h
 may_be form.Partition h = absurd h
 may_be form.Pressure h = absurd h
@@ -236,6 +258,7 @@ may_only (form.DeviceStats kernel) v lines h e = tt
 may_only (form.DeviceLimits kernel) v lines h e = tt
 may_only form.DeviceWeights v lines h e = no_first h.first lines h.others h.lines_are e
 may_only (form.DeviceTargets kernel) v lines h e = tt
+may_only form.DeviceParams v lines h e = tt
 may_only (form.Set most) v lines h e = no_first h.line lines [] h.lines_are e
 may_only form.Partition v lines h e = no_first h.line lines [] h.lines_are e
 may_only form.Pressure v lines h e = no_pressure (h.x.0) (h.x.1) lines h.spelled e

@@ -14,7 +14,7 @@ use Rattle.cg_value.specs.Files.{IsMadeOf, ReadLines, Fits}
 use Rattle.cg_value.specs.Flat.{HasDistinctKeys}
 use Rattle.cg_value.specs.Kind.{any_u64}
 use Rattle.cg_value.specs.Lines.{IsOneLine, AreLinesOf}
-use Rattle.cg_value.specs.ReadLine.{mode_text, IsCpuMax, AreWords, IsFlatLine, AreFlatLines, IsStatLine, IsLimitLine, IsDefaultLine, IsWeightLine, IsTargetLine, IsPartition, ArePressureLines, IsNestedLine, AreNestedLines, IsRaw}
+use Rattle.cg_value.specs.ReadLine.{mode_text, IsCpuMax, AreWords, IsFlatLine, AreFlatLines, IsStatLine, IsLimitLine, IsDefaultLine, IsWeightLine, IsTargetLine, IsPartition, ArePressureLines, IsNestedLine, AreNestedLines, IsRaw, IsParamLine}
 use Rattle.cg_value.specs.SpelledLaws.{HasText, HasLines, parts_text, flat_distinct}
 use Rattle.cg_value.specs.declared.flat.FlatPair.{FlatPair}
 use Rattle.cg_value.specs.declared.kind.ReadForm.{ReadForm}
@@ -23,6 +23,7 @@ use Rattle.cg_value.specs.declared.value.Averages.{Averages}
 use Rattle.cg_value.specs.declared.value.GroupMode.{GroupMode}
 use Rattle.cg_value.specs.declared.value.LimitLine.{LimitLine}
 use Rattle.cg_value.specs.declared.value.NestedLine.{NestedLine}
+use Rattle.cg_value.specs.declared.value.ParamLine.{ParamLine}
 use Rattle.cg_value.specs.declared.value.Role.{Role}
 use Rattle.cg_value.specs.declared.value.StatLine.{StatLine}
 use Rattle.cg_value.specs.declared.value.TargetLine.{TargetLine}
@@ -136,6 +137,9 @@ weights_fit weight ls = through form.DeviceWeights (value.DeviceWeights weight l
 pub targets_fit : (kernel : Bool) (ls : List TargetLine) → HasLines (AllZip (IsTargetLine kernel) ls) ↔ Fits (form.DeviceTargets kernel) (value.DeviceTargets ls)
 targets_fit kernel ls = through (form.DeviceTargets kernel) (value.DeviceTargets ls) (of_on (IsTargetLine kernel) value.DeviceTargets (λ x y e. cc) ls) (of_back (IsTargetLine kernel) value.DeviceTargets (λ x y e. cc) ls)
 
+pub params_fit : (ls : List ParamLine) → HasLines (AllZip IsParamLine ls) ↔ Fits form.DeviceParams (value.DeviceParams ls)
+params_fit ls = through form.DeviceParams (value.DeviceParams ls) (of_on IsParamLine value.DeviceParams (λ x y e. cc) ls) (of_back IsParamLine value.DeviceParams (λ x y e. cc) ls)
+
 pub set_fits : (most : ℕ) (set : List (ℕ × ℕ)) → HasText (IsStrictList most set) ↔ Fits (form.Set most) (value.Set set)
 set_fits most set = through (form.Set most) (value.Set set) (one_on (IsStrictList most) value.Set (λ x y e. cc) set) (one_back (IsStrictList most) value.Set (λ x y e. cc) set)
 
@@ -171,4 +175,4 @@ raw_fits ls = through form.Raw (value.Raw ls) (of_on IsRaw value.Raw (λ x y e. 
 
 -- The lemmas on the kinds.
 pub ruleset fits_laws =
-    (number_fits, signed_fits, limit_fits, mode_fits, cpu_max_fits, clamp_fits, numbers_fit, words_fit, flat_fits, stats_fit, limits_fit, weights_fit, targets_fit, set_fits, partition_fits, pressure_fits, nested_fits, raw_fits)
+    (number_fits, signed_fits, limit_fits, mode_fits, cpu_max_fits, clamp_fits, numbers_fit, words_fit, flat_fits, stats_fit, limits_fit, weights_fit, targets_fit, params_fit, set_fits, partition_fits, pressure_fits, nested_fits, raw_fits)

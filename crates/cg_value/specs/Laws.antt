@@ -71,6 +71,7 @@ MayHaveNoLine form.Flat = Unit {0}
 MayHaveNoLine (form.DeviceStats kernel) = Unit {0}
 MayHaveNoLine (form.DeviceLimits kernel) = Unit {0}
 MayHaveNoLine (form.DeviceTargets kernel) = Unit {0}
+MayHaveNoLine form.DeviceParams = Unit {0}
 MayHaveNoLine form.Nested = Unit {0}
 MayHaveNoLine form.Raw = Unit {0}
 MayHaveNoLine _ = ⊥

@@ -10,6 +10,8 @@ use Rattle.cg_text.specs.declared.values.Device.{Device}
 use Rattle.cg_text.specs.declared.values.Hundredths.{Hundredths}
 use Rattle.cg_text.specs.declared.values.Limit.{Limit}
 use Rattle.cg_text.specs.declared.values.Limit.TheVariants.{Max, At}
+use Rattle.cg_text.specs.declared.values.ParamValue.{ParamValue}
+use Rattle.cg_text.specs.declared.values.ParamValue.TheVariants as param
 use Rattle.cg_value.specs.Lines.{unlines}
 use Rattle.cg_value.specs.ReadLine.{mode_text, words_line, pad_text, role_text}
 use Rattle.cg_value.specs.WriteLine.{toggles_line, pressure_word}
@@ -20,6 +22,8 @@ use Rattle.cg_value.specs.declared.value.Averages.{Averages}
 use Rattle.cg_value.specs.declared.value.LimitLine.{LimitLine}
 use Rattle.cg_value.specs.declared.value.NestedLine.{NestedLine}
 use Rattle.cg_value.specs.declared.value.NestedPair.{NestedPair}
+use Rattle.cg_value.specs.declared.value.ParamLine.{ParamLine}
+use Rattle.cg_value.specs.declared.value.ParamPair.{ParamPair}
 use Rattle.cg_value.specs.declared.value.Role.{Role}
 use Rattle.cg_value.specs.declared.value.StatLine.{StatLine}
 use Rattle.cg_value.specs.declared.value.StatPair.{StatPair}
@@ -112,6 +116,17 @@ print_nested_pair p = p.key ++ 61 ∷ decimal p.number
 abbrev pub print_nested_line : NestedLine → List ℕ
 print_nested_line l = l.key ++ print_led print_nested_pair l.pairs
 
+abbrev pub print_param : ParamValue → List ℕ
+print_param (param.Whole n) = decimal n
+print_param (param.Decimal h) = print_hundredths h
+print_param (param.Name name) = name
+
+abbrev pub print_param_pair : ParamPair → List ℕ
+print_param_pair p = p.key ++ 61 ∷ print_param p.value
+
+abbrev pub print_param_line : ParamLine → List ℕ
+print_param_line l = print_device_name l.device ++ print_led print_param_pair l.params
+
 -- The lines of the canonical text of a value.
 abbrev pub print_lines : Value → List (List ℕ)
 print_lines (value.Number n) = decimal n ∷ []
@@ -127,6 +142,7 @@ print_lines (value.DeviceStats ls) = map print_stat_line ls
 print_lines (value.DeviceLimits ls) = map print_limit_line ls
 print_lines (value.DeviceWeights default ls) = print_default_line default ∷ map print_weight_line ls
 print_lines (value.DeviceTargets ls) = map print_target_line ls
+print_lines (value.DeviceParams ls) = map print_param_line ls
 print_lines (value.Set set) = print_set set ∷ []
 print_lines (value.Partition role valid reason) = print_partition role valid reason ∷ []
 print_lines (value.Pressure some full) = print_pressure_line (codes "some") some ++ print_pressure_line (codes "full") full

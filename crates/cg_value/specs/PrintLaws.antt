@@ -16,10 +16,10 @@ use Rattle.cg_value.specs.Files.{IsMadeOf, ReadLines, KindText, Fits}
 use Rattle.cg_value.specs.Kind.{any_u64, IsListEnd, IsReadForm}
 use Rattle.cg_value.specs.Laws.{HasNoLine, HasNoByte}
 use Rattle.cg_value.specs.Lines.{unlines, IsOneLine, AreLinesOf}
-use Rattle.cg_value.specs.Print.{print_limit, print_clamp, print_set, print_flat_line, print_stat_line, print_limit_line, print_weight_line, print_target_line, print_partition, print_pressure_line, print_nested_line, print_lines, print_of}
-use Rattle.cg_value.specs.PrintLineLaws.{decimal_text_is, limit_text_is, clamp_text_is, signed_text_is, set_text_is, cpu_max_line_is, flat_line_is, stat_line_is, limit_line_is, default_line_is}
+use Rattle.cg_value.specs.Print.{print_limit, print_clamp, print_set, print_flat_line, print_stat_line, print_limit_line, print_weight_line, print_target_line, print_partition, print_pressure_line, print_nested_line, print_lines, print_of, print_param_line}
+use Rattle.cg_value.specs.PrintLineLaws.{decimal_text_is, limit_text_is, clamp_text_is, signed_text_is, set_text_is, cpu_max_line_is, flat_line_is, stat_line_is, limit_line_is, default_line_is, param_line_is}
 use Rattle.cg_value.specs.PrintLineLaws.{weight_line_is, target_line_is, partition_line_is, pressure_line_is, nested_line_is}
-use Rattle.cg_value.specs.ReadLine.{mode_text, words_line, IsMode, IsCpuMax, IsFlatLine, AreFlatLines, IsStatLine, IsLimitLine, IsWeightLine, AreWeightLines, IsTargetLine, IsPartition, ArePressureLines, IsNestedLine, AreNestedLines, IsRaw}
+use Rattle.cg_value.specs.ReadLine.{mode_text, words_line, IsMode, IsCpuMax, IsFlatLine, AreFlatLines, IsStatLine, IsLimitLine, IsWeightLine, AreWeightLines, IsTargetLine, IsPartition, ArePressureLines, IsNestedLine, AreNestedLines, IsRaw, IsParamLine}
 use Rattle.cg_value.specs.declared.kind.ReadForm.{ReadForm}
 use Rattle.cg_value.specs.declared.kind.ReadForm.TheVariants as form
 use Rattle.cg_value.specs.declared.value.Averages.{Averages}
@@ -104,6 +104,7 @@ one_text (form.DeviceStats kernel) v lines b h = inl (many_lines_are (IsStatLine
 one_text (form.DeviceLimits kernel) v lines b h = inl (many_lines_are (IsLimitLine kernel) value.DeviceLimits print_limit_line (λ xs. refl) (limit_line_is kernel) v lines h)
 one_text form.DeviceWeights v lines b h = inl (weight_lines_are v lines h)
 one_text (form.DeviceTargets kernel) v lines b h = inl (many_lines_are (IsTargetLine kernel) value.DeviceTargets print_target_line (λ xs. refl) (target_line_is kernel) v lines h)
+one_text form.DeviceParams v lines b h = inl (many_lines_are IsParamLine value.DeviceParams print_param_line (λ xs. refl) param_line_is v lines h)
 one_text (form.Set most) v lines b h = inl (one_line_is (IsStrictList most) value.Set print_set (λ x. refl) (λ x line k. set_text_is most x line (end_small most b) k.1) v lines h)
 one_text form.Partition v lines b h =
     inl (one_line_is (λ (x : Role × Bool × Option (List ℕ)) line. IsPartition (x.0) (x.1) (x.2) line) (λ x. value.Partition (x.0) (x.1) (x.2)) (λ (x : Role × Bool × Option (List ℕ)). print_partition (x.0) (x.1) (x.2))

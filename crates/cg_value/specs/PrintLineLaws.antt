@@ -19,19 +19,24 @@ use Rattle.cg_text.specs.declared.values.Clamp.{Clamp}
 use Rattle.cg_text.specs.declared.values.Clamp.TheVariants as clamp
 use Rattle.cg_text.specs.declared.values.Device.{Device}
 use Rattle.cg_text.specs.declared.values.Hundredths.{Hundredths}
+use Rattle.cg_text.specs.Param.{IsParam}
+use Rattle.cg_text.specs.declared.values.ParamValue.{ParamValue}
+use Rattle.cg_text.specs.declared.values.ParamValue.TheVariants as param
 use Rattle.cg_text.specs.declared.values.Limit.{Limit}
 use Rattle.cg_text.specs.declared.values.Limit.TheVariants as limit
 use Rattle.cg_value.specs.Kind.{any_u64}
 use Rattle.cg_value.specs.Lines.{HasParts, IsKey, AreLed}
-use Rattle.cg_value.specs.Print.{print_limit, print_hundredths, print_clamp, print_amount, print_device, print_device_name, print_range, print_set, print_led, print_flat_line, print_stat_pair, print_stat_line}
+use Rattle.cg_value.specs.Print.{print_limit, print_hundredths, print_clamp, print_amount, print_device, print_device_name, print_range, print_set, print_led, print_flat_line, print_stat_pair, print_stat_line, print_param, print_param_pair, print_param_line}
 use Rattle.cg_value.specs.Print.{print_limit_line, print_default_line, print_weight_line, print_target_line, print_partition, print_averages, print_nested_pair, print_nested_line}
-use Rattle.cg_value.specs.ReadLine.{role_text, IsCpuMax, IsFlatLine, IsStatPair, IsStatLine, IsLimitLine, IsDefaultLine, IsWeightLine, IsTargetLine, IsPartition, AreAverages, IsPressureLine, IsNestedPair, IsNestedLine}
+use Rattle.cg_value.specs.ReadLine.{role_text, IsCpuMax, IsFlatLine, IsStatPair, IsStatLine, IsLimitLine, IsDefaultLine, IsWeightLine, IsTargetLine, IsPartition, AreAverages, IsPressureLine, IsNestedPair, IsNestedLine, IsParamPair, IsParamLine}
 use Rattle.cg_value.specs.declared.flat.FlatPair.{FlatPair}
 use Rattle.cg_value.specs.declared.value.Averages.{Averages}
 use Rattle.cg_value.specs.declared.value.LimitLine.{LimitLine}
 use Rattle.cg_value.specs.declared.value.NestedLine.{NestedLine}
 use Rattle.cg_value.specs.declared.value.NestedPair.{NestedPair}
 use Rattle.cg_value.specs.declared.value.Role.{Role}
+use Rattle.cg_value.specs.declared.value.ParamLine.{ParamLine}
+use Rattle.cg_value.specs.declared.value.ParamPair.{ParamPair}
 use Rattle.cg_value.specs.declared.value.StatLine.{StatLine}
 use Rattle.cg_value.specs.declared.value.StatPair.{StatPair}
 use Rattle.cg_value.specs.declared.value.TargetLine.{TargetLine}
@@ -150,6 +155,20 @@ default_line_is weight line h = h.1 ∙ ap (λ t. codes "default " ++ t) (weight
 
 pub weight_line_is : (w : WeightLine) (line : List ℕ) → IsWeightLine w line → line ≡ print_weight_line w
 weight_line_is w line h = parts_are IsDevice 32 (IsDecimal 1 10000) w.device w.weight line (print_device w.device) (decimal w.weight) (device_text_is w.device) (weight_text_is w.weight) h
+
+param_is : (v : ParamValue) (text : List ℕ) → IsParam v text → text ≡ print_param v
+param_is (param.Whole n) text h = any_decimal n text h
+param_is (param.Decimal v) text h = hundredths_text_is 99999999999 v text (omega arith) h
+param_is (param.Name name) text h = sym h.0
+
+param_pair_is : (p : ParamPair) (text : List ℕ) → IsParamPair p text → text ≡ print_param_pair p
+param_pair_is p text h = parts_are IsKey 61 IsParam p.key p.value text p.key (print_param p.value) (λ t k. k.0) (param_is p.value) h
+
+pub param_line_is : (l : ParamLine) (line : List ℕ) → IsParamLine l line → line ≡ print_param_line l
+param_line_is l line h =
+    let device = device_name_is true l.device h.device h.device_is in
+    let params = led_texts_are IsParamPair print_param_pair param_pair_is l.params h.params h.params_are in
+    h.line_is ∙ rw (device, params)
 
 pub target_line_is : (kernel : Bool) (t : TargetLine) (line : List ℕ) → IsTargetLine kernel t line → line ≡ print_target_line t
 target_line_is kernel t line h =

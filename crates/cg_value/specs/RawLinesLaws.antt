@@ -25,12 +25,16 @@ use Rattle.cg_text.specs.declared.values.Clamp.{Clamp}
 use Rattle.cg_text.specs.declared.values.Clamp.TheVariants as clamp
 use Rattle.cg_text.specs.declared.values.Device.{Device}
 use Rattle.cg_text.specs.declared.values.Hundredths.{Hundredths}
+use Rattle.cg_text.specs.Name.{IsNameValue}
+use Rattle.cg_text.specs.Param.{IsParam}
+use Rattle.cg_text.specs.declared.values.ParamValue.{ParamValue}
+use Rattle.cg_text.specs.declared.values.ParamValue.TheVariants as param
 use Rattle.cg_text.specs.declared.values.Limit.{Limit}
 use Rattle.cg_text.specs.declared.values.Limit.TheVariants as limit
 use Rattle.cg_value.specs.Files.{ReadLines}
 use Rattle.cg_value.specs.Kind.{any_u64}
 use Rattle.cg_value.specs.Lines.{HasParts, IsKey, AreLed}
-use Rattle.cg_value.specs.ReadLine.{mode_text, words_line, pad_text, role_text, IsCpuMax, AreWords, IsFlatLine, IsStatPair, IsStatLine, IsLimitLine, IsDefaultLine, IsWeightLine, AreWeightLines}
+use Rattle.cg_value.specs.ReadLine.{mode_text, words_line, pad_text, role_text, IsCpuMax, AreWords, IsFlatLine, IsStatPair, IsStatLine, IsLimitLine, IsDefaultLine, IsWeightLine, AreWeightLines, IsParamPair, IsParamLine}
 use Rattle.cg_value.specs.ReadLine.{IsTargetLine, IsPartition, AreAverages, IsPressureLine, ArePressureLines, IsNestedPair, IsNestedLine, IsRaw}
 use Rattle.cg_value.specs.declared.flat.FlatPair.{FlatPair}
 use Rattle.cg_value.specs.declared.kind.ReadForm.{ReadForm}
@@ -43,6 +47,8 @@ use Rattle.cg_value.specs.declared.value.NestedLine.{NestedLine}
 use Rattle.cg_value.specs.declared.value.NestedPair.{NestedPair}
 use Rattle.cg_value.specs.declared.value.Role.{Role}
 use Rattle.cg_value.specs.declared.value.Role.TheVariants.{Member, Root, Isolated}
+use Rattle.cg_value.specs.declared.value.ParamLine.{ParamLine}
+use Rattle.cg_value.specs.declared.value.ParamPair.{ParamPair}
 use Rattle.cg_value.specs.declared.value.StatLine.{StatLine}
 use Rattle.cg_value.specs.declared.value.StatPair.{StatPair}
 use Rattle.cg_value.specs.declared.value.TargetLine.{TargetLine}
@@ -201,6 +207,23 @@ weight_raw w line h = parts_raw IsDevice (codes " ") (IsDecimal 1 10000) w.devic
 target_raw : (kernel : Bool) (t : TargetLine) (line : List ℕ) → IsTargetLine kernel t line → IsRawLine line
 target_raw kernel t line h = parts_raw (IsDeviceName kernel) (codes " target=") (IsDecimal 0 any_u64) t.device t.target line (device_name_raw kernel t.device) (printable (codes " target=") refl) (any_decimal t.target) h
 
+name_raw : (text : List ℕ) → IsNameValue text → IsRawLine text
+name_raw [] h = absurd h
+name_raw (c ∷ cs) h = word_raw (c ∷ cs) h.1
+
+param_raw : (v : ParamValue) (text : List ℕ) → IsParam v text → IsRawLine text
+param_raw (param.Whole n) text h = any_decimal n text h
+param_raw (param.Decimal v) text h = hundredths_raw 99999999999 v text h
+param_raw (param.Name name) text h = name_raw text h.1
+
+param_pair_raw : (p : ParamPair) (text : List ℕ) → IsParamPair p text → IsRawLine text
+param_pair_raw p text h = parts_raw IsKey (codes "=") IsParam p.key p.value text (key_raw p.key) (printable (codes "=") refl) (param_raw p.value) h
+
+params_raw : (l : ParamLine) (line : List ℕ) → IsParamLine l line → IsRawLine line
+params_raw l line h =
+    along (h.device ++ h.params) line h.line_is
+    (raw_append h.device h.params (device_name_raw true l.device h.device h.device_is) (led_raw IsParamPair param_pair_raw l.params h.params h.params_are))
+
 role_raw : (role : Role) → IsRawLine (role_text role)
 role_raw Member = printable (role_text Member) refl
 role_raw Root = printable (role_text Root) refl
@@ -281,6 +304,7 @@ raw_lines (form.DeviceStats kernel) v lines h = each_raw (IsStatLine kernel) (st
 raw_lines (form.DeviceLimits kernel) v lines h = each_raw (IsLimitLine kernel) (limits_raw kernel) h.xs lines h.spelled
 raw_lines form.DeviceWeights v lines h = weights_raw v lines h
 raw_lines (form.DeviceTargets kernel) v lines h = each_raw (IsTargetLine kernel) (target_raw kernel) h.xs lines h.spelled
+raw_lines form.DeviceParams v lines h = each_raw IsParamLine params_raw h.xs lines h.spelled
 raw_lines (form.Set most) v lines h = one_raw h.line lines h.lines_are (ranges_raw most h.x h.line h.spelled.1)
 raw_lines form.Partition v lines h = one_raw h.line lines h.lines_are (partition_raw (h.x.0) (h.x.1) (h.x.2) h.line h.spelled)
 raw_lines form.Pressure v lines h = pressures_raw (h.x.0) (h.x.1) lines h.spelled

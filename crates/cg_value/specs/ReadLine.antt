@@ -1,7 +1,7 @@
 -- The lines of the files that are read, kind by kind (cgroup-v2.rst, "Interface Files", at the names given here; psi.rst).
 -- The documents are those of Linux 6.1.192: https://www.kernel.org/doc/html/v6.1/admin-guide/cgroup-v2.html and
 -- https://www.kernel.org/doc/html/v6.1/accounting/psi.html.
-use Rattle.std.specs.Prelude.{◌≡◌, ℕ, Bool, true, false, List, [], ◌∷◌, ◌++◌, Option, Some, None, All, map, codes, ◌⊎◌}
+use Rattle.std.specs.Prelude.{◌≡◌, ◌<◌, ℕ, length, Bool, true, false, List, [], ◌∷◌, ◌++◌, Option, Some, None, All, map, codes, ◌⊎◌}
 use Rattle.std.specs.List.{AllZip}
 use Rattle.cg_text.specs.Amount.{IsAmount}
 use Rattle.cg_text.specs.Decimal.{IsDecimal}
@@ -9,6 +9,7 @@ use Rattle.cg_text.specs.Device.{IsDevice, IsDeviceName}
 use Rattle.cg_text.specs.Distinct.{AreDistinct}
 use Rattle.cg_text.specs.Hundredths.{IsHundredths}
 use Rattle.cg_text.specs.Limit.{IsLimit}
+use Rattle.cg_text.specs.Param.{IsParam}
 use Rattle.cg_text.specs.Raw.{IsRawLine}
 use Rattle.cg_text.specs.Word.{IsWord, IsControllerWord}
 use Rattle.cg_text.specs.declared.hundredths.Form.TheVariants.{Read}
@@ -22,6 +23,8 @@ use Rattle.cg_value.specs.declared.value.GroupMode.TheVariants.{Domain, DomainTh
 use Rattle.cg_value.specs.declared.value.LimitLine.{LimitLine}
 use Rattle.cg_value.specs.declared.value.NestedLine.{NestedLine}
 use Rattle.cg_value.specs.declared.value.NestedPair.{NestedPair}
+use Rattle.cg_value.specs.declared.value.ParamLine.{ParamLine}
+use Rattle.cg_value.specs.declared.value.ParamPair.{ParamPair}
 use Rattle.cg_value.specs.declared.value.Role.{Role}
 use Rattle.cg_value.specs.declared.value.Role.TheVariants.{Member, Root, Isolated}
 use Rattle.cg_value.specs.declared.value.StatLine.{StatLine}
@@ -116,6 +119,19 @@ pub record AreWeightLines (v : Value) (lines : List (List ℕ)) : Type 0 where
 -- device_targets: io.latency. A device and its target latency a line. Where kernel, the device may be gone.
 abbrev pub IsTargetLine : Bool → TargetLine → List ℕ → Type 0
 IsTargetLine kernel t line = HasParts (IsDeviceName kernel) (codes " target=") (IsDecimal 0 any_u64) t.device t.target line
+
+-- device_params: io.cost.qos, io.cost.model. A device, which may be gone, and one or more pairs, no key twice in a line.
+abbrev pub IsParamPair : ParamPair → List ℕ → Type 0
+IsParamPair p text = HasParts IsKey (codes "=") IsParam p.key p.value text
+
+pub record IsParamLine (l : ParamLine) (line : List ℕ) : Type 0 where
+  pub device : List ℕ
+  pub params : List ℕ
+  pub line_is : line ≡ device ++ params
+  pub device_is : IsDeviceName true l.device device
+  pub some : 0 < length l.params
+  pub params_are : AreLed IsParamPair l.params params
+  pub distinct : AreDistinct (map (λ p. p.key) l.params)
 
 -- partition: cpuset.cpus.partition. The role; of one that is not valid, also why, where that is known.
 abbrev pub role_text : Role → List ℕ

@@ -1,5 +1,5 @@
 -- Which parts of values some text spells.
-use Rattle.std.proofs.Common.{◌≡◌, ℕ, ◌+◌, ◌/◌, ◌%◌, ◌≤◌, ◌<◌, ◌≢◌, ◌↔◌, inl, inr, Bool, true, false, cond, ℤ, ◌≤ℤ◌, pos, negsuc, suc, List, [], ◌∷◌, ◌++◌, Option, Some, None, All, map}
+use Rattle.std.proofs.Common.{◌≡◌, ℕ, ◌+◌, ◌/◌, ◌%◌, ◌≤◌, ◌<◌, ◌≢◌, ◌↔◌, inl, inr, Bool, true, false, cond, ℤ, ◌≤ℤ◌, pos, negsuc, suc, List, [], ◌∷◌, ◌++◌, Option, Some, None, All, map, length}
 use Rattle.std.proofs.Common.{IsTrue, get_or, codes, refl, sym, ap, arith}
 use Rattle.std.proofs.lemmas.List.Elements.{All-nil, All-cons, All-head, All-tail, All-map}
 use Rattle.std.proofs.lemmas.Bool.{cases_lt}
@@ -26,6 +26,9 @@ use Rattle.cg_text.specs.declared.values.Amount.{Amount}
 use Rattle.cg_text.specs.declared.values.Amount.TheVariants as amount
 use Rattle.cg_text.specs.declared.values.Clamp.{Clamp}
 use Rattle.cg_text.specs.declared.values.Clamp.TheVariants as clamp
+use Rattle.cg_text.specs.Name.{IsNameValue}
+use Rattle.cg_text.specs.Param.{IsParam}
+use Rattle.cg_text.specs.declared.values.ParamValue.TheVariants as param
 use Rattle.cg_text.specs.declared.values.Limit.{Limit}
 use Rattle.cg_text.specs.declared.values.Limit.TheVariants as limit
 use Rattle.cg_index.specs.Cells.{item_of}
@@ -33,7 +36,7 @@ use Rattle.cg_index.specs.declared.cell.Cell.{Cell}
 use Rattle.cg_value.specs.Flat.{number_of, HasDistinctKeys}
 use Rattle.cg_value.specs.Kind.{any_u64}
 use Rattle.cg_value.specs.Lines.{HasParts, IsKey, AreLed}
-use Rattle.cg_value.specs.ReadLine.{AreWords, words_line, IsFlatLine, IsStatPair, pad_text, IsStatLine, IsLimitLine, IsWeightLine, IsTargetLine, role_text, CanBeInvalid, IsPartition, AreAverages}
+use Rattle.cg_value.specs.ReadLine.{AreWords, words_line, IsFlatLine, IsStatPair, pad_text, IsStatLine, IsLimitLine, IsWeightLine, IsTargetLine, role_text, CanBeInvalid, IsPartition, AreAverages, IsParamPair, IsParamLine}
 use Rattle.cg_value.specs.ReadLine.{IsPressureLine, ArePressureLines, IsNestedPair, IsNestedLine, IsRaw}
 use Rattle.cg_value.specs.declared.flat.FlatPair.{FlatPair}
 use Rattle.cg_value.specs.declared.value.Averages.{Averages}
@@ -41,6 +44,8 @@ use Rattle.cg_value.specs.declared.value.LimitLine.{LimitLine}
 use Rattle.cg_value.specs.declared.value.NestedLine.{NestedLine}
 use Rattle.cg_value.specs.declared.value.NestedPair.{NestedPair}
 use Rattle.cg_value.specs.declared.value.Role.{Role}
+use Rattle.cg_value.specs.declared.value.ParamLine.{ParamLine}
+use Rattle.cg_value.specs.declared.value.ParamPair.{ParamPair}
 use Rattle.cg_value.specs.declared.value.StatLine.{StatLine}
 use Rattle.cg_value.specs.declared.value.StatPair.{StatPair}
 use Rattle.cg_value.specs.declared.value.TargetLine.{TargetLine}
@@ -178,8 +183,9 @@ device_text d = (
 )
 
 -- A device that is gone has a text where such are allowed.
-pub gone_text : (unknown : Bool) → IsTrue unknown ↔ HasText (IsDeviceName unknown None)
-gone_text unknown = (λ e. record { text = codes "(unknown)"; spelled = (e, refl) }, λ h. h.spelled.0)
+pub gone_text : (unknown : Bool) (device : Option Device) → device ≡ None → IsTrue unknown ↔ HasText (IsDeviceName unknown device)
+gone_text unknown None e = (λ t. record { text = codes "(unknown)"; spelled = (t, refl) }, λ h. h.spelled.0)
+gone_text unknown (Some device) e = absurd (cc)
 
 -- ---- Lines
 
@@ -253,6 +259,21 @@ weight_text w = parts_text IsDevice (codes " ") (IsDecimal 1 10000) w.device w.w
 
 pub target_text : (kernel : Bool) (t : TargetLine) → (HasText (IsDeviceName kernel t.device) × HasText (IsDecimal 0 any_u64 t.target)) ↔ HasText (IsTargetLine kernel t)
 target_text kernel t = parts_text (IsDeviceName kernel) (codes " target=") (IsDecimal 0 any_u64) t.device t.target
+
+pub name_text : (name : List ℕ) → IsNameValue name ↔ HasText (IsParam (param.Name name))
+name_text name = (λ h. record { text = name; spelled = (refl, h) }, λ h. rw h.spelled.0 h.spelled.1)
+
+pub param_pair_text : (p : ParamPair) → (HasText (IsKey p.key) × HasText (IsParam p.value)) ↔ HasText (IsParamPair p)
+param_pair_text p = parts_text IsKey (codes "=") IsParam p.key p.value
+
+pub params_text : (l : ParamLine) → (HasText (IsDeviceName true l.device) × (0 < length l.params) × (HasLines (AllZip IsParamPair l.params) × AreDistinct (map (λ p. p.key) l.params))) ↔ HasText (IsParamLine l)
+params_text l = (
+  λ h. (let led = led_on IsParamPair l.params h.2.0.lines h.2.0.spelled in record {
+    text = h.0.text ++ led.text;
+    spelled = record { device = h.0.text; params = led.text; line_is = refl; device_is = h.0.spelled; some = h.1; params_are = led.spelled; distinct = h.2.1 };
+  }),
+  λ h. (record { text = h.spelled.device; spelled = h.spelled.device_is }, h.spelled.some, (led_back IsParamPair l.params h.spelled.params h.spelled.params_are, h.spelled.distinct)),
+)
 
 averages_on : (a : Averages) → (HasText (IsHundredths Read 99999 a.avg10) × HasText (IsHundredths Read 99999 a.avg60) × HasText (IsHundredths Read 99999 a.avg300) × HasText (IsDecimal 0 any_u64 a.total)) ↔ HasText (AreAverages a)
 averages_on a = (

@@ -14,7 +14,7 @@ use Rattle.cg_value.specs.Files.{ReadLines, KindFile}
 use Rattle.cg_value.specs.Kind.{any_u64}
 use Rattle.cg_value.specs.LineLaws.{plain_lines, split_lines}
 use Rattle.cg_value.specs.Lines.{IsOneLine, AreLinesOf}
-use Rattle.cg_value.specs.ReadLine.{words_line, IsMode, IsCpuMax, AreWords, IsFlatLine, AreFlatLines, IsStatLine, IsLimitLine, IsWeightLine, AreWeightLines, IsTargetLine, IsPartition, ArePressureLines, IsNestedLine, AreNestedLines, IsRaw}
+use Rattle.cg_value.specs.ReadLine.{words_line, IsMode, IsCpuMax, AreWords, IsFlatLine, AreFlatLines, IsStatLine, IsLimitLine, IsWeightLine, AreWeightLines, IsTargetLine, IsPartition, ArePressureLines, IsNestedLine, AreNestedLines, IsRaw, IsParamLine}
 use Rattle.cg_value.specs.declared.flat.FlatPair.{FlatPair}
 use Rattle.cg_value.specs.declared.kind.ReadForm.{ReadForm}
 use Rattle.cg_value.specs.declared.kind.ReadForm.TheVariants as form
@@ -136,6 +136,7 @@ lines_can_end (form.DeviceStats kernel) v first before after h = many_lines_end 
 lines_can_end (form.DeviceLimits kernel) v first before after h = many_lines_end (IsLimitLine kernel) value.DeviceLimits v (first ∷ before) after h
 lines_can_end form.DeviceWeights v first before after h = weights_end v first before after h
 lines_can_end (form.DeviceTargets kernel) v first before after h = many_lines_end (IsTargetLine kernel) value.DeviceTargets v (first ∷ before) after h
+lines_can_end form.DeviceParams v first before after h = many_lines_end IsParamLine value.DeviceParams v (first ∷ before) after h
 lines_can_end (form.Set most) v first before after h = (v, one_line_ends (IsStrictList most) value.Set v first before after h)
 lines_can_end form.Partition v first before after h =
     (v, one_line_ends (λ (x : Role × Bool × Option (List ℕ)) line. IsPartition (x.0) (x.1) (x.2) line) (λ x. value.Partition (x.0) (x.1) (x.2)) v first before after h)

@@ -6,10 +6,11 @@ ghost use Rattle.cg_index.specs.Cells.{item_of};
 use crate::flat::Flat;
 use crate::raw_lines::RawLines;
 use crate::value::{
-    LimitLine, NestedLine, NestedPair, StatLine, StatPair, TargetLine, Value, WeightLine,
+    LimitLine, NestedLine, NestedPair, ParamLine, ParamPair, StatLine, StatPair, TargetLine, Value,
+    WeightLine,
 };
 use cg_index::{Cell, HasKey, KeyedBuilder, KeyedItems};
-use cg_text::{Items, Key, KeyFault, NumberSet, OutOfMemory};
+use cg_text::{Items, Key, KeyFault, NumberSet, OutOfMemory, ParamValue};
 use std::alloc::Global;
 
 /// A value that can be copied where memory is left.
@@ -139,6 +140,34 @@ impl Copied for TargetLine {
     }
 }
 
+impl Copied for ParamValue {
+    fn copy(&self, alloc: Global) -> Result<ParamValue, OutOfMemory> {
+        Ok(match self {
+            ParamValue::Whole(number) => ParamValue::Whole(*number),
+            ParamValue::Decimal(number) => ParamValue::Decimal(*number),
+            ParamValue::Name(name) => ParamValue::Name(name.copy(alloc)?),
+        })
+    }
+}
+
+impl Copied for ParamPair {
+    fn copy(&self, alloc: Global) -> Result<ParamPair, OutOfMemory> {
+        Ok(ParamPair {
+            key: self.key.copy(alloc)?,
+            value: self.value.copy(alloc)?,
+        })
+    }
+}
+
+impl Copied for ParamLine {
+    fn copy(&self, alloc: Global) -> Result<ParamLine, OutOfMemory> {
+        Ok(ParamLine {
+            device: self.device,
+            params: self.params.copy(alloc)?,
+        })
+    }
+}
+
 impl Copied for NestedPair {
     fn copy(&self, alloc: Global) -> Result<NestedPair, OutOfMemory> {
         Ok(NestedPair {
@@ -179,6 +208,7 @@ impl Copied for Value {
                 lines: lines.copy(alloc)?,
             },
             Value::DeviceTargets(lines) => Value::DeviceTargets(lines.copy(alloc)?),
+            Value::DeviceParams(lines) => Value::DeviceParams(lines.copy(alloc)?),
             Value::Set(set) => Value::Set(set.copy(alloc)?),
             Value::Partition {
                 role,

@@ -104,6 +104,7 @@ impl Value {
             (ReadForm::DeviceTargets { kernel }, Value::DeviceTargets(lines)) => {
                 are_targets(kernel, lines.as_slice())
             }
+            (ReadForm::DeviceParams, Value::DeviceParams(lines)) => are_spelled(lines.as_slice()),
             (ReadForm::Set { most }, Value::Set(set)) => is_set_within(most, set),
             (
                 ReadForm::Partition,

@@ -34,6 +34,8 @@ pub enum ReadForm {
     DeviceWeights,
     /// A device a line, with its target latency in microseconds. Where `kernel`, a device may be gone.
     DeviceTargets { kernel: bool },
+    /// A device a line, which may be gone, with one or more pairs of a key and a parameter.
+    DeviceParams,
     /// A set of numbers of at most `most`, as a list of ranges.
     Set { most: u32 },
     /// The role of a cpuset partition, and whether it is valid.
@@ -139,6 +141,7 @@ impl ReadKind {
             ReadForm::DeviceLimits { .. } => "device_limits",
             ReadForm::DeviceWeights => "device_weights",
             ReadForm::DeviceTargets { .. } => "device_targets",
+            ReadForm::DeviceParams => "device_params",
             ReadForm::Set { .. } => "set",
             ReadForm::Partition => "partition",
             ReadForm::Pressure => "pressure",

@@ -32,6 +32,6 @@ pub use raw_lines::{LinesIn, RawLines, are_whole_lines};
 pub use setting::{Setting, Toggle};
 pub use table::{NotReadable, NotWritable, read_kind, table_name, write_kind};
 pub use value::{
-    Averages, GroupMode, LimitLine, NestedLine, NestedPair, Role, StatLine, StatPair, TargetLine,
-    Value, WeightLine,
+    Averages, GroupMode, LimitLine, NestedLine, NestedPair, ParamLine, ParamPair, Role, StatLine,
+    StatPair, TargetLine, Value, WeightLine,
 };

@@ -16,6 +16,7 @@ impl Value {
             Value::DeviceLimits(lines) => lines.as_slice().len(),
             Value::DeviceWeights { lines, .. } => 1 + lines.as_slice().len(),
             Value::DeviceTargets(lines) => lines.as_slice().len(),
+            Value::DeviceParams(lines) => lines.as_slice().len(),
             Value::Pressure { some, full } => {
                 usize::from(some.is_some()) + usize::from(full.is_some())
             }

@@ -8,21 +8,24 @@ ghost use Rattle.cg_text.specs.Device.{IsDevice, IsDeviceName};
 ghost use Rattle.cg_text.specs.Distinct.{AreDistinct};
 ghost use Rattle.cg_text.specs.Hundredths.{IsHundredths};
 ghost use Rattle.cg_text.specs.Limit.{IsLimit};
+ghost use Rattle.cg_text.specs.Name.{IsNameValue};
+ghost use Rattle.cg_text.specs.Param.{IsParam};
 ghost use Rattle.cg_text.specs.Raw.{IsRawLine};
 ghost use Rattle.cg_text.specs.Signed.{IsSigned};
 ghost use Rattle.cg_text.specs.declared.hundredths.Form.TheVariants.{Read};
 ghost use Rattle.cg_value.specs.Kind.{any_u64};
 ghost use Rattle.cg_value.specs.Lines.{IsKey};
-ghost use Rattle.cg_value.specs.ReadLine.{AreAverages, IsFlatLine, IsLimitLine, IsNestedLine, IsNestedPair, IsStatLine, IsStatPair, IsTargetLine, IsWeightLine};
+ghost use Rattle.cg_value.specs.ReadLine.{AreAverages, IsFlatLine, IsLimitLine, IsNestedLine, IsNestedPair, IsParamLine, IsParamPair, IsStatLine, IsStatPair, IsTargetLine, IsWeightLine};
 ghost use Rattle.cg_value.specs.SpelledLaws.{HasText, HasLines};
 ghost use Rattle.cg_value.specs.Within.{IsWithin};
 
 use crate::flat::FlatPair;
 use crate::value::{
-    Averages, LimitLine, NestedLine, NestedPair, StatLine, StatPair, TargetLine, WeightLine,
+    Averages, LimitLine, NestedLine, NestedPair, ParamLine, ParamPair, StatLine, StatPair,
+    TargetLine, WeightLine,
 };
 use cg_index::{Cell, HasKey, KeyedItems};
-use cg_text::{Amount, Clamp, Device, Hundredths, Key, Limit};
+use cg_text::{Amount, Clamp, Device, Hundredths, Key, Limit, ParamValue};
 
 /// A part of a value, which some text may spell.
 pub(crate) trait Spelled {
@@ -184,7 +187,10 @@ fn are_stat_pairs(kernel: bool, pairs: &KeyedItems<StatPair>) -> bool
     ensures { IsTrue result ↔ (HasLines (AllZip (IsStatPair kernel) pairs.now) ×
         AreDistinct (map (λ p. p.key) pairs.now)) }
 {
-    pairs.cells().iter().all(|cell| is_stat_pair(kernel, &cell.item))
+    pairs
+        .cells()
+        .iter()
+        .all(|cell| is_stat_pair(kernel, &cell.item))
 }
 
 /// Whether some text spells the line of a device.
@@ -240,6 +246,45 @@ pub(crate) fn are_targets(kernel: bool, lines: &[TargetLine]) -> bool
     ensures { IsTrue result ↔ HasLines (AllZip (IsTargetLine kernel) lines.now) }
 {
     lines.iter().all(|line| is_target(kernel, line))
+}
+
+/// Whether the key is a name value: its first byte is `a` to `z`.
+fn is_name(key: &Key) -> bool
+    ensures { IsTrue result ↔ IsNameValue key.now }
+{
+    let first = key.bytes()[0];
+    b'a' <= first && first <= b'z'
+}
+
+impl Spelled for ParamValue {
+    ghost spells = { IsParam };
+
+    #[tactic(auto, using(crate::specs::SpelledLaws::name_text))]
+    fn is_spelled(&self) -> bool {
+        match self {
+            ParamValue::Whole(number) => number.is_spelled(),
+            ParamValue::Decimal(number) => is_at_most(99_999_999_999, *number),
+            ParamValue::Name(name) => is_name(name),
+        }
+    }
+}
+
+impl Spelled for ParamPair {
+    ghost spells = { IsParamPair };
+
+    #[tactic(auto, using(crate::specs::SpelledLaws::param_pair_text))]
+    fn is_spelled(&self) -> bool {
+        self.key.is_spelled() && self.value.is_spelled()
+    }
+}
+
+impl Spelled for ParamLine {
+    ghost spells = { IsParamLine };
+
+    #[tactic(auto, using(crate::specs::SpelledLaws::params_text))]
+    fn is_spelled(&self) -> bool {
+        is_device_name(true, &self.device) && self.params.len() > 0 && are_keyed(&self.params)
+    }
 }
 
 impl Spelled for Averages {

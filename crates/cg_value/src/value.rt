@@ -3,7 +3,7 @@
 use crate::flat::Flat;
 use crate::raw_lines::RawLines;
 use cg_index::{HasKey, KeyedItems};
-use cg_text::{Amount, Clamp, Device, Hundredths, Items, Key, Limit, NumberSet};
+use cg_text::{Amount, Clamp, Device, Hundredths, Items, Key, Limit, NumberSet, ParamValue};
 
 /// What a file holds.
 #[derive(Debug, Drop, PartialEq)]
@@ -40,6 +40,8 @@ pub enum Value {
     },
     /// The target latencies of devices.
     DeviceTargets(Items<TargetLine>),
+    /// The parameters of devices, a line for each.
+    DeviceParams(Items<ParamLine>),
     /// A set of numbers, as of processors or of memory nodes.
     Set(NumberSet),
     /// A cpuset partition: its role, whether it is valid, and why it is not.
@@ -126,6 +128,28 @@ pub struct WeightLine {
 pub struct TargetLine {
     pub device: Option<Device>,
     pub target: u64,
+}
+
+/// A parameter of a device by its key.
+#[derive(Debug, Drop, PartialEq)]
+pub struct ParamPair {
+    pub key: Key,
+    pub value: ParamValue,
+}
+
+impl HasKey for ParamPair {
+    ghost key_of = { λ pair. pair.key };
+
+    fn key(&self) -> &Key {
+        &self.key
+    }
+}
+
+/// The parameters of a device (cgroup-v2.rst, io.cost.qos and io.cost.model). None stands for a device that is gone.
+#[derive(Debug, Drop, PartialEq)]
+pub struct ParamLine {
+    pub device: Option<Device>,
+    pub params: KeyedItems<ParamPair>,
 }
 
 /// The shares of time lost over 10, 60 and 300 seconds, as percentages, and the total in microseconds (psi.rst).
