@@ -41,6 +41,10 @@ static uint32_t json(void) {
     return cgfile_json(1, BYTES("a/cpu.max"), BYTES("max 100000\n"), out, sizeof out, &used, &at);
 }
 
+static uint32_t explain(void) {
+    return cgfile_explain(1, BYTES("cpu.max"), true, BYTES("500\n"), out, sizeof out, &used);
+}
+
 static uint32_t first(void) {
     return cgfile_first(1, BYTES("a/cpu.max\0max 100000\nb/cpu.weight\0"), false, true, out, sizeof out, &used, &taken,
                         &path_len, &at);
@@ -78,6 +82,7 @@ int main(void) {
     measure("cgfile_number, memory.current", current);
     measure("cgfile_number, memory.stat", anon);
     measure("cgfile_json, cpu.max", json);
+    measure("cgfile_explain, cpu.max", explain);
     measure("cgfile_first, cpu.max as JSON", first);
     measure("cgfile_kind, memory.max", kind);
     return 0;

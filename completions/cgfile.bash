@@ -17,7 +17,7 @@ _cgfile() {
     done
     case $previous in
         --profile)
-            COMPREPLY=($(compgen -W '1 2' -- "$word"))
+            COMPREPLY=($(compgen -W '1 2 kernel' -- "$word"))
             return
             ;;
         --max-record | --max-lines | --max-stream) return ;;

@@ -8,7 +8,7 @@ complete -c cgfile -n __fish_use_subcommand -a json -d 'Read a snapshot, and wri
 complete -c cgfile -n __fish_use_subcommand -a plan -d 'Read a plan of writes, and write each in its canonical text'
 complete -c cgfile -n __fish_use_subcommand -a check -d 'List what a snapshot breaks of the rules for delegation'
 complete -c cgfile -n __fish_use_subcommand -a kinds -d 'List the file table'
-complete -c cgfile -l profile -x -a '1 2' -d 'Which grammar'
+complete -c cgfile -l profile -x -a '1 2 kernel' -d 'Which grammar'
 complete -c cgfile -l max-record -x -d 'How many bytes a record may have'
 complete -c cgfile -l max-lines -x -d 'How many records an entry of a snapshot may have'
 complete -c cgfile -l max-stream -x -d 'How many bytes are read at most'

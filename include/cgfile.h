@@ -16,8 +16,9 @@
  * table is that of a file of raw lines, of which nearly all texts are some: so a path, or a typing error, as a name
  * checks nothing. Ask cgfile_known() where a name must be one of the table.
  *
- * PROFILE is 1 or 2: two grammars that differ in the greatest number of a list (65535 or 1048575) and in
- * memory.numa_stat (raw lines, or nested keys). 1 is what the program takes where none is named.
+ * PROFILE is 1, 2 or 3. Grammars 1 and 2 differ in the greatest number of a list (65535 or 1048575) and in
+ * memory.numa_stat (raw lines, or nested keys). 3 is the kernel profile: 2 with more files that kernels of today print,
+ * as hugetlb.2MB.max. 1 is what the program takes where none is named.
  *
  * Unless a call says otherwise:
  * - With CGFILE_DONE the answer lies in the first *used of the out_len bytes at out; the others are as they were.
@@ -47,7 +48,7 @@ enum cgfile_status {
     CGFILE_NO_FORM = 3,
     /* The answer is longer than out_len bytes. *used is how many it has. */
     CGFILE_NO_ROOM = 4,
-    /* Memory was refused: at a byte with which a text continues, or for the answer, where the bytes are a text. */
+    /* Memory was refused: at a byte with which a text continues, or for the answer, where the bytes have one. */
     CGFILE_NO_MEMORY = 5,
     /* No profile has the number. */
     CGFILE_NO_PROFILE = 6,
@@ -69,6 +70,8 @@ enum cgfile_status {
     CGFILE_TOO_MANY = 14,
     /* The byte at *at is the 1073741825th of those that the call was lent. */
     CGFILE_TOO_MUCH = 15,
+    /* The bytes are a text, so there is nothing to explain. */
+    CGFILE_WHOLE = 16,
 };
 
 /*
@@ -123,7 +126,25 @@ uint32_t cgfile_json(uint32_t profile, const uint8_t *path, size_t path_len, con
                      uint8_t *out, size_t out_len, size_t *used, uint64_t *at);
 
 /*
- * Whether the file table has the name. It takes no memory.
+ * Why the text is no file of the name, or where is_written is true, no write to the file: the line that the program writes
+ * with --explain, and its newline:
+ *
+ *     cgfile: line 1, cpu.weight, byte 5: '1' where newline or '0' may come
+ *
+ * It tells the line of the text, and the byte of that line, each counted from 1, with the name, whose bytes stand there as
+ * they are; what came there, which is the first bad byte, or "the end" where the text is cut; and all the bytes that may
+ * come in its place, or "nothing" behind a file with which no longer one begins.
+ *
+ * CGFILE_DONE: the text is none, and the line lies at out.
+ * CGFILE_WHOLE: the text is a file of the name, or a write to it.
+ * CGFILE_NO_FORM: no file of the name can be read, or written.
+ * CGFILE_NO_ROOM: the text is none, and its line has *used bytes. CGFILE_NO_MEMORY. CGFILE_NO_PROFILE. No other.
+ */
+uint32_t cgfile_explain(uint32_t profile, const uint8_t *name, size_t name_len, bool is_written, const uint8_t *text,
+                        size_t text_len, uint8_t *out, size_t out_len, size_t *used);
+
+/*
+ * Whether the file table of profiles 1 and 2 has the name. It takes no memory.
  */
 bool cgfile_known(const uint8_t *name, size_t name_len);
 

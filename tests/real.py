@@ -7,7 +7,7 @@ import sys
 
 library = ctypes.CDLL(os.path.abspath(sys.argv[1]))
 program, folder = sys.argv[2], sys.argv[3]
-DONE, REFUSED, CUT, NO_FORM, NO_ROOM, MORE, END = 0, 1, 2, 3, 4, 11, 12
+DONE, REFUSED, CUT, NO_FORM, NO_ROOM, MORE, END, WHOLE = 0, 1, 2, 3, 4, 11, 12, 16
 
 u32, u64, size = ctypes.c_uint32, ctypes.c_uint64, ctypes.c_size_t
 
@@ -26,8 +26,20 @@ def text_of(call, profile, name, text):
     return out.raw[: used.value] if status == DONE else told[status]
 
 
+def explained(profile, name, text):
+    """The line of why the text is no file of the name, nothing where there is none."""
+    used, room = size(), 0
+    while True:
+        out = ctypes.create_string_buffer(room + 1)
+        status = library.cgfile_explain(u32(profile), name, size(len(name)), ctypes.c_bool(False), text, size(len(text)), out, size(room), ctypes.byref(used))
+        if status != NO_ROOM:
+            break
+        room = used.value
+    return {DONE: out.raw[: used.value], NO_FORM: b"", WHOLE: b""}[status]
+
+
 def run(profile, words, text):
-    return subprocess.run([program, "--profile", str(profile), *words], input=text, stdout=subprocess.PIPE).stdout
+    return subprocess.run([program, "--profile", "kernel" if profile == 3 else str(profile), *words], input=text, stdout=subprocess.PIPE).stdout
 
 
 def differ(what, one, other):
@@ -43,10 +55,11 @@ for file in sorted(os.listdir(folder)):
     name = re.sub(r"\.\d+$", "", file)
     if name == file:
         continue
-    for profile in (1, 2):
+    for profile in (1, 2, 3):
         for given in (text, text[:-1], text + b"x"):
             runs += 1
-            wrong += differ(f"{file}, profile {profile}", text_of(library.cgfile_file, profile, name.encode(), given), run(profile, ["file", name], given))
+            told = text_of(library.cgfile_file, profile, name.encode(), given) + explained(profile, name.encode(), given)
+            wrong += differ(f"{file}, profile {profile}", told, run(profile, ["file", "--explain", name], given))
         record = b"".join(b"a/%s\0%s\n" % (name.encode(), line) for line in text.split(b"\n")[:-1])
         if record:
             runs += 1
@@ -82,7 +95,7 @@ def stream(text, piece, is_json, profile):
 for file in sorted(it for it in os.listdir(folder) if it.endswith(".snap")):
     with open(os.path.join(folder, file), "rb") as it:
         text = it.read()
-    for profile in (1, 2):
+    for profile in (1, 2, 3):
         for piece in (997, 65536):
             runs += 2
             lines = b"".join(line for _, line in stream(text, piece, True, profile))

@@ -68,6 +68,11 @@ static uint32_t kind(uint32_t profile, const char *name, bool is_written, size_t
     return cgfile_kind(profile, (const uint8_t *)name, strlen(name), is_written, out, room, &used);
 }
 
+static uint32_t explain(uint32_t profile, const char *name, bool is_written, const uint8_t *text, size_t text_len,
+                        size_t room) {
+    return cgfile_explain(profile, (const uint8_t *)name, strlen(name), is_written, text, text_len, out, room, &used);
+}
+
 static void settings(void) {
     GIVES(setting(1, "memory.max", BYTES("15E\n"), 21), "17293822569102704640\n");
     GIVES(setting(1, "io.max", BYTES("8:16 wiops=7 rbps=max\n"), sizeof out), "8:16 rbps=max wiops=7\n");
@@ -80,7 +85,7 @@ static void settings(void) {
     TELLS(setting(1, "cpu.weight", BYTES(""), sizeof out), CGFILE_CUT, 0);
     TELLS(setting(1, "cpu.stat", BYTES("usage_usec 1\n"), sizeof out), CGFILE_NO_FORM, UNSET);
     TELLS(setting(0, "cpu.max", BYTES("max\n"), sizeof out), CGFILE_NO_PROFILE, UNSET);
-    TELLS(setting(3, "cpu.max", BYTES("max\n"), sizeof out), CGFILE_NO_PROFILE, UNSET);
+    TELLS(setting(4, "cpu.max", BYTES("max\n"), sizeof out), CGFILE_NO_PROFILE, UNSET);
     TELLS(setting(4294967295u, "cpu.max", BYTES("max\n"), sizeof out), CGFILE_NO_PROFILE, UNSET);
     LACKS(setting(1, "memory.max", BYTES("15E\n"), 20), 21);
     LACKS(setting(1, "memory.max", BYTES("15E\n"), 0), 21);
@@ -90,6 +95,9 @@ static void settings(void) {
     /* a profile has its own greatest list number */
     TELLS(setting(1, "cpuset.cpus", BYTES("65536\n"), sizeof out), CGFILE_REFUSED, 4);
     GIVES(setting(2, "cpuset.cpus", BYTES("65536\n"), sizeof out), "65536\n");
+    /* and its own names */
+    GIVES(setting(2, "hugetlb.2MB.max", BYTES("2M\n"), sizeof out), "2M\n");
+    GIVES(setting(3, "hugetlb.2MB.max", BYTES("2M\n"), sizeof out), "2097152\n");
 }
 
 static void files(void) {
@@ -101,7 +109,7 @@ static void files(void) {
     TELLS(file(1, "cpuset.cpus", BYTES("0-3,4\n"), sizeof out), CGFILE_REFUSED, 5);
     TELLS(file(1, "cpu.weight", BYTES("100"), sizeof out), CGFILE_CUT, 3);
     TELLS(file(1, "cgroup.kill", BYTES("1\n"), sizeof out), CGFILE_NO_FORM, UNSET);
-    TELLS(file(3, "cpu.weight", BYTES("100\n"), sizeof out), CGFILE_NO_PROFILE, UNSET);
+    TELLS(file(4, "cpu.weight", BYTES("100\n"), sizeof out), CGFILE_NO_PROFILE, UNSET);
     LACKS(file(1, "cpu.weight", BYTES("100\n"), 3), 4);
     LACKS(file(1, "cgroup.controllers", BYTES(""), 0), 1);
 }
@@ -128,7 +136,7 @@ static void numbers(void) {
     TELLS(value("memory.stat", "anon", BYTES("anon 1")), CGFILE_CUT, 6);
     TELLS(value("cgroup.kill", "", BYTES("1\n")), CGFILE_NO_FORM, UNSET);
     begin();
-    ROW(cgfile_number(3, BYTES("pids.max"), BYTES("1\n"), BYTES(""), &number, &at) == CGFILE_NO_PROFILE);
+    ROW(cgfile_number(4, BYTES("pids.max"), BYTES("1\n"), BYTES(""), &number, &at) == CGFILE_NO_PROFILE);
 }
 
 static void lines(void) {
@@ -145,6 +153,43 @@ static void lines(void) {
     TELLS(json(1, "a\nb/cpu.weight", BYTES("1\n"), sizeof out), CGFILE_BAD_PATH, UNSET);
     TELLS(json(1, "a/cgroup.procs", BYTES(""), sizeof out), CGFILE_NO_LINES, UNSET);
     TELLS(json(0, "a/cpu.max", BYTES("max 100000\n"), sizeof out), CGFILE_NO_PROFILE, UNSET);
+}
+
+static void explained(void) {
+    GIVES(explain(1, "cpu.weight", false, BYTES("10001\n"), 70),
+          "cgfile: line 1, cpu.weight, byte 5: '1' where newline or '0' may come\n");
+    GIVES(explain(1, "cpu.weight", false, BYTES("100"), sizeof out),
+          "cgfile: line 1, cpu.weight, byte 4: the end where newline or '0' to '9' may come\n");
+    GIVES(explain(1, "cpu.weight", false, BYTES("1\n1\n"), sizeof out),
+          "cgfile: line 2, cpu.weight, byte 1: '1' where nothing may come\n");
+    GIVES(explain(1, "cpuset.cpus", false, BYTES("0-3,4\n"), sizeof out),
+          "cgfile: line 1, cpuset.cpus, byte 6: newline where '0' to '9' may come\n");
+    GIVES(explain(1, "memory.max", false, BYTES("x"), sizeof out),
+          "cgfile: line 1, memory.max, byte 1: 'x' where '0' to '9' or 'm' may come\n");
+    GIVES(explain(1, "cgroup.type", false, BYTES("domain x\n"), sizeof out),
+          "cgfile: line 1, cgroup.type, byte 8: 'x' where 'i' or 't' may come\n");
+    GIVES(explain(1, "memory.stat", false, BYTES("anon 1\nanon 2\n"), sizeof out),
+          "cgfile: line 2, memory.stat, byte 5: space where '!' to '<' or '>' to '~' may come\n");
+    GIVES(explain(1, "x", false, BYTES("a\0"), sizeof out),
+          "cgfile: line 1, x, byte 2: NUL where any byte but NUL may come\n");
+    GIVES(explain(1, "", true, BYTES("a\0"), sizeof out),
+          "cgfile: line 1, , byte 2: NUL where any byte but NUL may come\n");
+    GIVES(explain(1, "cpu.max", true, BYTES("500\n"), sizeof out),
+          "cgfile: line 1, cpu.max, byte 4: newline where '0' to '9' may come\n");
+    GIVES(explain(1, "cpu.pressure", true, BYTES("some 9999999 2"), sizeof out),
+          "cgfile: line 1, cpu.pressure, byte 14: '2' where '1' or '9' may come\n");
+    GIVES(explain(1, "cpuset.cpus", true, BYTES("65536\n"), sizeof out),
+          "cgfile: line 1, cpuset.cpus, byte 5: '6' where newline, ',', '-' or '0' to '5' may come\n");
+    LACKS(explain(1, "cpu.weight", false, BYTES("10001\n"), 69), 70);
+    LACKS(explain(1, "cpu.weight", false, BYTES("10001\n"), 0), 70);
+    TELLS(explain(1, "cpu.weight", false, BYTES("100\n"), sizeof out), CGFILE_WHOLE, UNSET);
+    TELLS(explain(2, "cpuset.cpus", true, BYTES("65536\n"), sizeof out), CGFILE_WHOLE, UNSET);
+    TELLS(explain(1, "cgroup.procs", false, BYTES(""), 0), CGFILE_WHOLE, UNSET);
+    TELLS(explain(1, "", false, BYTES("\n"), sizeof out), CGFILE_WHOLE, UNSET);
+    TELLS(explain(1, "cgroup.kill", false, BYTES("x"), sizeof out), CGFILE_NO_FORM, UNSET);
+    TELLS(explain(1, "cpu.stat", true, BYTES("x"), sizeof out), CGFILE_NO_FORM, UNSET);
+    TELLS(explain(0, "cpu.weight", false, BYTES("x"), sizeof out), CGFILE_NO_PROFILE, UNSET);
+    TELLS(explain(4294967295u, "cpu.weight", true, BYTES("x"), sizeof out), CGFILE_NO_PROFILE, UNSET);
 }
 
 static uint32_t first(const uint8_t *bytes, size_t len, bool is_end, bool is_json, size_t room) {
@@ -172,7 +217,7 @@ static void streams(void) {
     TELLS(first(BYTES("a/cpu.max\0max 100000\nb/\0"), false, false, sizeof out), CGFILE_REFUSED, 23);
     TELLS(first(BYTES("\n"), false, false, sizeof out), CGFILE_REFUSED, 0);
     begin();
-    ROW(cgfile_first(3, BYTES(""), true, false, out, sizeof out, &used, &taken, &path_len, &at) == CGFILE_NO_PROFILE);
+    ROW(cgfile_first(4, BYTES(""), true, false, out, sizeof out, &used, &taken, &path_len, &at) == CGFILE_NO_PROFILE);
 }
 
 static void kinds(void) {
@@ -187,12 +232,13 @@ static void kinds(void) {
     begin();
     ROW(kind(1, "cpu.stat", true, sizeof out) == CGFILE_NO_FORM && is_clean() && used == UNSET);
     begin();
-    ROW(kind(3, "cpu.stat", false, sizeof out) == CGFILE_NO_PROFILE && is_clean() && used == UNSET);
+    ROW(kind(4, "cpu.stat", false, sizeof out) == CGFILE_NO_PROFILE && is_clean() && used == UNSET);
     ROW(cgfile_known(BYTES("cpu.weight")));
     ROW(cgfile_known(BYTES("cpuset.cpus.partition")));
     ROW(!cgfile_known(BYTES("cpu.weigh")));
     ROW(!cgfile_known(BYTES("a/cpu.weight")));
     ROW(!cgfile_known(BYTES("")));
+    ROW(!cgfile_known(BYTES("hugetlb.2MB.max")));
 }
 
 int main(void) {
@@ -200,6 +246,7 @@ int main(void) {
     files();
     numbers();
     lines();
+    explained();
     streams();
     kinds();
     printf("%d rows, %d differ\n", rows, wrong);

@@ -61,6 +61,10 @@ static uint32_t json(void) {
     return cgfile_json(1, BYTES("a/cgroup.controllers"), BYTES("cpu io memory\n"), out, sizeof out, &used, &at);
 }
 
+static uint32_t explain(void) {
+    return cgfile_explain(1, BYTES("io.stat"), false, BYTES("8:16 rbytes=1 wbytes=2\n8:0 rbytes=x\n"), out, sizeof out, &used);
+}
+
 static uint32_t first(void) {
     return cgfile_first(1, BYTES("a/memory.stat\0anon 1\na/memory.stat\0file 2\na/cpu.max\0"), false, true, out, sizeof out,
                         &used, &taken, &path_len, &at);
@@ -90,5 +94,5 @@ static int tried(const char *name, uint32_t (*call)(void)) {
 
 int main(void) {
     return tried("cgfile_setting", setting) | tried("cgfile_file", file) | tried("cgfile_number", numbers)
-           | tried("cgfile_json", json) | tried("cgfile_first", first);
+           | tried("cgfile_json", json) | tried("cgfile_explain", explain) | tried("cgfile_first", first);
 }

@@ -1,3 +1,3 @@
-pub mod AmongNames
 pub mod Entries
 pub mod Firsts
+pub mod TableNames

@@ -4,7 +4,7 @@ use Rattle.cg_text.specs.Texts.{FirstBad}
 use Rattle.cg_value.specs.Files.{FileText, File}
 use Rattle.cg_value.specs.Table.{read_form_of}
 use Rattle.cg_value.specs.declared.profile.Profile.{Profile}
-use Rattle.cg_value.specs.declared.profile.Profile.TheVariants.{One, Two}
+use Rattle.cg_value.specs.declared.profile.Profile.TheVariants.{One, Two, Kernel}
 use Rattle.cg_value.specs.declared.value.Value.{Value}
 use Rattle.cg_line.specs.Decode.{IsCut, IsStarved}
 use Rattle.cg_line.specs.declared.decode.FileFault.{FileFault}
@@ -20,7 +20,8 @@ abbrev pub profile_of : ℕ → Option Profile
 profile_of zero = None
 profile_of (suc zero) = Some One
 profile_of (suc (suc zero)) = Some Two
-profile_of (suc (suc (suc n))) = None
+profile_of (suc (suc (suc zero))) = Some Kernel
+profile_of (suc (suc (suc (suc n)))) = None
 
 -- A text of this length lies at the front of a buffer of which the rest is what it was.
 pub record IsPut (text old new : List ℕ) (count : ℕ) : Type 0 where

@@ -1,4 +1,5 @@
 pub mod Answer
+pub mod Explain
 pub mod First
 pub mod Json
 pub mod Kind

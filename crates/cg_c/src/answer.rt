@@ -36,6 +36,8 @@ pub(crate) const TOO_LONG: u32 = 13;
 pub(crate) const TOO_MANY: u32 = 14;
 /// A stream is longer than 1073741824 bytes.
 pub(crate) const TOO_MUCH: u32 = 15;
+/// The bytes are a text, so there is nothing to explain.
+pub(crate) const WHOLE: u32 = 16;
 
 /// The profile of a number.
 pub(crate) fn profile_of(number: u32) -> Option<Profile>
@@ -44,6 +46,7 @@ pub(crate) fn profile_of(number: u32) -> Option<Profile>
     match number {
         1 => Some(Profile::One),
         2 => Some(Profile::Two),
+        3 => Some(Profile::Kernel),
         _ => None,
     }
 }
@@ -60,3 +63,24 @@ pub(crate) fn put(text: &[u8], out: &mut [u8]) -> bool
     out[..text.len()].copy_from_slice(text);
     true
 }
+
+/// What was read; or else the call answers the fault, with its place where it has one.
+macro_rules! read_or_answer {
+    ($read:expr, $at:ident, $faults:ident::$no_form:ident) => {
+        match $read {
+            Ok(read) => read,
+            Err($faults::$no_form) => return $crate::answer::NO_FORM,
+            Err($faults::Refused { at: place }) => {
+                *$at = place;
+                return $crate::answer::REFUSED;
+            }
+            Err($faults::Cut { at: place }) => {
+                *$at = place;
+                return $crate::answer::CUT;
+            }
+            Err($faults::OutOfMemory) => return $crate::answer::NO_MEMORY,
+        }
+    };
+}
+
+pub(crate) use read_or_answer;

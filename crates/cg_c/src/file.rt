@@ -7,7 +7,7 @@ ghost use Rattle.cg_value.specs.Table.{read_form_of};
 ghost use Rattle.cg_line.specs.Decode.{IsCut};
 ghost use Rattle.cg_c.specs.Answer.{profile_of, HasNoRoom, IsFileTold, IsOutOfMemory, IsPrinted};
 
-use crate::answer::{CUT, DONE, NO_FORM, NO_MEMORY, NO_PROFILE, NO_ROOM, REFUSED, profile_of, put};
+use crate::answer::{DONE, NO_PROFILE, NO_ROOM, profile_of, put, read_or_answer};
 use cg_line::{FileFault, decode_file};
 use cg_print::print_file;
 use cg_text::OutOfMemory;
@@ -66,19 +66,11 @@ pub extern "C" fn cgfile_file(
         Some(profile) => profile,
         None => return NO_PROFILE,
     };
-    let text = match file_text(alloc, profile, name, text) {
-        Ok(text) => text,
-        Err(FileFault::NotReadable) => return NO_FORM,
-        Err(FileFault::Refused { at: place }) => {
-            *at = place;
-            return REFUSED;
-        }
-        Err(FileFault::Cut { at: place }) => {
-            *at = place;
-            return CUT;
-        }
-        Err(FileFault::OutOfMemory) => return NO_MEMORY,
-    };
+    let text = read_or_answer!(
+        file_text(alloc, profile, name, text),
+        at,
+        FileFault::NotReadable
+    );
     *used = text.len();
     if put(text.as_slice(), out) {
         DONE

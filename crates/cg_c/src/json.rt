@@ -14,8 +14,7 @@ ghost use Rattle.cg_c.specs.Answer.{is_one_of, profile_of, HasNoRoom, IsFileTold
 ghost use Rattle.cg_c.specs.Json.{json_line, no_line, IsLineOf, OfName};
 
 use crate::answer::{
-    BAD_PATH, CUT, DONE, NO_FORM, NO_LINES, NO_MEMORY, NO_PROFILE, NO_ROOM, REFUSED, profile_of,
-    put,
+    BAD_PATH, DONE, NO_LINES, NO_PROFILE, NO_ROOM, profile_of, put, read_or_answer,
 };
 use cg_json::line;
 use cg_line::{FileFault, decode_file};
@@ -137,20 +136,15 @@ pub extern "C" fn cgfile_json(
         Some(profile) => profile,
         None => return NO_PROFILE,
     };
-    let text = match file_line(alloc, profile, path, text) {
-        Ok(Line::Text(text)) => text,
-        Ok(Line::BadPath) => return BAD_PATH,
-        Ok(Line::NoLines) => return NO_LINES,
-        Err(FileFault::NotReadable) => return NO_FORM,
-        Err(FileFault::Refused { at: place }) => {
-            *at = place;
-            return REFUSED;
-        }
-        Err(FileFault::Cut { at: place }) => {
-            *at = place;
-            return CUT;
-        }
-        Err(FileFault::OutOfMemory) => return NO_MEMORY,
+    let line = read_or_answer!(
+        file_line(alloc, profile, path, text),
+        at,
+        FileFault::NotReadable
+    );
+    let text = match line {
+        Line::Text(text) => text,
+        Line::BadPath => return BAD_PATH,
+        Line::NoLines => return NO_LINES,
     };
     *used = text.len();
     if put(text.as_slice(), out) {

@@ -1,24 +1,20 @@
 //! The kinds of files, by their names.
 ghost use Rattle.std.specs.Prelude.{◌≡◌, ◌≤◌, [], ◌∷◌, Some, None, IsSomeAnd, MatchOption, true, false};
+ghost use Rattle.cg_value.specs.Table.{has_row};
+ghost use Rattle.cg_value.specs.declared.profile.Profile.TheVariants.{One, Two};
 ghost use Rattle.cg_c.specs.Answer.{is_one_of, profile_of, IsPut, IsTooLong};
-ghost use Rattle.cg_c.specs.Kind.{is_in_table, kind_word};
+ghost use Rattle.cg_c.specs.Kind.{kind_word};
 
 use crate::answer::{DONE, NO_FORM, NO_PROFILE, NO_ROOM, profile_of, put};
-use cg_value::{Profile, read_kind, table_name, write_kind};
+use cg_value::{Profile, has_row, read_kind, write_kind};
 
-/// Whether the file table has this name.
+/// Whether the file table of the first two profiles has this name.
 #[unsafe(no_mangle)]
 pub extern "C" fn cgfile_known(name: &[u8]) -> bool
-    ensures { result ≡ is_in_table name.now }
+    ensures first { result ≡ has_row One name.now }
+    ensures second { result ≡ has_row Two name.now }
 {
-    let mut place = 0;
-    'rows: while let Some(row) = table_name(place) {
-        if row == name {
-            return true;
-        }
-        place += 1;
-    }
-    false
+    has_row(Profile::One, name)
 }
 
 /// The word of what is read of a file of this name.

@@ -8,7 +8,7 @@ ghost use Rattle.cg_line.specs.Decode.{IsCut};
 ghost use Rattle.cg_c.specs.Answer.{is_one_of, profile_of, IsFileTold, IsOutOfMemory};
 ghost use Rattle.cg_c.specs.Number.{limit_in, IsFileLimit};
 
-use crate::answer::{CUT, DONE, MAX, NO_FORM, NO_MEMORY, NO_PROFILE, NONE, REFUSED, profile_of};
+use crate::answer::{DONE, MAX, NO_PROFILE, NONE, profile_of, read_or_answer};
 use cg_line::{FileFault, decode_file};
 use cg_text::Limit;
 use cg_value::{Profile, Value};
@@ -81,19 +81,11 @@ pub extern "C" fn cgfile_number(
         Some(profile) => profile,
         None => return NO_PROFILE,
     };
-    let limit = match file_limit(alloc, profile, name, text, key) {
-        Ok(limit) => limit,
-        Err(FileFault::NotReadable) => return NO_FORM,
-        Err(FileFault::Refused { at: place }) => {
-            *at = place;
-            return REFUSED;
-        }
-        Err(FileFault::Cut { at: place }) => {
-            *at = place;
-            return CUT;
-        }
-        Err(FileFault::OutOfMemory) => return NO_MEMORY,
-    };
+    let limit = read_or_answer!(
+        file_limit(alloc, profile, name, text, key),
+        at,
+        FileFault::NotReadable
+    );
     match limit {
         Some(Limit::At(count)) => {
             *number = count;

@@ -7,7 +7,7 @@ ghost use Rattle.cg_value.specs.Table.{write_form_of};
 ghost use Rattle.cg_line.specs.Decode.{IsCut};
 ghost use Rattle.cg_c.specs.Answer.{profile_of, HasNoRoom, IsOutOfMemory, IsPrinted};
 
-use crate::answer::{CUT, DONE, NO_FORM, NO_MEMORY, NO_PROFILE, NO_ROOM, REFUSED, profile_of, put};
+use crate::answer::{DONE, NO_MEMORY, NO_PROFILE, NO_ROOM, profile_of, put, read_or_answer};
 use cg_line::{SettingFault, decode_setting};
 use cg_print::print_setting;
 use std::alloc::Global;
@@ -39,19 +39,11 @@ pub extern "C" fn cgfile_setting(
         Some(profile) => profile,
         None => return NO_PROFILE,
     };
-    let setting = match decode_setting(alloc, profile, name, line) {
-        Ok(setting) => setting,
-        Err(SettingFault::NotWritable) => return NO_FORM,
-        Err(SettingFault::Refused { at: place }) => {
-            *at = place;
-            return REFUSED;
-        }
-        Err(SettingFault::Cut { at: place }) => {
-            *at = place;
-            return CUT;
-        }
-        Err(SettingFault::OutOfMemory) => return NO_MEMORY,
-    };
+    let setting = read_or_answer!(
+        decode_setting(alloc, profile, name, line),
+        at,
+        SettingFault::NotWritable
+    );
     let text = match print_setting(alloc, &setting) {
         Ok(text) => text,
         Err(_) => return NO_MEMORY,

@@ -1,5 +1,5 @@
 -- What holds of the lines of devices.
-use Rattle.std.proofs.Common.{◌≡◌, ℕ, ◌↔◌, List, [], ◌∷◌, ◌++◌, refl, ◌∙◌, append_assoc, arith, codes}
+use Rattle.std.proofs.Common.{◌≡◌, ℕ, ◌≤◌, ◌↔◌, List, [], ◌∷◌, ◌++◌, refl, ◌∙◌, append_assoc, arith, codes}
 use Rattle.cg_text.specs.Decimal.{IsDecimal}
 use Rattle.cg_text.specs.Device.{IsDevice}
 use Rattle.cg_text.specs.Keyword.{text_of}
@@ -174,18 +174,18 @@ limits_lack = (lacking_as limits_is (turned_lacking (concat_lacking (device_lack
 abbrev pub weight_line : Device × (Unit {0} × ℕ) → WeightLine
 weight_line v = record { device = v.0; weight = v.1.1 }
 
-abbrev pub WeightParts : List ℕ → Device × (Unit {0} × ℕ) → Type 0
-WeightParts = IsConcat DeviceText (IsConcat (IsFixed (32 ∷ [])) (NumberText 1 10000))
+abbrev pub WeightParts : ℕ → List ℕ → Device × (Unit {0} × ℕ) → Type 0
+WeightParts most = IsConcat DeviceText (IsConcat (IsFixed (32 ∷ [])) (NumberText 1 most))
 
-pub weight_is : (text : List ℕ) (line : WeightLine) → IsTurned WeightParts weight_line text line ↔ IsWeightLine line text
-weight_is = parts_turned IsDevice (codes " ") (IsDecimal 1 10000) weight_line (λ x. x.device) (λ x. x.weight) (λ v w. refl) (λ v w. refl) (λ x. refl)
+pub weight_is : (most : ℕ) (text : List ℕ) (line : WeightLine) → IsTurned (WeightParts most) weight_line text line ↔ IsWeightLine most line text
+weight_is most = parts_turned IsDevice (codes " ") (IsDecimal 1 most) weight_line (λ x. x.device) (λ x. x.weight) (λ v w. refl) (λ v w. refl) (λ x. refl)
 
-pub weight_apart : Apart DeviceText (IsConcat (IsFixed (32 ∷ [])) (NumberText 1 10000))
-weight_apart = label_apart (device_lacking 32 (omega arith))
+pub weight_apart : (most : ℕ) → Apart DeviceText (IsConcat (IsFixed (32 ∷ [])) (NumberText 1 most))
+weight_apart most = label_apart (device_lacking 32 (omega arith))
 
-pub weight_startable : Startable (λ text line. IsWeightLine line text)
-weight_startable = startable_as weight_is (turned_startable weight_line (concat_startable weight_apart device_startable
-    (concat_startable (fixed_apart (32 ∷ []) (NumberText 1 10000)) (fixed_startable (32 ∷ []) (omega arith, tt)) (decimal_startable (omega arith)))))
+pub weight_startable : (most : ℕ) → 1 ≤ most → Startable (λ text line. IsWeightLine most line text)
+weight_startable most b = startable_as (weight_is most) (turned_startable weight_line (concat_startable (weight_apart most) device_startable
+    (concat_startable (fixed_apart (32 ∷ []) (NumberText 1 most)) (fixed_startable (32 ∷ []) (omega arith, tt)) (decimal_startable b))))
 
-pub weight_lacks : LacksByte (λ text line. IsWeightLine line text) 10
-weight_lacks = (lacking_as weight_is (turned_lacking (concat_lacking (device_lacking 10 (omega arith)) (concat_lacking (fixed_lacking 10 (32 ∷ []) refl) (decimal_lacking 10 1 10000 (omega arith)))))).is
+pub weight_lacks : (most : ℕ) → LacksByte (λ text line. IsWeightLine most line text) 10
+weight_lacks most = (lacking_as (weight_is most) (turned_lacking (concat_lacking (device_lacking 10 (omega arith)) (concat_lacking (fixed_lacking 10 (32 ∷ []) refl) (decimal_lacking 10 1 most (omega arith)))))).is

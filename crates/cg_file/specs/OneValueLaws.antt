@@ -62,7 +62,8 @@ use Rattle.cg_value.specs.declared.value.NestedPair.{NestedPair}
 use Rattle.cg_value.specs.declared.value.Role.{Role}
 use Rattle.cg_value.specs.declared.value.Value.{Value}
 use Rattle.cg_value.specs.declared.value.Value.TheVariants as value
-use Rattle.cg_file.specs.DeviceLineLaws.{limits_startable, target_startable, weight_startable}
+use Rattle.cg_value.specs.declared.value.WeightLine.{WeightLine}
+use Rattle.cg_file.specs.DeviceLineLaws.{NumberText, limits_startable, target_startable, weight_apart, weight_is, weight_line}
 use Rattle.cg_file.specs.FlatFileLaws.{flat_line_is}
 use Rattle.cg_file.specs.FourLaws.{four_startable}
 use Rattle.cg_file.specs.Laws.{OneValue, OneValueOfName, ReadBack, ReadBackOfName}
@@ -74,7 +75,7 @@ use Rattle.cg_file.specs.OneOrBoth.{Differ}
 use Rattle.cg_file.specs.PartitionFileLaws.{member_differs, partition_is}
 use Rattle.cg_file.specs.PartitionTurned.{IsInvalidText, IsReasonText, IsRootText, IsRootWord, partition_parts}
 use Rattle.cg_file.specs.PressureFileLaws.{AveragesValues, averages_from, line_averages, values_of}
-use Rattle.cg_file.specs.StartableLaws.{Startable, decimal_startable, hundredths_startable, limit_startable}
+use Rattle.cg_file.specs.StartableLaws.{Startable, decimal_startable, device_startable, hundredths_startable, limit_startable}
 use Rattle.cg_file.specs.StatFileLaws.{stat_startable}
 use Rattle.cg_file.specs.WordsFileLaws.{line_joined}
 
@@ -208,18 +209,22 @@ same_back : (front a b : List ℕ) → front ++ a ≡ front ++ b → a ≡ b
 same_back [] a b e = e
 same_back (x ∷ front) a b e = same_back front a b (tails x x (front ++ a) (front ++ b) e)
 
-default_one : (m n : ℕ) (line : List ℕ) → IsDefaultLine m line → IsDefaultLine n line → m ≡ n
-default_one m n line h k =
+default_one : (most m n : ℕ) (line : List ℕ) → IsDefaultLine most m line → IsDefaultLine most n line → m ≡ n
+default_one most m n line h k =
     let same : h.0 ≡ k.0 = same_back (codes "default ") h.0 k.0 (sym h.1 ∙ k.1) in
-    one_decimal 1 10000 k.0 m n (rw same at h.2) k.2
+    one_decimal 1 most k.0 m n (rw same at h.2) k.2
 
-weights_one : (v w : Value) (lines : List (List ℕ)) → AreWeightLines v lines → AreWeightLines w lines → v ≡ w
-weights_one v w lines h k =
+weight_one : (most : ℕ) → HasOneText (λ line w. IsWeightLine most w line)
+weight_one most = one_as (weight_is most) (turned_one weight_line (concat_one (weight_apart most) device_startable.one
+    (concat_one (fixed_apart (32 ∷ []) (NumberText 1 most)) (fixed_one (32 ∷ [])) (one_decimal 1 most))))
+
+weights_one : (most : ℕ) (v w : Value) (lines : List (List ℕ)) → AreWeightLines most v lines → AreWeightLines most w lines → v ≡ w
+weights_one most v w lines h k =
     let same : h.first ∷ h.others ≡ k.first ∷ k.others = sym h.lines_are ∙ k.lines_are in
     let first : h.first ≡ k.first = cc in
     let others : h.others ≡ k.others = cc in
-    let default : h.default ≡ k.default = default_one h.default k.default k.first (rw first at h.first_is) k.first_is in
-    let devices : h.devices ≡ k.devices = values_one IsWeightLine weight_startable.one h.devices k.devices k.others (rw others at h.others_are) k.others_are in
+    let default : h.default ≡ k.default = default_one most h.default k.default k.first (rw first at h.first_is) k.first_is in
+    let devices : h.devices ≡ k.devices = values_one (IsWeightLine most) (weight_one most) h.devices k.devices k.others (rw others at h.others_are) k.others_are in
     h.value ∙ ap (λ n. value.DeviceWeights n h.devices) default ∙ ap (λ ls. value.DeviceWeights k.default ls) devices ∙ sym k.value
 
 -- ---- The line of a partition
@@ -316,7 +321,7 @@ lines_value form.Words v w lines h k = made_one AreWords value.Words words_one v
 lines_value form.Flat v w lines h k = made_one AreFlatLines value.Flat (λ x y ls a b. values_one IsFlatLine flat_one x y ls a.each b.each) v w lines h k
 lines_value form.DeviceStats v w lines h k = many_lines IsStatLine value.DeviceStats stat_startable.one v w lines h k
 lines_value form.DeviceLimits v w lines h k = many_lines IsLimitLine value.DeviceLimits limits_startable.one v w lines h k
-lines_value form.DeviceWeights v w lines h k = weights_one v w lines h k
+lines_value (form.DeviceWeights most) v w lines h k = weights_one most v w lines h k
 lines_value form.DeviceTargets v w lines h k = many_lines IsTargetLine value.DeviceTargets target_startable.one v w lines h k
 lines_value (form.Set most) v w lines h k = one_line (IsStrictList most) value.Set (set_one most) v w lines h k
 lines_value form.Partition v w lines h k = one_line (λ (x : Role × Bool × Option (List ℕ)) line. IsPartition (x.0) (x.1) (x.2) line) (λ x. value.Partition (x.0) (x.1) (x.2)) partition_one v w lines h k

@@ -44,41 +44,41 @@ line_and_rest text front back line rest e f g = e ∙ rw (f, g) (append_assoc li
 
 -- ---- Weights
 
-abbrev pub DefaultLine : List ℕ → Unit {0} × (Unit {0} × ℕ) → Type 0
-DefaultLine = IsConcat (IsFixed (text_of Default)) (IsConcat (IsFixed (32 ∷ [])) (NumberText 1 10000))
+abbrev pub DefaultLine : ℕ → List ℕ → Unit {0} × (Unit {0} × ℕ) → Type 0
+DefaultLine most = IsConcat (IsFixed (text_of Default)) (IsConcat (IsFixed (32 ∷ [])) (NumberText 1 most))
 
-abbrev pub DefaultEnded : List ℕ → (Unit {0} × (Unit {0} × ℕ)) × Unit {0} → Type 0
-DefaultEnded = IsConcat DefaultLine (IsFixed (10 ∷ []))
+abbrev pub DefaultEnded : ℕ → List ℕ → (Unit {0} × (Unit {0} × ℕ)) × Unit {0} → Type 0
+DefaultEnded most = IsConcat (DefaultLine most) (IsFixed (10 ∷ []))
 
-abbrev pub WeightLines : List ℕ → List WeightLine → Type 0
-WeightLines = AreLines (λ text line. IsWeightLine line text) 10
+abbrev pub WeightLines : ℕ → List ℕ → List WeightLine → Type 0
+WeightLines most = AreLines (λ text line. IsWeightLine most line text) 10
 
 abbrev pub weights_value : ((Unit {0} × (Unit {0} × ℕ)) × Unit {0}) × List WeightLine → Value
 weights_value v = DeviceWeights v.0.0.1.1 v.1
 
-pub default_lacks : Lacking DefaultLine 10
-default_lacks = concat_lacking (keyword_lacking Default) (concat_lacking (fixed_lacking 10 (32 ∷ []) refl) (decimal_lacking 10 1 10000 (omega arith)))
+pub default_lacks : (most : ℕ) → Lacking (DefaultLine most) 10
+default_lacks most = concat_lacking (keyword_lacking Default) (concat_lacking (fixed_lacking 10 (32 ∷ []) refl) (decimal_lacking 10 1 most (omega arith)))
 
-default_to : (text : List ℕ) (v : Unit {0} × (Unit {0} × ℕ)) → DefaultLine text v → IsDefaultLine v.1.1 text
-default_to text v h =
-    let a = (label_is (text_of Default) (IsConcat (IsFixed (32 ∷ [])) (NumberText 1 10000)) text v).0 h in
-    let b = (label_is (32 ∷ []) (NumberText 1 10000) a.0 (v.1)).0 a.2 in
+default_to : (most : ℕ) (text : List ℕ) (v : Unit {0} × (Unit {0} × ℕ)) → DefaultLine most text v → IsDefaultLine most v.1.1 text
+default_to most text v h =
+    let a = (label_is (text_of Default) (IsConcat (IsFixed (32 ∷ [])) (NumberText 1 most)) text v).0 h in
+    let b = (label_is (32 ∷ []) (NumberText 1 most) a.0 (v.1)).0 a.2 in
     (b.0, a.1 ∙ ap (λ t. text_of Default ++ t) b.1, b.2)
 
-default_from : (text : List ℕ) (n : ℕ) → IsDefaultLine n text → DefaultLine text (tt, (tt, n))
-default_from text n h =
-    (label_is (text_of Default) (IsConcat (IsFixed (32 ∷ [])) (NumberText 1 10000)) text (tt, (tt, n))).1
-    (32 ∷ h.0, h.1, (label_is (32 ∷ []) (NumberText 1 10000) (32 ∷ h.0) (tt, n)).1 (h.0, refl, h.2))
+default_from : (most : ℕ) (text : List ℕ) (n : ℕ) → IsDefaultLine most n text → DefaultLine most text (tt, (tt, n))
+default_from most text n h =
+    (label_is (text_of Default) (IsConcat (IsFixed (32 ∷ [])) (NumberText 1 most)) text (tt, (tt, n))).1
+    (32 ∷ h.0, h.1, (label_is (32 ∷ []) (NumberText 1 most) (32 ∷ h.0) (tt, n)).1 (h.0, refl, h.2))
 
 -- The line of the default, and lines of devices, turned into a value, are a file of weights.
-pub weights_are : (text : List ℕ) (v : Value) → IsTurned (IsConcat DefaultEnded WeightLines) weights_value text v ↔ KindText WeightsForm v text
-weights_are text v = (
+pub weights_are : (most : ℕ) (text : List ℕ) (v : Value) → IsTurned (IsConcat (DefaultEnded most) (WeightLines most)) weights_value text v ↔ KindText (WeightsForm most) v text
+weights_are most text v = (
   λ h. (let ended = h.1.begins in
-      let k = lines_to IsWeightLine h.1.back (h.0.1) h.1.ends in
+      let k = lines_to (IsWeightLine most) h.1.back (h.0.1) h.1.ends in
       let front : h.1.front ≡ ended.front ++ 10 ∷ [] = rw ended.ends at ended.whole in
       record {
         lines = ended.front ∷ k.0;
-        spelled = record { default = h.0.0.0.1.1; devices = h.0.1; first = ended.front; others = k.0; value = sym h.2; lines_are = refl; first_is = default_to ended.front (h.0.0.0) ended.begins; others_are = k.1 };
+        spelled = record { default = h.0.0.0.1.1; devices = h.0.1; first = ended.front; others = k.0; value = sym h.2; lines_are = refl; first_is = default_to most ended.front (h.0.0.0) ended.begins; others_are = k.1 };
         text_is = line_and_rest text h.1.front h.1.back ended.front _ h.1.whole front k.2;
       }),
   λ h. (let a = h.spelled in
@@ -88,8 +88,8 @@ weights_are text v = (
           front = a.first ++ 10 ∷ [];
           back = _;
           whole = h.text_is ∙ rw a.lines_are (sym (append_assoc a.first (10 ∷ []) _));
-          begins = record { front = a.first; back = 10 ∷ []; whole = refl; begins = default_from a.first a.default a.first_is; ends = refl };
-          ends = lines_from IsWeightLine _ a.devices a.others a.others_are refl;
+          begins = record { front = a.first; back = 10 ∷ []; whole = refl; begins = default_from most a.first a.default a.first_is; ends = refl };
+          ends = lines_from (IsWeightLine most) _ a.devices a.others a.others_are refl;
         },
         sym a.value,
       ))),

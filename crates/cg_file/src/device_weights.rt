@@ -1,5 +1,5 @@
-//! A file of a default weight and of devices and their weights (cgroup-v2.rst, io.weight).
-ghost use Rattle.std.specs.Prelude.{◌≡◌};
+//! A file of a default weight and of devices and their weights (cgroup-v2.rst, io.weight; bfq-iosched.rst).
+ghost use Rattle.std.specs.Prelude.{◌≡◌, ◌≤◌};
 ghost use Rattle.cg_text.specs.Token.{Spells};
 ghost use Rattle.cg_value.specs.Files.{KindText};
 ghost use Rattle.cg_value.specs.declared.kind.ReadForm.TheVariants.{DeviceWeights as DeviceWeightsForm};
@@ -50,12 +50,13 @@ pub struct WeightLineText {
 }
 
 impl WeightLineText {
-    /// A token of such lines.
-    pub(crate) fn new() -> WeightLineText
-        ensures spells { Spells ⟦<WeightLineText as Token>⟧.means result (λ text line. IsWeightLine line text) }
+    /// A token of such lines, with weights from 1 to `most`.
+    pub(crate) fn new(most: u64) -> WeightLineText
+        requires { 1 ≤ most }
+        ensures spells { Spells ⟦<WeightLineText as Token>⟧.means result (λ text line. IsWeightLine most line text) }
         ensures size { ⟦<WeightLineText as Token>⟧.size result ≡ 0 }
     {
-        let weight = spaced(decimal_in(1, 10000));
+        let weight = spaced(decimal_in(1, most));
         WeightLineText {
             parts: Mapped::new(Sequence::new(DeviceText::new(), weight)),
         }
@@ -118,24 +119,27 @@ impl Token for WeightLineText {
     }
 }
 
-/// Makes tokens of such lines.
+/// Makes tokens of such lines, with weights from 1 to `most`.
 #[derive(Clone, Copy)]
-pub struct WeightStart;
+pub struct WeightStart {
+    most: u64,
+    ghost range: { 1 ≤ most },
+}
 
 impl Start<WeightLineText> for WeightStart {
     ghost use Rattle.cg_file.specs.DeviceLineLaws.{weight_startable};
 
-    ghost texts = { λ _ text line. IsWeightLine line text };
+    ghost texts = { λ s text line. IsWeightLine s.most line text };
 
     fn start(&self) -> WeightLineText {
-        WeightLineText::new()
+        WeightLineText::new(self.most)
     }
 
-    ghost some_text = { λ _. weight_startable.some };
+    ghost some_text = { λ s. (weight_startable s.most s.range).some };
 
-    ghost one_text = { λ _. weight_startable.one };
+    ghost one_text = { λ s. (weight_startable s.most s.range).one };
 
-    ghost text_bytes = { λ _. weight_startable.bytes };
+    ghost text_bytes = { λ s. (weight_startable s.most s.range).bytes };
 }
 
 /// The default weight and a newline.
@@ -178,16 +182,17 @@ pub struct DeviceWeightsFile {
 }
 
 impl DeviceWeightsFile {
-    /// A token of such files.
-    pub fn new(alloc: Global) -> DeviceWeightsFile
+    /// A token of such files, with weights from 1 to `most`.
+    pub fn new(alloc: Global, most: u64) -> DeviceWeightsFile
+        requires { 1 ≤ most }
         ensures spells { Spells ⟦<DeviceWeightsFile as Token>⟧.means result
-            (λ text v. KindText DeviceWeightsForm v text) }
+            (λ text v. KindText (DeviceWeightsForm most) v text) }
         ensures size { ⟦<DeviceWeightsFile as Token>⟧.size result ≡ 0 }
     {
-        let default = spaced(decimal_in(1, 10000));
+        let default = spaced(decimal_in(1, most));
         let first = labelled(Keyword::Default, default);
         let line = Sequence::new(first, ByteText::new(b'\n'));
-        let lines = Lines::new(alloc, WeightStart, b'\n');
+        let lines = Lines::new(alloc, WeightStart { most }, b'\n');
         DeviceWeightsFile {
             text: Mapped::new(Sequence::new(line, lines)),
         }

@@ -98,7 +98,9 @@ fn text_of(alloc: Global, form: ReadForm) -> FileText
         ReadForm::Flat => FileText::Flat(FlatFile::new(alloc)),
         ReadForm::DeviceStats => FileText::DeviceStats(DeviceStatsFile::new(alloc)),
         ReadForm::DeviceLimits => FileText::DeviceLimits(DeviceLimitsFile::new(alloc)),
-        ReadForm::DeviceWeights => FileText::DeviceWeights(DeviceWeightsFile::new(alloc)),
+        ReadForm::DeviceWeights { most } => {
+            FileText::DeviceWeights(DeviceWeightsFile::new(alloc, most))
+        }
         ReadForm::DeviceTargets => FileText::DeviceTargets(DeviceTargetsFile::new(alloc)),
         ReadForm::Set { most } => FileText::Set(SetFile::new(alloc, most)),
         ReadForm::Partition => FileText::Partition(PartitionFile::new(alloc)),

@@ -66,14 +66,14 @@ fn is_given_back(rt: &HostRuntime, profile: Profile, path: &str, copy: &str) -> 
     Ok(false)
 }
 
-/// Reads the file at this path in both profiles and writes it back. `copy` is its name in its folder.
+/// Reads the file at this path in each profile and writes it back. `copy` is its name in its folder.
 pub(crate) fn give_back(
     rt: &HostRuntime,
     path: &str,
     copy: &str,
     tally: &mut Tally,
 ) -> io::Result<()> {
-    for profile in [Profile::One, Profile::Two] {
+    for profile in [Profile::One, Profile::Two, Profile::Kernel] {
         tally.all = tally.all.saturating_add(1);
         let is_same = if copy.ends_with(".snap") {
             shown::is_given_back(rt, profile, path)?

@@ -7,7 +7,7 @@
 //! how many of the real texts are given back byte for byte, and before that a line for each that isn't.
 //!
 //! `real/NAME.N` holds the whole content of one file of the name NAME, and N only tells several contents apart. It is
-//! read and written back in both profiles. `real/NAME.snap` is a snapshot, as `grep -rZ '' DIR` made it. It is read in
+//! read and written back in each profile. `real/NAME.snap` is a snapshot, as `grep -rZ '' DIR` made it. It is read in
 //! pieces of three lengths; what is written back are its entries' records, and what is shown of them is compared too.
 //!
 //! A table has a row a line, of fields with `|` between. Spaces around a field don't belong to it, and a line that ends

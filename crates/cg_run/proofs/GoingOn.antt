@@ -96,9 +96,6 @@ text_push part old mid new a b e f =
     ∙ ap (λ (t : List ℕ). old ++ t) (sym (joined_both (flat_map part a) (flat_map part b)) ∙ ap joined (sym (flat_map-append part a b)))
 
 -- One thing alone.
-pub joined_single : (part : Told → List (List ℕ)) (t : Told) → joined (flat_map part (t ∷ [])) ≡ joined (part t)
-joined_single part t = ap joined (append-nil (part t))
-
 pub some_single : (part : Told → List (List ℕ)) (t : Told) → part t ≢ [] → flat_map part (t ∷ []) ≢ []
 some_single part t some e = some (sym (append-nil (part t)) ∙ e)
 

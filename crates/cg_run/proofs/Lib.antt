@@ -1,4 +1,3 @@
-pub mod AmongNames
 pub mod Builds
 pub mod Checking
 pub mod Commands
@@ -31,3 +30,4 @@ pub mod SpotTold
 pub mod Spots
 pub mod WithoutOptions
 pub mod Standing
+pub mod Explaining

@@ -10,7 +10,7 @@ use Rattle.cg_run.specs.declared.words.UsageFault.{UsageFault}
 use Rattle.cg_run.specs.declared.words.UsageFault.TheVariants.{Help, Bad, OutOfMemory}
 use Rattle.cg_run.specs.CommandLine.{cgfile_app}
 use Rattle.cg_run.specs.Program.{IsUnread, fault_text}
-use Rattle.cg_run.specs.Words.{Answers, IsMade, IsRefusal, IsTold, IsToldOf, IsUnchosen}
+use Rattle.cg_run.specs.Words.{Answers, IsMade, IsRefusal, IsTold, IsToldOf}
 
 pub ok_always : {X E : Type 0} (r : Result X E) (P : Type 0) → P → IfOk r (λ _. P)
 ok_always (Ok x) P p = p
@@ -48,8 +48,3 @@ answer_says words (Err fault) h = told_says (fault_of (cgfile_app h.0) words) (m
 pub unread_says : (kind : IoKind) (fault : UsageFault) → IsUnread kind fault → 0 < length (fault_text fault)
 unread_says kind fault (inl h) = subst (λ f. 0 < length (fault_text f)) (sym h.1) (omega arith)
 unread_says kind fault (inr h) = subst (λ f. 0 < length (fault_text f)) (sym h.1) (omega arith)
-
--- Why a subcommand's matches give no command, with options that fit.
-pub unchosen_refused : (before : List Row) (name : Text) (rows : List Row) (fault : UsageFault) → IsUnchosen rows fault → IsRefusal before (Some (name, rows)) fault
-unchosen_refused before name rows fault (inl h) = inl h
-unchosen_refused before name rows fault (inr h) = inr (h.0, inl h.1)

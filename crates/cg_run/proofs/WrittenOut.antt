@@ -2,11 +2,11 @@
 use Rattle.std.proofs.Common.{refl}
 use Rattle.clap.proofs.OnLiterals.{clap_on_literals}
 use Rattle.cg_run.specs.CommandLine.{cgfile_app}
-use Rattle.cg_run.specs.TableNames.{is_in_table}
+use Rattle.cg_value.specs.Table.{has_row}
 use Rattle.cg_run.specs.Rows.{ExplainRows, FaultRows, GoingOnRows, KnownRows, LimitRows}
 
 pub known_rows : KnownRows
-unfolding cgfile_app clap_on_literals is_in_table
+unfolding cgfile_app clap_on_literals has_row
 known_rows names = (
   (refl, (refl, refl)),
   (refl, (refl, refl)),

@@ -6,6 +6,7 @@ pub mod Decoded
 pub mod Ended
 pub mod Entries
 pub mod Explain
+pub mod Explained
 pub mod FileReader
 pub mod GoneOn
 pub mod GoneOnReader
@@ -27,7 +28,6 @@ pub mod Spot
 pub mod Stood
 pub mod Stream
 pub mod Streaming
-pub mod TableNames
 pub mod Taken
 pub mod TextReader
 pub mod Words

@@ -4,12 +4,13 @@ use Rattle.clap.specs.Words.{Text, fault_of, matches_of, subcommand_of, takes}
 use Rattle.clap.specs.declared.error.kind.ErrorKind.{ErrorKind}
 use Rattle.clap.specs.declared.error.kind.ErrorKind.TheVariants.{DisplayHelp, DisplayVersion, MissingRequiredArgument, UnknownArgument}
 use Rattle.cg_run.specs.CommandLine.{Lent, cgfile_app}
+use Rattle.cg_value.specs.declared.profile.Profile.TheVariants.{One}
 use Rattle.cg_run.specs.Words.{is_fit, is_welcome, limits_of, name_in, options_of}
 
 -- `clap` takes these words, with this NAME, and it may stand there or not
 abbrev pub IsNamed : Lent → List Text → (name : Text) → (welcome : Bool) → Type 0
 IsNamed names words name welcome = (takes (cgfile_app names) words ≡ true)
-    × IsSomeAnd (subcommand_of (cgfile_app names) words) (λ s. (name_in s.1 ≡ name) × (is_welcome s.1 ≡ welcome))
+    × IsSomeAnd (subcommand_of (cgfile_app names) words) (λ s. (name_in s.1 ≡ name) × (is_welcome One s.1 ≡ welcome))
 
 abbrev pub KnownRows : Type 0
 KnownRows = (names : Lent)

@@ -5,10 +5,10 @@ use Rattle.std.specs.List.{list_all}
 use Rattle.std.specs.Str.{bytes_eq}
 use Rattle.std.specs.Str.Parse.{digits_value, without_leading_plus}
 use Rattle.cg_snap.specs.declared.limits.Limits.{Limits}
+use Rattle.cg_value.specs.Table.{has_row}
 use Rattle.cg_value.specs.declared.profile.Profile.{Profile}
-use Rattle.cg_value.specs.declared.profile.Profile.TheVariants.{One, Two}
+use Rattle.cg_value.specs.declared.profile.Profile.TheVariants.{One, Two, Kernel}
 use Rattle.cg_run.specs.CommandLine.{Lent, cgfile_app, texts_of}
-use Rattle.cg_run.specs.TableNames.{is_in_table}
 use Rattle.cg_run.specs.declared.words.Command.{Command}
 use Rattle.cg_run.specs.declared.words.Command.TheVariants.{File, Setting, Show, Json, Check, Plan, Kinds}
 use Rattle.cg_run.specs.declared.options.Options.{Options}
@@ -47,7 +47,7 @@ limits_of before after = record {
 -- the profile that has this name, and another where none is named
 abbrev pub profile_named : (given : Profile) → Option Text → Profile
 profile_named given None = given
-profile_named given (Some name) = if bytes_eq name (codes "2") then Two else One
+profile_named given (Some name) = if bytes_eq name (codes "2") then Two else (if bytes_eq name (codes "kernel") then Kernel else One)
 
 abbrev pub profile_of : (before after : List Row) → Profile
 profile_of before after = profile_named (profile_named One (first_of (codes "profile") before)) (first_of (codes "profile") after)
@@ -89,19 +89,19 @@ name_in rows = unwrap_or (first_of (codes "NAME") rows) []
 abbrev pub wants_known : List Row → Bool
 wants_known rows = is_used (codes "known") rows
 
--- NAME may stand there: with `--known` only a name of the file table may
-abbrev pub is_welcome : List Row → Bool
-is_welcome rows = not (wants_known rows) || is_in_table (name_in rows)
+-- NAME may stand there: with `--known` only a name of the profile's file table may
+abbrev pub is_welcome : Profile → List Row → Bool
+is_welcome profile rows = not (wants_known rows) || has_row profile (name_in rows)
 
 -- the command that a subcommand's name and matches stand for
-abbrev pub IsCommand : (name : Text) → List Row → Command → Type 0
-IsCommand name rows (File held) = (name ≡ codes "file") × (held.items ≡ name_in rows) × (is_welcome rows ≡ true)
-IsCommand name rows (Setting held) = (name ≡ codes "setting") × (held.items ≡ name_in rows) × (is_welcome rows ≡ true)
-IsCommand name rows Show = name ≡ codes "show"
-IsCommand name rows Json = name ≡ codes "json"
-IsCommand name rows Check = name ≡ codes "check"
-IsCommand name rows Plan = name ≡ codes "plan"
-IsCommand name rows Kinds = name ≡ codes "kinds"
+abbrev pub IsCommand : Profile → (name : Text) → List Row → Command → Type 0
+IsCommand profile name rows (File held) = (name ≡ codes "file") × (held.items ≡ name_in rows) × (is_welcome profile rows ≡ true)
+IsCommand profile name rows (Setting held) = (name ≡ codes "setting") × (held.items ≡ name_in rows) × (is_welcome profile rows ≡ true)
+IsCommand profile name rows Show = name ≡ codes "show"
+IsCommand profile name rows Json = name ≡ codes "json"
+IsCommand profile name rows Check = name ≡ codes "check"
+IsCommand profile name rows Plan = name ≡ codes "plan"
+IsCommand profile name rows Kinds = name ≡ codes "kinds"
 
 -- the words of commands
 abbrev pub is_plain_word : Text → Bool
@@ -117,7 +117,7 @@ pub record IsMadeFrom (before : List Row) (sub : Text × List Row) (r : Request)
   pub limits : r.limits ≡ limits_of before sub.1
   pub options : r.options ≡ options_of before sub.1
   pub fit : is_fit sub.0 (options_of before sub.1) ≡ true
-  pub command : IsCommand sub.0 sub.1 r.command
+  pub command : IsCommand (profile_of before sub.1) sub.0 sub.1 r.command
 
 -- ... where a subcommand is met
 abbrev pub IsMade : (before : List Row) → Option (Text × List Row) → Request → Type 0
@@ -130,15 +130,15 @@ is_met (Some s) = is_word s.0
 
 -- the name that is given to the subcommand isn't welcome, or the options don't fit
 abbrev pub IsUnwelcome : (before : List Row) → Option (Text × List Row) → Type 0
-IsUnwelcome before sub = IsSomeAnd sub (λ s. (is_welcome s.1 ≡ false) ⊎ (is_fit s.0 (options_of before s.1) ≡ false))
+IsUnwelcome before sub = IsSomeAnd sub (λ s. (is_welcome (profile_of before s.1) s.1 ≡ false) ⊎ (is_fit s.0 (options_of before s.1) ≡ false))
 
 -- why matches give no command: no memory was left, or the name isn't welcome, or the options don't fit
 abbrev pub IsRefusal : (before : List Row) → Option (Text × List Row) → UsageFault → Type 0
 IsRefusal before sub fault = (fault ≡ OutOfMemory) ⊎ ((fault ≡ Bad) × IsUnwelcome before sub)
 
--- why the matches of a subcommand give no command
-abbrev pub IsUnchosen : List Row → UsageFault → Type 0
-IsUnchosen rows fault = (fault ≡ OutOfMemory) ⊎ ((fault ≡ Bad) × (is_welcome rows ≡ false))
+-- why the matches of a subcommand give no command in the profile
+abbrev pub IsUnchosen : Profile → List Row → UsageFault → Type 0
+IsUnchosen profile rows fault = (fault ≡ OutOfMemory) ⊎ ((fault ≡ Bad) × (is_welcome profile rows ≡ false))
 
 -- ---- what the words ask for
 
@@ -160,7 +160,7 @@ IsTold kinds before sub Bad = ((kind : ErrorKind) × IsAmong kind kinds × IsTol
 -- and only where that gives no error; a fault is told as that function's errors say; and where `clap` takes the words, the
 -- only faults are want of memory, a name that isn't welcome, and options that don't fit.
 pub record IsAnswer (names : Lent) (words : List Text) (answer : Result Request UsageFault) : Type 0 where
-  pub profiles : texts_of names ≡ codes "1" ∷ codes "2" ∷ []
+  pub profiles : texts_of names ≡ codes "1" ∷ codes "2" ∷ codes "kernel" ∷ []
   pub made : IfOk answer (IsMade (matches_of (cgfile_app names) words) (subcommand_of (cgfile_app names) words))
   pub right : IfOk answer (λ _. fault_of (cgfile_app names) words ≡ [])
   pub told : IfErr answer (IsTold (fault_of (cgfile_app names) words) (matches_of (cgfile_app names) words) (subcommand_of (cgfile_app names) words))

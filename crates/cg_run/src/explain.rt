@@ -43,7 +43,11 @@ fn middle_of(spot: &Spot<'_>) -> Line
 }
 
 /// Writes the line of a spot.
-fn tell_spot<W: Sink>(writer: &mut W, spot: &Spot<'_>, written: &mut u64) -> Result<(), Outcome>
+pub(crate) fn tell_spot<W: Sink>(
+    writer: &mut W,
+    spot: &Spot<'_>,
+    written: &mut u64,
+) -> Result<(), Outcome>
     ensures told { (first : Option (List ℕ)) (text : List ℕ) →
         HasWrittenText first (W.taken writer.old) text written.old →
         MatchResult result (λ _. HasWrittenText first (W.taken writer.new) (text ++ spot_words spot.now) written.new)

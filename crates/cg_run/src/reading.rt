@@ -52,7 +52,7 @@ fn ending_at(fault: PushFault, at: u64, byte: Option<u8>) -> Ending
 }
 
 /// Takes the bytes of a piece, of which the first has the place `at`.
-fn take_piece<T: TextReader>(
+pub(crate) fn take_piece<T: TextReader>(
     reader: &mut T,
     piece: &[u8],
     at: u64,

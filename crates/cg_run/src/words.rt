@@ -7,9 +7,8 @@ ghost use Rattle.cg_run.specs.Words.{Answers, AnswersPlain, IsCommand, IsMade, I
 use crate::command_line::command_line;
 use crate::help;
 use crate::options::Options;
-use crate::table_names::is_in_table;
 use cg_snap::Limits;
-use cg_value::Profile;
+use cg_value::{Profile, has_row};
 use clap::ArgMatches;
 use clap::error::ErrorKind;
 use std::alloc::{AllocError, Global};
@@ -87,32 +86,41 @@ fn is_used(matches: &ArgMatches, id: &str) -> bool
     }
 }
 
-/// The bytes of NAME, if it may stand there: with `--known` only a name of the file table may.
-fn welcome_name(alloc: Global, matches: &ArgMatches) -> Result<Vec<u8>, UsageFault>
+/// The bytes of NAME, if it may stand there: with `--known` only a name of the profile's file table may.
+fn welcome_name(
+    alloc: Global,
+    profile: Profile,
+    matches: &ArgMatches,
+) -> Result<Vec<u8>, UsageFault>
     ensures name { IfOk result (λ v. (v.items ≡ name_in (rows_of (found_of matches.now)))
-        × (is_welcome (rows_of (found_of matches.now)) ≡ true)) }
-    ensures fault { IfErr result (IsUnchosen (rows_of (found_of matches.now))) }
+        × (is_welcome profile (rows_of (found_of matches.now)) ≡ true)) }
+    ensures fault { IfErr result (IsUnchosen profile (rows_of (found_of matches.now))) }
 {
     let name = name_given(matches);
-    if is_used(matches, "known") && !is_in_table(name) {
+    if is_used(matches, "known") && !has_row(profile, name) {
         return Err(UsageFault::Bad);
     }
     Ok(Vec::from_slice(alloc, name)?)
 }
 
 /// The command of a subcommand and its matches.
-fn chosen(alloc: Global, name: &str, inner: &ArgMatches) -> Result<Command, UsageFault>
-    ensures made { IfOk result (IsCommand name.now (rows_of (found_of inner.now))) }
-    ensures known { is_word name.now ≡ true → IfErr result (IsUnchosen (rows_of (found_of inner.now))) }
+fn chosen(
+    alloc: Global,
+    profile: Profile,
+    name: &str,
+    inner: &ArgMatches,
+) -> Result<Command, UsageFault>
+    ensures made { IfOk result (IsCommand profile name.now (rows_of (found_of inner.now))) }
+    ensures known { is_word name.now ≡ true → IfErr result (IsUnchosen profile (rows_of (found_of inner.now))) }
 {
     if name == "file" {
         return Ok(Command::File {
-            name: welcome_name(alloc, inner)?,
+            name: welcome_name(alloc, profile, inner)?,
         });
     }
     if name == "setting" {
         return Ok(Command::Setting {
-            name: welcome_name(alloc, inner)?,
+            name: welcome_name(alloc, profile, inner)?,
         });
     }
     plain_command(name).ok_or(UsageFault::Bad)
@@ -120,7 +128,7 @@ fn chosen(alloc: Global, name: &str, inner: &ArgMatches) -> Result<Command, Usag
 
 /// The command of a subcommand that names no file.
 fn plain_command(name: &str) -> Option<Command>
-    ensures made { IfSome result (IsCommand name.now []) }
+    ensures made { IfSome result (IsCommand Profile.One name.now []) }
     ensures known { is_plain_word name.now ≡ is_some result }
 {
     if name == "show" {
@@ -176,6 +184,8 @@ fn profile_at(matches: &ArgMatches, given: Profile) -> Profile
         Some(name) => {
             if name == "2" {
                 Profile::Two
+            } else if name == "kernel" {
+                Profile::Kernel
             } else {
                 Profile::One
             }
@@ -249,9 +259,10 @@ fn made(alloc: Global, matches: &ArgMatches) -> Result<Request, UsageFault>
     if !is_fit(name, options) {
         return Err(UsageFault::Bad);
     }
+    let profile = profile_at(inner, profile_at(matches, Profile::One));
     Ok(Request {
-        profile: profile_at(inner, profile_at(matches, Profile::One)),
-        command: chosen(alloc, name, inner)?,
+        profile,
+        command: chosen(alloc, profile, name, inner)?,
         limits: limits_among(matches, inner),
         options,
     })
@@ -288,11 +299,11 @@ fn parse_named<'a>(
 ///
 /// `Help` has the text that is to be printed, where they ask for help or for the version; `Bad` is
 /// answered where they are no command line of this program, or `--known` goes with a name that the
-/// file table doesn't have, or `--keep-going` with `--explain` or with a command that reads no snapshot.
+/// profile's file table doesn't have, or `--keep-going` with `--explain` or with a command that reads no snapshot.
 pub fn parse_request(alloc: Global, words: &[String]) -> Result<Request, UsageFault>
     ensures { Answers (map (λ w. string_bytes w) words.now) result }
 {
-    let profiles: [&str; 2] = ["1", "2"];
+    let profiles: [&str; 3] = ["1", "2", "kernel"];
     parse_named(alloc, profiles.as_slice(), words)
 }
 

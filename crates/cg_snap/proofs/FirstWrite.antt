@@ -71,7 +71,7 @@ first_setting form.DeviceLimits b = (
   codes "0:0 rbps=max",
   record { x = (record { major = 0; minor = 0 }, rbps_max); value = refl; spelled = record { front = codes "0:0"; back = codes "rbps=max"; text_is = refl; front_is = device; back_is = rbps_is } },
 )
-first_setting form.DeviceWeight b = (setting.DefaultWeight 1, codes "1", inl (one 10000 (omega arith)))
+first_setting (form.DeviceWeight most) b = (setting.DefaultWeight 1, codes "1", inl (one most b.0))
 first_setting form.DeviceTarget b = (
   setting.DeviceTarget (record { major = 0; minor = 0 }) 0,
   codes "0:0 target=0",

@@ -18,7 +18,7 @@ use Rattle.cg_value.specs.declared.item.ItemFault.TheVariants as fault
 use Rattle.cg_value.specs.declared.kind.WriteForm.{WriteForm}
 use Rattle.cg_value.specs.declared.kind.WriteForm.TheVariants as form
 use Rattle.cg_value.specs.declared.profile.Profile.{Profile}
-use Rattle.cg_value.specs.declared.profile.Profile.TheVariants.{One, Two}
+use Rattle.cg_value.specs.declared.profile.Profile.TheVariants.{One, Two, Kernel}
 use Rattle.cg_value.specs.declared.setting.Setting.{Setting}
 use Rattle.cg_file.specs.WeightFileLaws.{not_empty}
 use Rattle.cg_line.specs.Takes.{Takes, takes_viable}
@@ -122,6 +122,7 @@ raw_120 : (profile : Profile) → write_form_of profile (120 ∷ []) ≡ Some fo
 unfolding write_form_of
 raw_120 One = refl
 raw_120 Two = refl
+raw_120 Kernel = refl
 
 none_some : (k : WriteForm) (a : Option WriteForm) → a ≡ None → a ≡ Some k → ⊥
 none_some k a e f = cc

@@ -20,7 +20,7 @@ use Rattle.cg_value.specs.WholeLinesLaws.{can_end}
 use Rattle.cg_value.specs.declared.kind.ReadForm.{ReadForm}
 use Rattle.cg_value.specs.declared.kind.ReadForm.TheVariants as form
 use Rattle.cg_value.specs.declared.profile.Profile.{Profile}
-use Rattle.cg_value.specs.declared.profile.Profile.TheVariants.{One, Two}
+use Rattle.cg_value.specs.declared.profile.Profile.TheVariants.{One, Two, Kernel}
 use Rattle.cg_value.specs.declared.value.Value.{Value}
 use Rattle.cg_file.specs.WeightFileLaws.{not_empty}
 use Rattle.cg_line.specs.MadeLaws.{printed_some}
@@ -97,11 +97,13 @@ raw_120 : (profile : Profile) → read_form_of profile (120 ∷ []) ≡ Some for
 unfolding read_form_of
 raw_120 One = refl
 raw_120 Two = refl
+raw_120 Kernel = refl
 
 raw_121 : (profile : Profile) → read_form_of profile (121 ∷ []) ≡ Some form.Raw
 unfolding read_form_of
 raw_121 One = refl
 raw_121 Two = refl
+raw_121 Kernel = refl
 
 pub record Goes (profile : Profile) (begun q : List ℕ) : Type 0 where
   pub rest : List ℕ

@@ -27,8 +27,6 @@ pub mod ProfileLaws
 pub mod Pulled
 pub mod RecordPlace
 pub mod RoundTrip
-pub mod RowLaws
-pub mod Rows
 pub mod Snap
 pub mod SnapLaws
 pub mod SnapStop

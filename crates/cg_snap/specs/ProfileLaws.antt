@@ -1,6 +1,6 @@
 -- What holds of both profiles: where a text is a snapshot of each, the entries are the same, but for those that the second
 -- reads as nested.
-use Rattle.std.proofs.Common.{◌≡◌, ℕ, ◌≤◌, Bool, true, false, cond, List, [], ◌∷◌, Option, Some, codes, inl, inr, ◌⊎◌, refl, sym, ap, subst, ◌∙◌, arith}
+use Rattle.std.proofs.Common.{◌≡◌, ℕ, ◌≤◌, Bool, true, false, cond, List, [], ◌∷◌, ◌++◌, Option, Some, None, option_map, unwrap_or, codes, inl, inr, ◌⊎◌, refl, sym, ap, subst, ◌∙◌, arith}
 use Rattle.std.proofs.lemmas.Slice.Eq.{bytes_eq-Decides}
 use Rattle.std.specs.List.{AllZip}
 use Rattle.std.specs.Str.{bytes_eq}
@@ -11,7 +11,8 @@ use Rattle.cg_value.specs.EntryLaws.{entry_path, same_entry}
 use Rattle.cg_value.specs.Files.{ReadLines}
 use Rattle.cg_value.specs.Path.{IsNameOf}
 use Rattle.cg_value.specs.ReadLine.{IsRaw}
-use Rattle.cg_value.specs.Table.{Row, read_form_of, reads_in, rows}
+use Rattle.cg_value.specs.RowName.{behind, behind_size, row_name, sized_name}
+use Rattle.cg_value.specs.Table.{Row, read_form_of, reads_by, reads_in, rows}
 use Rattle.cg_value.specs.declared.kind.ReadForm.{ReadForm}
 use Rattle.cg_value.specs.declared.kind.ReadForm.TheVariants as form
 use Rattle.cg_value.specs.declared.profile.Profile.TheVariants.{One, Two}
@@ -302,9 +303,32 @@ rows_differ = (
   ),
 )
 
+abbrev first_byte : List ℕ → ℕ
+first_byte [] = 0
+first_byte (c ∷ cs) = c
+
+-- A row with `*` in its name has the same form in both, raw lines.
+renamed : (name row : List ℕ) (o p : Option ReadForm) → sized_name name (behind (codes "hugetlb.") name) ≡ Some row → Differ row o p → Differ name o p
+renamed name row o p e (inl d) = inl d
+renamed name row o p e (inr (inl d)) = inr (inl d)
+renamed name row o p e (inr (inr d)) = inr (inr (plain_name (behind (codes "hugetlb.") name) e ∙ d.0, d.1, d.2))
+  where
+    no_size : (size : Option (List ℕ)) → option_map (λ rest. codes "hugetlb.*" ++ rest) size ≡ Some row → ⊥
+    no_size None k = absurd (cc)
+    no_size (Some rest) k =
+        let sized : codes "hugetlb.*" ++ rest ≡ row = ap (λ (o : Option (List ℕ)). unwrap_or o []) k in
+        let firsts : 104 ≡ 109 = ap first_byte (sized ∙ d.0) in absurd (omega (arith, firsts))
+    plain_name : (front : Option (List ℕ)) → sized_name name front ≡ Some row → name ≡ row
+    plain_name None k = cc
+    plain_name (Some text) k = absurd (no_size (behind_size text) k)
+
+by_name : (name : List ℕ) (named : Option (List ℕ)) → row_name name ≡ named → Differ name (reads_by (rows One) named) (reads_by (rows Two) named)
+by_name name None e = inl refl
+by_name name (Some row) e = renamed name row _ _ e (reads_differ (rows One) (rows Two) row rows_differ)
+
 forms_differ : (name : List ℕ) → Differ name (read_form_of One name) (read_form_of Two name)
 unfolding read_form_of
-forms_differ name = reads_differ (rows One) (rows Two) name rows_differ
+forms_differ name = by_name name (row_name name) refl
 
 -- ---- Lists of more numbers
 

@@ -22,7 +22,6 @@ mod present;
 pub mod record_place;
 mod records;
 mod refusal;
-pub mod rows;
 mod snapshot;
 mod snapshot_records;
 pub mod stop;

@@ -137,7 +137,7 @@ first_value form.DeviceLimits b = (
     );
   },
 )
-first_value form.DeviceWeights b = (
+first_value (form.DeviceWeights most) b = (
   value.DeviceWeights 1 [],
   codes "default 1",
   record {
@@ -147,7 +147,7 @@ first_value form.DeviceWeights b = (
     others = [];
     value = refl;
     lines_are = refl;
-    first_is = (codes "1", refl, (omega arith, omega arith, inr (omega arith, omega arith, tt, refl)));
+    first_is = (codes "1", refl, (omega arith, b.0, inr (omega arith, omega arith, tt, refl)));
     others_are = tt;
   },
 )
@@ -208,7 +208,7 @@ may_be form.Words h = (value.Words [], record { x = []; value = refl; spelled = 
 may_be form.Flat h = (value.Flat [], record { x = []; value = refl; spelled = record { each = tt; distinct = tt } })
 may_be form.DeviceStats h = (value.DeviceStats [], record { xs = []; value = refl; spelled = tt })
 may_be form.DeviceLimits h = (value.DeviceLimits [], record { xs = []; value = refl; spelled = tt })
-may_be form.DeviceWeights h = absurd h
+may_be (form.DeviceWeights most) h = absurd h
 may_be form.DeviceTargets h = (value.DeviceTargets [], record { xs = []; value = refl; spelled = tt })
 may_be (form.Set most) h = absurd h
 may_be form.Partition h = absurd h
@@ -234,7 +234,7 @@ may_only form.Words v lines h e = tt
 may_only form.Flat v lines h e = tt
 may_only form.DeviceStats v lines h e = tt
 may_only form.DeviceLimits v lines h e = tt
-may_only form.DeviceWeights v lines h e = no_first h.first lines h.others h.lines_are e
+may_only (form.DeviceWeights most) v lines h e = no_first h.first lines h.others h.lines_are e
 may_only form.DeviceTargets v lines h e = tt
 may_only (form.Set most) v lines h e = no_first h.line lines [] h.lines_are e
 may_only form.Partition v lines h e = no_first h.line lines [] h.lines_are e

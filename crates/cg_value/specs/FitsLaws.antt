@@ -112,26 +112,26 @@ stats_fit ls = through form.DeviceStats (value.DeviceStats ls) (of_on IsStatLine
 pub limits_fit : (ls : List LimitLine) → HasLines (AllZip IsLimitLine ls) ↔ Fits form.DeviceLimits (value.DeviceLimits ls)
 limits_fit ls = through form.DeviceLimits (value.DeviceLimits ls) (of_on IsLimitLine value.DeviceLimits (λ x y e. cc) ls) (of_back IsLimitLine value.DeviceLimits (λ x y e. cc) ls)
 
-default_line : (weight : ℕ) → HasText (IsDecimal 1 10000 weight) ↔ HasText (IsDefaultLine weight)
-default_line weight = (
+default_line : (most weight : ℕ) → HasText (IsDecimal 1 most weight) ↔ HasText (IsDefaultLine most weight)
+default_line most weight = (
   λ h. record { text = codes "default " ++ h.text; spelled = (h.text, refl, h.spelled) },
   λ h. record { text = h.spelled.0; spelled = h.spelled.2 },
 )
 
-weights_on : (weight : ℕ) (ls : List WeightLine) → HasText (IsDecimal 1 10000 weight) × HasLines (AllZip IsWeightLine ls) → HasLines (ReadLines form.DeviceWeights (value.DeviceWeights weight ls))
-weights_on weight ls h =
-    let first = (default_line weight).0 h.0 in
+weights_on : (most weight : ℕ) (ls : List WeightLine) → HasText (IsDecimal 1 most weight) × HasLines (AllZip (IsWeightLine most) ls) → HasLines (ReadLines (form.DeviceWeights most) (value.DeviceWeights weight ls))
+weights_on most weight ls h =
+    let first = (default_line most weight).0 h.0 in
     record { lines = first.text ∷ h.1.lines; spelled = record { default = weight; devices = ls; first = first.text; others = h.1.lines; value = refl; lines_are = refl; first_is = first.spelled; others_are = h.1.spelled } }
 
-weights_back : (weight : ℕ) (ls : List WeightLine) (lines : List (List ℕ)) → ReadLines form.DeviceWeights (value.DeviceWeights weight ls) lines → HasText (IsDecimal 1 10000 weight) × HasLines (AllZip IsWeightLine ls)
-weights_back weight ls lines h =
+weights_back : (most weight : ℕ) (ls : List WeightLine) (lines : List (List ℕ)) → ReadLines (form.DeviceWeights most) (value.DeviceWeights weight ls) lines → HasText (IsDecimal 1 most weight) × HasLines (AllZip (IsWeightLine most) ls)
+weights_back most weight ls lines h =
     let of_all : value.DeviceWeights weight ls ≡ value.DeviceWeights h.default h.devices = h.value in
     let one : weight ≡ h.default = cc in
     let same : ls ≡ h.devices = cc in
-    (rw one ((default_line h.default).1 (record { text = h.first; spelled = h.first_is })), record { lines = h.others; spelled = rw same h.others_are })
+    (rw one ((default_line most h.default).1 (record { text = h.first; spelled = h.first_is })), record { lines = h.others; spelled = rw same h.others_are })
 
-pub weights_fit : (weight : ℕ) (ls : List WeightLine) → (HasText (IsDecimal 1 10000 weight) × HasLines (AllZip IsWeightLine ls)) ↔ Fits form.DeviceWeights (value.DeviceWeights weight ls)
-weights_fit weight ls = through form.DeviceWeights (value.DeviceWeights weight ls) (weights_on weight ls) (weights_back weight ls)
+pub weights_fit : (most weight : ℕ) (ls : List WeightLine) → (HasText (IsDecimal 1 most weight) × HasLines (AllZip (IsWeightLine most) ls)) ↔ Fits (form.DeviceWeights most) (value.DeviceWeights weight ls)
+weights_fit most weight ls = through (form.DeviceWeights most) (value.DeviceWeights weight ls) (weights_on most weight ls) (weights_back most weight ls)
 
 pub targets_fit : (ls : List TargetLine) → HasLines (AllZip IsTargetLine ls) ↔ Fits form.DeviceTargets (value.DeviceTargets ls)
 targets_fit ls = through form.DeviceTargets (value.DeviceTargets ls) (of_on IsTargetLine value.DeviceTargets (λ x y e. cc) ls) (of_back IsTargetLine value.DeviceTargets (λ x y e. cc) ls)

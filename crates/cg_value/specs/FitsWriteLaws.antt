@@ -93,19 +93,19 @@ reclaim_prints size (Some n) h = record {
   back_is = decimal_prints 0 200 n h.1 (omega arith);
 }
 
-pub weight_within : (device : Device) (weight : Option ℕ) (line : List ℕ) → IsWeightWrite device weight line → IsDeviceWithin device × IsGivenWithin 1 10000 weight
-weight_within device (Some n) line h = (device_within device h.front h.front_is, (h.back_is.0, h.back_is.1))
-weight_within device None line h = (device_within device h.0 h.2, tt)
+pub weight_within : (most : ℕ) (device : Device) (weight : Option ℕ) (line : List ℕ) → IsWeightWrite most device weight line → IsDeviceWithin device × IsGivenWithin 1 most weight
+weight_within most device (Some n) line h = (device_within device h.front h.front_is, (h.back_is.0, h.back_is.1))
+weight_within most device None line h = (device_within device h.0 h.2, tt)
 
-pub weight_prints : (device : Device) (weight : Option ℕ) → IsDeviceWithin device × IsGivenWithin 1 10000 weight → IsWeightWrite device weight (print_device device ++ print_device_weight weight)
-weight_prints device (Some n) h = record {
+pub weight_prints : (most : ℕ) (device : Device) (weight : Option ℕ) → most ≤ any_u64 → IsDeviceWithin device × IsGivenWithin 1 most weight → IsWeightWrite most device weight (print_device device ++ print_device_weight weight)
+weight_prints most device (Some n) b h = record {
   front = print_device device;
   back = decimal n;
   text_is = sym (append_assoc (print_device device) (codes " ") (decimal n));
   front_is = device_prints device h.0;
-  back_is = decimal_prints 1 10000 n h.1 (omega arith);
+  back_is = decimal_prints 1 most n h.1 b;
 }
-weight_prints device None h = (print_device device, refl, device_prints device h.0)
+weight_prints most device None b h = (print_device device, refl, device_prints device h.0)
 
 pub target_within : (device : Device) (target : ℕ) (line : List ℕ) → IsTargetWrite (device, target) line → IsDeviceWithin device × IsWithin 0 any_u64 target
 target_within device target line h = (device_within device h.front h.front_is, (h.back_is.0, h.back_is.1))
@@ -292,16 +292,16 @@ limits_fit x = (
   λ h. limit_write_within x h.line (made IsLimitWrite limits_setting (λ y z e. same_pair y z (cc) (same_limits (y.1) (z.1) (cc) (cc) (cc) (cc))) x h.line h.spelled),
 )
 
-pub default_fits : (weight : ℕ) → IsWithin 1 10000 weight ↔ FitsWrite form.DeviceWeight (setting.DefaultWeight weight)
-default_fits weight = (
-  λ h. record { line = decimal weight; spelled = inl (decimal_prints 1 10000 weight h (omega arith)) },
+pub default_fits : (most weight : ℕ) → most ≤ any_u64 → IsWithin 1 most weight ↔ FitsWrite (form.DeviceWeight most) (setting.DefaultWeight weight)
+default_fits most weight b = (
+  λ h. record { line = decimal weight; spelled = inl (decimal_prints 1 most weight h b) },
   λ h. elim h.spelled [ inl k ↦ (k.0, k.1) | inr k ↦ (k.2.0, k.2.1) ],
 )
 
-pub weight_fits : (device : Device) (weight : Option ℕ) → (IsDeviceWithin device × IsGivenWithin 1 10000 weight) ↔ FitsWrite form.DeviceWeight (setting.DeviceWeight device weight)
-weight_fits device weight = (
-  λ h. record { line = print_device device ++ print_device_weight weight; spelled = weight_prints device weight h },
-  λ h. weight_within device weight h.line h.spelled,
+pub weight_fits : (most : ℕ) (device : Device) (weight : Option ℕ) → most ≤ any_u64 → (IsDeviceWithin device × IsGivenWithin 1 most weight) ↔ FitsWrite (form.DeviceWeight most) (setting.DeviceWeight device weight)
+weight_fits most device weight b = (
+  λ h. record { line = print_device device ++ print_device_weight weight; spelled = weight_prints most device weight b h },
+  λ h. weight_within most device weight h.line h.spelled,
 )
 
 pub target_fits : (device : Device) (target : ℕ) → (IsDeviceWithin device × IsWithin 0 any_u64 target) ↔ FitsWrite form.DeviceTarget (setting.DeviceTarget device target)

@@ -22,6 +22,7 @@ abbrev pub IsReadForm : ReadForm → Type 0
 IsReadForm (read.Number lo hi) = AreBounds lo hi
 IsReadForm (read.Signed lo hi) = (lo ≡ negsuc 19) × (hi ≡ pos 19)
 IsReadForm (read.Numbers lo hi) = AreBounds lo hi
+IsReadForm (read.DeviceWeights most) = AreBounds 1 most
 IsReadForm (read.Set most) = IsListEnd most
 IsReadForm _ = Unit {0}
 
@@ -29,6 +30,7 @@ abbrev pub IsWriteForm : WriteForm → Type 0
 IsWriteForm (write.Number lo hi) = AreBounds lo hi
 IsWriteForm (write.Signed lo hi) = (lo ≡ negsuc 19) × (hi ≡ pos 19)
 IsWriteForm (write.Limit lo hi) = AreBounds lo hi
+IsWriteForm (write.DeviceWeight most) = AreBounds 1 most
 IsWriteForm (write.Set most) = IsListEnd most
 IsWriteForm _ = Unit {0}
 
@@ -45,7 +47,7 @@ read_word read.Words = codes "words"
 read_word read.Flat = codes "flat"
 read_word read.DeviceStats = codes "device_stats"
 read_word read.DeviceLimits = codes "device_limits"
-read_word read.DeviceWeights = codes "device_weights"
+read_word (read.DeviceWeights most) = codes "device_weights"
 read_word read.DeviceTargets = codes "device_targets"
 read_word (read.Set most) = codes "set"
 read_word read.Partition = codes "partition"
@@ -64,7 +66,7 @@ write_word write.Controllers = codes "controllers"
 write_word write.CpuMax = codes "cpu_max"
 write_word write.Reclaim = codes "reclaim"
 write_word write.DeviceLimits = codes "device_limits"
-write_word write.DeviceWeight = codes "device_weight"
+write_word (write.DeviceWeight most) = codes "device_weight"
 write_word write.DeviceTarget = codes "device_target"
 write_word (write.Set most) = codes "set"
 write_word write.Role = codes "role"

@@ -1,5 +1,5 @@
 -- The laws of the files that are read, over their definitions alone.
-use Rattle.std.specs.Prelude.{◌≡◌, ℕ, ◌⊎◌, ◌↔◌, List, [], ◌∷◌, ◌++◌}
+use Rattle.std.specs.Prelude.{◌≡◌, ℕ, ◌⊎◌, ◌↔◌, List, [], ◌∷◌, ◌++◌, Some, codes}
 use Rattle.std.specs.List.{AllByRecursion}
 use Rattle.cg_text.specs.Raw.{IsRawLine}
 use Rattle.cg_text.specs.Texts.{Viable}
@@ -7,6 +7,7 @@ use Rattle.cg_value.specs.Files.{ReadLines, Fits, KindText, KindFile}
 use Rattle.cg_value.specs.Kind.{IsReadForm}
 use Rattle.cg_value.specs.Lines.{unlines}
 use Rattle.cg_value.specs.Print.{print_lines, print_of}
+use Rattle.cg_value.specs.RowName.{row_name, IsSized}
 use Rattle.cg_value.specs.declared.kind.ReadForm.{ReadForm}
 use Rattle.cg_value.specs.declared.kind.ReadForm.TheVariants as form
 use Rattle.cg_value.specs.declared.value.Value.{Value}
@@ -78,3 +79,7 @@ MayHaveNoLine _ = ⊥
 -- They have the text of no bytes, and no other kind has.
 abbrev pub NoLine : Type 0
 NoLine = (kind : ReadForm) → MayHaveNoLine kind ↔ KindFile kind []
+
+-- A name has a size in it exactly where its row has `*` in place of one.
+abbrev pub SizedNames : Type 0
+SizedNames = (name rest : List ℕ) → IsSized name rest ↔ (row_name name ≡ Some (codes "hugetlb.*" ++ rest))

@@ -30,6 +30,8 @@ pub mod ReadLine
 pub mod Records
 pub mod RowFacts
 pub mod RowLaws
+pub mod RowName
+pub mod RowNameLaws
 pub mod Rows
 pub mod SettingRowLaws
 pub mod SettingRows

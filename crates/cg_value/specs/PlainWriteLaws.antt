@@ -185,12 +185,12 @@ reclaim_raw size (Some n) line h = raw_parts h.front (codes " swappiness=") h.ba
 limits_raw : (x : Device × LimitPairs) (line : List ℕ) → IsLimitWrite x line → IsRawLine line
 limits_raw x line h = raw_parts h.front (codes " ") h.back line h.text_is (device_raw (x.0) h.front h.front_is) (tested_raw (codes " ") refl) (pairs_raw h.back_is.pairs h.back h.back_is.spelled)
 
-weight_raw : (s : Setting) (line : List ℕ) → IsWeightSetting s line → IsRawLine line
-weight_raw (setting.DefaultWeight weight) line (inl h) = numeral_raw weight line h.2
-weight_raw (setting.DefaultWeight weight) line (inr h) = rw h.1 (raw_append (codes "default ") h.0 (tested_raw (codes "default ") refl) (numeral_raw weight h.0 h.2.2))
-weight_raw (setting.DeviceWeight device (Some weight)) line h = raw_parts h.front (codes " ") h.back line h.text_is (device_raw device h.front h.front_is) (tested_raw (codes " ") refl) (numeral_raw weight h.back h.back_is.2)
-weight_raw (setting.DeviceWeight device None) line h = rw h.1 (raw_append h.0 (codes " default") (device_raw device h.0 h.2) (tested_raw (codes " default") refl))
-weight_raw _ line h = absurd h
+weight_raw : (most : ℕ) (s : Setting) (line : List ℕ) → IsWeightSetting most s line → IsRawLine line
+weight_raw most (setting.DefaultWeight weight) line (inl h) = numeral_raw weight line h.2
+weight_raw most (setting.DefaultWeight weight) line (inr h) = rw h.1 (raw_append (codes "default ") h.0 (tested_raw (codes "default ") refl) (numeral_raw weight h.0 h.2.2))
+weight_raw most (setting.DeviceWeight device (Some weight)) line h = raw_parts h.front (codes " ") h.back line h.text_is (device_raw device h.front h.front_is) (tested_raw (codes " ") refl) (numeral_raw weight h.back h.back_is.2)
+weight_raw most (setting.DeviceWeight device None) line h = rw h.1 (raw_append h.0 (codes " default") (device_raw device h.0 h.2) (tested_raw (codes " default") refl))
+weight_raw most _ line h = absurd h
 
 target_raw : (x : Device × ℕ) (line : List ℕ) → IsTargetWrite x line → IsRawLine line
 target_raw x line h = raw_parts h.front (codes " target=") h.back line h.text_is (device_raw (x.0) h.front h.front_is) (tested_raw (codes " target=") refl) (numeral_raw (x.1) h.back h.back_is.2)
@@ -219,7 +219,7 @@ written_raw form.Controllers s line h = rw h.spelled.line_is (toggles_raw h.x h.
 written_raw form.CpuMax s line h = quota_raw (h.x.0) (h.x.1) line h.spelled
 written_raw form.Reclaim s line h = reclaim_raw (h.x.0) (h.x.1) line h.spelled
 written_raw form.DeviceLimits s line h = limits_raw h.x line h.spelled
-written_raw form.DeviceWeight s line h = weight_raw s line h
+written_raw (form.DeviceWeight most) s line h = weight_raw most s line h
 written_raw form.DeviceTarget s line h = target_raw h.x line h.spelled
 written_raw (form.Set most) s line h = ranges_raw most h.spelled.1 line h.spelled.3
 written_raw form.Role s line h = rw h.spelled (role_raw h.x)

@@ -59,10 +59,10 @@ made_lines_are : {X : Type 0} (P : X → List (List ℕ) → Type 0) (make : X �
     (v : Value) (lines : List (List ℕ)) → IsMadeOf P make v lines → lines ≡ print_lines v
 made_lines_are P make is v lines h = is h.x lines h.spelled ∙ ap print_lines (sym h.value)
 
-weight_lines_are : (v : Value) (lines : List (List ℕ)) → AreWeightLines v lines → lines ≡ print_lines v
-weight_lines_are v lines h =
-    let first = default_line_is h.default h.first h.first_is in
-    let others = lines_are IsWeightLine print_weight_line weight_line_is h.devices h.others h.others_are in
+weight_lines_are : (most : ℕ) (v : Value) (lines : List (List ℕ)) → most ≤ any_u64 → AreWeightLines most v lines → lines ≡ print_lines v
+weight_lines_are most v lines b h =
+    let first = default_line_is most h.default h.first b h.first_is in
+    let others = lines_are (IsWeightLine most) print_weight_line (λ w line. weight_line_is most w line b) h.devices h.others h.others_are in
     h.lines_are ∙ rw (first, others) (ap print_lines (sym h.value))
 
 pressure_lines_are : (some full : Option Averages) (lines : List (List ℕ)) → ArePressureLines some full lines → lines ≡ print_pressure_line (codes "some") some ++ print_pressure_line (codes "full") full
@@ -102,7 +102,7 @@ one_text form.Words v lines b h = words_are h.x v lines h.value h.spelled.lines_
 one_text form.Flat v lines b h = inl (made_lines_are AreFlatLines value.Flat (λ x ls k. lines_are IsFlatLine print_flat_line flat_line_is x ls k.each) v lines h)
 one_text form.DeviceStats v lines b h = inl (many_lines_are IsStatLine value.DeviceStats print_stat_line (λ xs. refl) stat_line_is v lines h)
 one_text form.DeviceLimits v lines b h = inl (many_lines_are IsLimitLine value.DeviceLimits print_limit_line (λ xs. refl) limit_line_is v lines h)
-one_text form.DeviceWeights v lines b h = inl (weight_lines_are v lines h)
+one_text (form.DeviceWeights most) v lines b h = inl (weight_lines_are most v lines b.1 h)
 one_text form.DeviceTargets v lines b h = inl (many_lines_are IsTargetLine value.DeviceTargets print_target_line (λ xs. refl) target_line_is v lines h)
 one_text (form.Set most) v lines b h = inl (one_line_is (IsStrictList most) value.Set print_set (λ x. refl) (λ x line k. set_text_is most x line (end_small most b) k.1) v lines h)
 one_text form.Partition v lines b h =

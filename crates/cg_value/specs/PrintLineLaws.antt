@@ -112,9 +112,6 @@ any_decimal n text h = decimal_text_is 0 any_u64 n text (omega arith) h
 any_limit : (l : Limit) (text : List ℕ) → IsLimit 0 any_u64 l text → text ≡ print_limit l
 any_limit l text h = limit_text_is any_u64 l text (omega arith) h
 
-weight_text_is : (n : ℕ) (text : List ℕ) → IsDecimal 1 10000 n text → text ≡ decimal n
-weight_text_is n text h = decimal_text_is 1 10000 n text (omega arith) h
-
 -- Lines.
 pub cpu_max_line_is : (x : Limit × ℕ) (line : List ℕ) → IsCpuMax x line → line ≡ print_limit (x.0) ++ 32 ∷ decimal (x.1)
 cpu_max_line_is x line h = parts_are (IsLimit 0 any_u64) 32 (IsDecimal 0 any_u64) (x.0) (x.1) line (print_limit (x.0)) (decimal (x.1)) (any_limit (x.0)) (any_decimal (x.1)) h
@@ -140,11 +137,11 @@ limit_line_is l line h =
     let wiops = any_limit l.wiops h.wiops h.wiops_is in
     h.line_is ∙ rw (device, rbps, wbps, riops, wiops)
 
-pub default_line_is : (weight : ℕ) (line : List ℕ) → IsDefaultLine weight line → line ≡ print_default_line weight
-default_line_is weight line h = h.1 ∙ ap (λ t. codes "default " ++ t) (weight_text_is weight h.0 h.2)
+pub default_line_is : (most weight : ℕ) (line : List ℕ) → most ≤ any_u64 → IsDefaultLine most weight line → line ≡ print_default_line weight
+default_line_is most weight line b h = h.1 ∙ ap (λ t. codes "default " ++ t) (decimal_text_is 1 most weight h.0 b h.2)
 
-pub weight_line_is : (w : WeightLine) (line : List ℕ) → IsWeightLine w line → line ≡ print_weight_line w
-weight_line_is w line h = parts_are IsDevice 32 (IsDecimal 1 10000) w.device w.weight line (print_device w.device) (decimal w.weight) (device_text_is w.device) (weight_text_is w.weight) h
+pub weight_line_is : (most : ℕ) (w : WeightLine) (line : List ℕ) → most ≤ any_u64 → IsWeightLine most w line → line ≡ print_weight_line w
+weight_line_is most w line b h = parts_are IsDevice 32 (IsDecimal 1 most) w.device w.weight line (print_device w.device) (decimal w.weight) (device_text_is w.device) (λ t k. decimal_text_is 1 most w.weight t b k) h
 
 pub target_line_is : (t : TargetLine) (line : List ℕ) → IsTargetLine t line → line ≡ print_target_line t
 target_line_is t line h =

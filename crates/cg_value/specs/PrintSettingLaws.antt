@@ -1,5 +1,5 @@
 -- The canonical line of a setting is a line of each kind that can hold it.
-use Rattle.std.proofs.Common.{◌≡◌, ℕ, ℤ, pos, negsuc, ◌≤ℤ◌, FitsSigned, inl, inr, Bool, Option, List, refl, sym, ap, subst, arith, w64}
+use Rattle.std.proofs.Common.{◌≡◌, ℕ, ◌≤◌, ℤ, pos, negsuc, ◌≤ℤ◌, FitsSigned, inl, inr, Bool, Option, List, refl, sym, ap, subst, arith, w64}
 use Rattle.std.proofs.lemmas.Int.{ints}
 use Rattle.std.specs.Fmt.{decimal, signed_decimal}
 use Rattle.cg_text.specs.Clamp.{IsClamp}
@@ -14,7 +14,7 @@ use Rattle.cg_text.specs.declared.values.Device.{Device}
 use Rattle.cg_text.specs.declared.values.Limit.{Limit}
 use Rattle.cg_value.specs.FitsWriteLaws.{limit_within, size_limit_within, size_limit_prints, clamp_within, quota_within, quota_prints, reclaim_within, reclaim_prints, weight_within, weight_prints}
 use Rattle.cg_value.specs.FitsWriteLaws.{target_within, target_prints, times_within, times_print, set_within, set_prints, list_end_small, limit_write_within, limit_write_prints}
-use Rattle.cg_value.specs.Kind.{IsWriteForm}
+use Rattle.cg_value.specs.Kind.{any_u64, IsWriteForm}
 use Rattle.cg_value.specs.Lines.{IsLineOf}
 use Rattle.cg_value.specs.Print.{print_setting_line, print_setting_of}
 use Rattle.cg_value.specs.PrintTokenLaws.{decimal_prints, limit_prints, clamp_prints}
@@ -37,11 +37,11 @@ nice_fits (negsuc n) low high = record { sfits = omega (arith, ints, low) }
 signed_prints : (lo hi z : ℤ) → lo ≡ negsuc 19 → hi ≡ pos 19 → lo ≤ℤ z → z ≤ℤ hi → IsSigned lo hi z (signed_decimal z)
 signed_prints lo hi z e f low high = signed_decimal_is lo hi z low high (nice_fits z (rw e at low) (rw f at high))
 
-weight_setting_prints : (s : Setting) (line : List ℕ) → IsWeightSetting s line → IsWeightSetting s (print_setting_line s)
-weight_setting_prints (setting.DefaultWeight weight) line (inl h) = inr (decimal weight, refl, decimal_prints 1 10000 weight (h.0, h.1) (omega arith))
-weight_setting_prints (setting.DefaultWeight weight) line (inr h) = inr (decimal weight, refl, decimal_prints 1 10000 weight (h.2.0, h.2.1) (omega arith))
-weight_setting_prints (setting.DeviceWeight device weight) line h = weight_prints device weight (weight_within device weight line h)
-weight_setting_prints _ line h = absurd h
+weight_setting_prints : (most : ℕ) (s : Setting) (line : List ℕ) → most ≤ any_u64 → IsWeightSetting most s line → IsWeightSetting most s (print_setting_line s)
+weight_setting_prints most (setting.DefaultWeight weight) line b (inl h) = inr (decimal weight, refl, decimal_prints 1 most weight (h.0, h.1) b)
+weight_setting_prints most (setting.DefaultWeight weight) line b (inr h) = inr (decimal weight, refl, decimal_prints 1 most weight (h.2.0, h.2.1) b)
+weight_setting_prints most (setting.DeviceWeight device weight) line b h = weight_prints most device weight b (weight_within most device weight line h)
+weight_setting_prints most _ line b h = absurd h
 
 -- The canonical line of a setting that has a line of the kind.
 pub line_prints : (kind : WriteForm) (s : Setting) (line : List ℕ) → IsWriteForm kind → WriteLine kind s line → WriteLine kind s (print_setting_line s)
@@ -55,7 +55,7 @@ line_prints form.Controllers s line k h = reprinted AreToggles setting.Controlle
 line_prints form.CpuMax s line k h = reprinted (λ (x : Limit × Option ℕ) l. IsQuota (x.0) (x.1) l) (λ x. setting.CpuMax (x.0) (x.1)) s line (λ x t p. quota_prints (x.0) (x.1) (quota_within (x.0) (x.1) t p)) h
 line_prints form.Reclaim s line k h = reprinted (λ (x : ℕ × Option ℕ) l. IsReclaim (x.0) (x.1) l) (λ x. setting.Reclaim (x.0) (x.1)) s line (λ x t p. reclaim_prints (x.0) (x.1) (reclaim_within (x.0) (x.1) t p)) h
 line_prints form.DeviceLimits s line k h = reprinted IsLimitWrite limits_setting s line (λ x t p. limit_write_prints x (limit_write_within x t p)) h
-line_prints form.DeviceWeight s line k h = weight_setting_prints s line h
+line_prints (form.DeviceWeight most) s line k h = weight_setting_prints most s line k.1 h
 line_prints form.DeviceTarget s line k h = reprinted IsTargetWrite (λ (x : Device × ℕ). setting.DeviceTarget (x.0) (x.1)) s line (λ x t p. target_prints (x.0) (x.1) (target_within (x.0) (x.1) t p)) h
 line_prints (form.Set most) s line k h = reprinted (IsLooseList most) setting.Set s line (λ x t p. set_prints most x p.0 (set_within most x t p) (list_end_small most k)) h
 line_prints form.Role s line k h = reprinted IsRole setting.Role s line (λ x t p. refl) h

@@ -184,11 +184,11 @@ limits_raw l line h =
     let four = then_raw (h.device ++ codes " rbps=" ++ h.rbps ++ codes " wbps=" ++ h.wbps ++ codes " riops=" ++ h.riops) (codes " wiops=") h.wiops refl three (any_limit l.wiops h.wiops h.wiops_is) in
     rw h.line_is four
 
-default_raw : (weight : ℕ) (line : List ℕ) → IsDefaultLine weight line → IsRawLine line
-default_raw weight line h = along (codes "default " ++ h.0) line h.1 (raw_append (codes "default ") h.0 (printable (codes "default ") refl) (decimal_raw 1 10000 weight h.0 h.2))
+default_raw : (most weight : ℕ) (line : List ℕ) → IsDefaultLine most weight line → IsRawLine line
+default_raw most weight line h = along (codes "default " ++ h.0) line h.1 (raw_append (codes "default ") h.0 (printable (codes "default ") refl) (decimal_raw 1 most weight h.0 h.2))
 
-weight_raw : (w : WeightLine) (line : List ℕ) → IsWeightLine w line → IsRawLine line
-weight_raw w line h = parts_raw IsDevice (codes " ") (IsDecimal 1 10000) w.device w.weight line (device_raw w.device) (printable (codes " ") refl) (decimal_raw 1 10000 w.weight) h
+weight_raw : (most : ℕ) (w : WeightLine) (line : List ℕ) → IsWeightLine most w line → IsRawLine line
+weight_raw most w line h = parts_raw IsDevice (codes " ") (IsDecimal 1 most) w.device w.weight line (device_raw w.device) (printable (codes " ") refl) (decimal_raw 1 most w.weight) h
 
 target_raw : (t : TargetLine) (line : List ℕ) → IsTargetLine t line → IsRawLine line
 target_raw t line h = parts_raw IsDevice (codes " target=") (IsDecimal 0 any_u64) t.device t.target line (device_raw t.device) (printable (codes " target=") refl) (any_decimal t.target) h
@@ -249,8 +249,8 @@ words_lines_raw ws lines h = of_lines h.lines_are
     of_lines (inl e) = one_raw (words_line ws) lines e (words_raw ws (recursion_from_All IsControllerWord ws h.each))
     of_lines (inr e) = rw e.1 tt
 
-weights_raw : (v : Value) (lines : List (List ℕ)) → AreWeightLines v lines → AllByRecursion IsRawLine lines
-weights_raw v lines h = rw h.lines_are (default_raw h.default h.first h.first_is, each_raw IsWeightLine weight_raw h.devices h.others h.others_are)
+weights_raw : (most : ℕ) (v : Value) (lines : List (List ℕ)) → AreWeightLines most v lines → AllByRecursion IsRawLine lines
+weights_raw most v lines h = rw h.lines_are (default_raw most h.default h.first h.first_is, each_raw (IsWeightLine most) (weight_raw most) h.devices h.others h.others_are)
 
 pressures_raw : (some full : Option Averages) (lines : List (List ℕ)) → ArePressureLines some full lines → AllByRecursion IsRawLine lines
 pressures_raw None None lines h = absurd h
@@ -271,7 +271,7 @@ raw_lines form.Words v lines h = words_lines_raw h.x lines h.spelled
 raw_lines form.Flat v lines h = each_raw IsFlatLine flat_raw h.x lines h.spelled.each
 raw_lines form.DeviceStats v lines h = each_raw IsStatLine stat_raw h.xs lines h.spelled
 raw_lines form.DeviceLimits v lines h = each_raw IsLimitLine limits_raw h.xs lines h.spelled
-raw_lines form.DeviceWeights v lines h = weights_raw v lines h
+raw_lines (form.DeviceWeights most) v lines h = weights_raw most v lines h
 raw_lines form.DeviceTargets v lines h = each_raw IsTargetLine target_raw h.xs lines h.spelled
 raw_lines (form.Set most) v lines h = one_raw h.line lines h.lines_are (ranges_raw most h.x h.line h.spelled.1)
 raw_lines form.Partition v lines h = one_raw h.line lines h.lines_are (partition_raw (h.x.0) (h.x.1) (h.x.2) h.line h.spelled)

@@ -95,22 +95,23 @@ pub record IsLimitLine (l : LimitLine) (line : List ℕ) : Type 0 where
   pub riops_is : IsLimit 0 any_u64 l.riops riops
   pub wiops_is : IsLimit 0 any_u64 l.wiops wiops
 
--- device_weights: io.weight. The default weight first, then a device and its weight a line.
-abbrev pub IsDefaultLine : ℕ → List ℕ → Type 0
-IsDefaultLine weight line = (back : List ℕ) × (line ≡ codes "default " ++ back) × IsDecimal 1 10000 weight back
+-- device_weights: io.weight, io.bfq.weight. The default weight first, then a device and its weight a line; the weights are
+-- at most most.
+abbrev pub IsDefaultLine : ℕ → ℕ → List ℕ → Type 0
+IsDefaultLine most weight line = (back : List ℕ) × (line ≡ codes "default " ++ back) × IsDecimal 1 most weight back
 
-abbrev pub IsWeightLine : WeightLine → List ℕ → Type 0
-IsWeightLine w line = HasParts IsDevice (codes " ") (IsDecimal 1 10000) w.device w.weight line
+abbrev pub IsWeightLine : ℕ → WeightLine → List ℕ → Type 0
+IsWeightLine most w line = HasParts IsDevice (codes " ") (IsDecimal 1 most) w.device w.weight line
 
-pub record AreWeightLines (v : Value) (lines : List (List ℕ)) : Type 0 where
+pub record AreWeightLines (most : ℕ) (v : Value) (lines : List (List ℕ)) : Type 0 where
   pub default : ℕ
   pub devices : List WeightLine
   pub first : List ℕ
   pub others : List (List ℕ)
   pub value : v ≡ DeviceWeights default devices
   pub lines_are : lines ≡ first ∷ others
-  pub first_is : IsDefaultLine default first
-  pub others_are : AllZip IsWeightLine devices others
+  pub first_is : IsDefaultLine most default first
+  pub others_are : AllZip (IsWeightLine most) devices others
 
 -- device_targets: io.latency. A device and its target latency a line.
 abbrev pub IsTargetLine : TargetLine → List ℕ → Type 0

@@ -236,7 +236,7 @@ device_limits = file form.DeviceLimits (codes "8:16 rbps=2097152 wbps=max riops=
 
 pub device_weight_rows : DeviceWeights
 unfolding read_form_of
-device_weight_rows = file form.DeviceWeights (codes "default 100" ∷ codes "8:16 200" ∷ []) refl (record {
+device_weight_rows = file (form.DeviceWeights 10000) (codes "default 100" ∷ codes "8:16 200" ∷ []) refl (record {
   default = 100;
   devices = weight_line (device 8 16) 200 ∷ [];
   first = codes "default 100";

@@ -165,14 +165,14 @@ no_members_print = refl
 
 pub weight_alone : WeightAlone
 unfolding write_form_of
-weight_alone = write form.DeviceWeight (codes "50") refl (inl (decimal_tested 1 10000 50 (codes "50") refl)) refl
+weight_alone = write (form.DeviceWeight 10000) (codes "50") refl (inl (decimal_tested 1 10000 50 (codes "50") refl)) refl
 
 pub weight_alone_prints : WeightAlonePrints
 weight_alone_prints = rw (printed 50 (codes "50") (omega arith) refl) refl
 
 pub device_default : DeviceDefault
 unfolding write_form_of
-device_default = write form.DeviceWeight (codes "8:16 default") refl (codes "8:16", refl, device_tested 8 16 (codes "8") (codes "16") refl refl) refl
+device_default = write (form.DeviceWeight 10000) (codes "8:16 default") refl (codes "8:16", refl, device_tested 8 16 (codes "8") (codes "16") refl refl) refl
 
 pub device_default_prints : DeviceDefaultPrints
 device_default_prints = rw (printed 8 (codes "8") (omega arith) refl, printed 16 (codes "16") (omega arith) refl) refl

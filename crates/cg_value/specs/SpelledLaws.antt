@@ -236,8 +236,8 @@ limits_text l =
       λ h. (let f = (limits_on l).1 h in (f.0, all.0 (each.1 (f.1, f.2, f.3, f.4)))),
     )
 
-pub weight_text : (w : WeightLine) → (HasText (IsDevice w.device) × HasText (IsDecimal 1 10000 w.weight)) ↔ HasText (IsWeightLine w)
-weight_text w = parts_text IsDevice (codes " ") (IsDecimal 1 10000) w.device w.weight
+pub weight_text : (most : ℕ) (w : WeightLine) → (HasText (IsDevice w.device) × HasText (IsDecimal 1 most w.weight)) ↔ HasText (IsWeightLine most w)
+weight_text most w = parts_text IsDevice (codes " ") (IsDecimal 1 most) w.device w.weight
 
 pub target_text : (t : TargetLine) → (HasText (IsDevice t.device) × HasText (IsDecimal 0 any_u64 t.target)) ↔ HasText (IsTargetLine t)
 target_text t = parts_text IsDevice (codes " target=") (IsDecimal 0 any_u64) t.device t.target

@@ -1,16 +1,19 @@
 -- The file table: what each interface file holds when it is read, and what one write of it holds (cgroup-v2.rst, "Core
 -- Interface Files", "CPU", "Memory", "IO", "PID" and "Cpuset"). The bounds of cpu.weight as it is read include 0, which
 -- kernels print where a group is idle. The document is that of Linux 6.1.192:
--- https://www.kernel.org/doc/html/v6.1/admin-guide/cgroup-v2.html.
-use Rattle.std.specs.Prelude.{ℕ, pos, negsuc, List, [], ◌∷◌, Option, Some, None, codes, if◌then◌else◌}
+-- https://www.kernel.org/doc/html/v6.1/admin-guide/cgroup-v2.html. The rows of the kernel profile alone are what kernels up to
+-- 7.3 print (cgroup-v2.rst of 7.3, also "HugeTLB", "Misc" and "DMEM"; block/bfq-iosched.rst, "BFQ group scheduling").
+use Rattle.std.specs.Prelude.{ℕ, Bool, false, pos, negsuc, List, [], ◌∷◌, Option, Some, None, codes, if◌then◌else◌}
+use Rattle.std.specs.List.{list_any}
 use Rattle.std.specs.Str.{bytes_eq}
 use Rattle.cg_value.specs.Kind.{any_u64}
+use Rattle.cg_value.specs.RowName.{row_name}
 use Rattle.cg_value.specs.declared.kind.ReadForm.{ReadForm}
 use Rattle.cg_value.specs.declared.kind.ReadForm.TheVariants as read
 use Rattle.cg_value.specs.declared.kind.WriteForm.{WriteForm}
 use Rattle.cg_value.specs.declared.kind.WriteForm.TheVariants as write
 use Rattle.cg_value.specs.declared.profile.Profile.{Profile}
-use Rattle.cg_value.specs.declared.profile.Profile.TheVariants.{One, Two}
+use Rattle.cg_value.specs.declared.profile.Profile.TheVariants.{One, Two, Kernel}
 
 -- A row: none stands where a file of the name can't be read, or written.
 pub record Row : Type 0 where
@@ -21,14 +24,39 @@ pub record Row : Type 0 where
 abbrev pub row : List ℕ → Option ReadForm → Option WriteForm → Row
 row name reads writes = record { name = name; reads = reads; writes = writes }
 
--- Where the two profiles differ: the greatest list number, and how memory.numa_stat is read.
+-- Where the profiles differ: the greatest list number, how memory.numa_stat is read, and which rows come after the others.
 abbrev pub list_end : Profile → ℕ
 list_end One = 65535
 list_end Two = 1048575
+list_end Kernel = 1048575
 
 abbrev pub numa_stat : Profile → ReadForm
 numa_stat One = read.Raw
 numa_stat Two = read.Nested
+numa_stat Kernel = read.Nested
+
+abbrev pub more_rows : Profile → List Row
+more_rows One = []
+more_rows Two = []
+more_rows Kernel = row (codes "cgroup.stat.local") (Some read.Flat) (None)
+    ∷ row (codes "cpu.stat.local") (Some read.Flat) (None)
+    ∷ row (codes "pids.events.local") (Some read.Flat) (None)
+    ∷ row (codes "hugetlb.*.current") (Some (read.Number 0 any_u64)) (None)
+    ∷ row (codes "hugetlb.*.rsvd.current") (Some (read.Number 0 any_u64)) (None)
+    ∷ row (codes "hugetlb.*.max") (Some read.Limit) (Some write.SizeLimit)
+    ∷ row (codes "hugetlb.*.rsvd.max") (Some read.Limit) (Some write.SizeLimit)
+    ∷ row (codes "hugetlb.*.events") (Some read.Flat) (None)
+    ∷ row (codes "hugetlb.*.events.local") (Some read.Flat) (None)
+    ∷ row (codes "misc.capacity") (Some read.Flat) (None)
+    ∷ row (codes "misc.current") (Some read.Flat) (None)
+    ∷ row (codes "misc.peak") (Some read.Flat) (None)
+    ∷ row (codes "misc.events") (Some read.Flat) (None)
+    ∷ row (codes "misc.events.local") (Some read.Flat) (None)
+    ∷ row (codes "dmem.capacity") (Some read.Flat) (None)
+    ∷ row (codes "dmem.current") (Some read.Flat) (None)
+    ∷ row (codes "dmem.peak") (Some read.Flat) (None)
+    ∷ row (codes "io.bfq.weight") (Some (read.DeviceWeights 1000)) (Some (write.DeviceWeight 1000))
+    ∷ []
 
 abbrev pub rows : Profile → List Row
 rows profile = row (codes "cgroup.type") (Some read.Mode) (Some write.Mode)
@@ -75,7 +103,7 @@ rows profile = row (codes "cgroup.type") (Some read.Mode) (Some write.Mode)
     ∷ row (codes "memory.pressure") (Some read.Pressure) (Some write.Trigger)
     ∷ row (codes "io.stat") (Some read.DeviceStats) (None)
     ∷ row (codes "io.max") (Some read.DeviceLimits) (Some write.DeviceLimits)
-    ∷ row (codes "io.weight") (Some read.DeviceWeights) (Some write.DeviceWeight)
+    ∷ row (codes "io.weight") (Some (read.DeviceWeights 10000)) (Some (write.DeviceWeight 10000))
     ∷ row (codes "io.latency") (Some read.DeviceTargets) (Some write.DeviceTarget)
     ∷ row (codes "io.pressure") (Some read.Pressure) (Some write.Trigger)
     ∷ row (codes "irq.pressure") (Some read.Pressure) (Some write.Trigger)
@@ -91,7 +119,7 @@ rows profile = row (codes "cgroup.type") (Some read.Mode) (Some write.Mode)
     ∷ row (codes "cpuset.cpus.exclusive.effective") (Some (read.Set (list_end profile))) (None)
     ∷ row (codes "cpuset.cpus.isolated") (Some (read.Set (list_end profile))) (None)
     ∷ row (codes "cpuset.cpus.partition") (Some read.Partition) (Some write.Role)
-    ∷ []
+    ∷ more_rows profile
 
 -- What the first row of the name says. A name outside the table is raw both ways.
 abbrev pub reads_in : List Row → List ℕ → Option ReadForm
@@ -102,10 +130,27 @@ abbrev pub writes_in : List Row → List ℕ → Option WriteForm
 writes_in [] name = Some write.Raw
 writes_in (r ∷ rs) name = if bytes_eq r.name name then r.writes else writes_in rs name
 
+-- The same of the row's name that a file's name has, if it may have one.
+abbrev pub reads_by : List Row → Option (List ℕ) → Option ReadForm
+reads_by rs None = Some read.Raw
+reads_by rs (Some name) = reads_in rs name
+
+abbrev pub writes_by : List Row → Option (List ℕ) → Option WriteForm
+writes_by rs None = Some write.Raw
+writes_by rs (Some name) = writes_in rs name
+
 -- What a file of this name holds in the profile, none where it can't be read.
 unfoldable pub read_form_of : Profile → List ℕ → Option ReadForm
-read_form_of profile name = reads_in (rows profile) name
+read_form_of profile name = reads_by (rows profile) (row_name name)
 
 -- What one write of a file of this name holds in the profile, none where it can't be written.
 unfoldable pub write_form_of : Profile → List ℕ → Option WriteForm
-write_form_of profile name = writes_in (rows profile) name
+write_form_of profile name = writes_by (rows profile) (row_name name)
+
+-- Whether a file of this name has a row in the profile.
+abbrev pub is_named : List Row → Option (List ℕ) → Bool
+is_named rs None = false
+is_named rs (Some name) = list_any (λ r. bytes_eq r.name name) rs
+
+unfoldable pub has_row : Profile → List ℕ → Bool
+has_row profile name = is_named (rows profile) (row_name name)

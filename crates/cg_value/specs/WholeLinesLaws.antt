@@ -85,12 +85,12 @@ nested_end ls before after h =
     let front = values_in_front IsNestedLine ls before after h.each in
     (front.front, record { each = front.spelled; distinct = distinct_front (λ l. l.key) front.front front.back (rw front.values_are at h.distinct) })
 
-weights_end : (v : Value) (first : List ℕ) (before after : List (List ℕ)) → AreWeightLines v (first ∷ (before ++ after)) → (w : Value) × AreWeightLines w (first ∷ before)
-weights_end v first before after h =
+weights_end : (most : ℕ) (v : Value) (first : List ℕ) (before after : List (List ℕ)) → AreWeightLines most v (first ∷ (before ++ after)) → (w : Value) × AreWeightLines most w (first ∷ before)
+weights_end most v first before after h =
     let e = h.lines_are in
     let same : first ≡ h.first = cc in
     let others : h.others ≡ before ++ after = cc in
-    let front = values_in_front IsWeightLine h.devices before after (rw others at h.others_are) in (
+    let front = values_in_front (IsWeightLine most) h.devices before after (rw others at h.others_are) in (
       value.DeviceWeights h.default front.front,
       record {
         default = h.default;
@@ -134,7 +134,7 @@ lines_can_end form.Words v first before after h = (v, record { x = h.x; value = 
 lines_can_end form.Flat v first before after h = let front = flat_end h.x (first ∷ before) after h.spelled in (value.Flat front.0, record { x = front.0; value = refl; spelled = front.1 })
 lines_can_end form.DeviceStats v first before after h = many_lines_end IsStatLine value.DeviceStats v (first ∷ before) after h
 lines_can_end form.DeviceLimits v first before after h = many_lines_end IsLimitLine value.DeviceLimits v (first ∷ before) after h
-lines_can_end form.DeviceWeights v first before after h = weights_end v first before after h
+lines_can_end (form.DeviceWeights most) v first before after h = weights_end most v first before after h
 lines_can_end form.DeviceTargets v first before after h = many_lines_end IsTargetLine value.DeviceTargets v (first ∷ before) after h
 lines_can_end (form.Set most) v first before after h = (v, one_line_ends (IsStrictList most) value.Set v first before after h)
 lines_can_end form.Partition v first before after h =

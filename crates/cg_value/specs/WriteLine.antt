@@ -65,18 +65,19 @@ IsLimitWrite x line = HasParts IsDevice (codes " ") AreLimits (x.0) (x.1) line
 abbrev pub limits_setting : Device × LimitPairs → Setting
 limits_setting x = setting.DeviceLimits (x.0) x.1.rbps x.1.wbps x.1.riops x.1.wiops
 
--- device_weight: io.weight. The default weight, with or without the word, or a device with its weight or with default.
-abbrev pub IsDefaultWrite : ℕ → List ℕ → Type 0
-IsDefaultWrite weight line = IsDecimal 1 10000 weight line ⊎ ((back : List ℕ) × (line ≡ codes "default " ++ back) × IsDecimal 1 10000 weight back)
+-- device_weight: io.weight, io.bfq.weight. The default weight, with or without the word, or a device with its weight or with
+-- default; the weight is at most most.
+abbrev pub IsDefaultWrite : ℕ → ℕ → List ℕ → Type 0
+IsDefaultWrite most weight line = IsDecimal 1 most weight line ⊎ ((back : List ℕ) × (line ≡ codes "default " ++ back) × IsDecimal 1 most weight back)
 
-abbrev pub IsWeightWrite : Device → Option ℕ → List ℕ → Type 0
-IsWeightWrite device (Some weight) line = HasParts IsDevice (codes " ") (IsDecimal 1 10000) device weight line
-IsWeightWrite device None line = (front : List ℕ) × (line ≡ front ++ codes " default") × IsDevice device front
+abbrev pub IsWeightWrite : ℕ → Device → Option ℕ → List ℕ → Type 0
+IsWeightWrite most device (Some weight) line = HasParts IsDevice (codes " ") (IsDecimal 1 most) device weight line
+IsWeightWrite most device None line = (front : List ℕ) × (line ≡ front ++ codes " default") × IsDevice device front
 
-abbrev pub IsWeightSetting : Setting → List ℕ → Type 0
-IsWeightSetting (setting.DefaultWeight weight) line = IsDefaultWrite weight line
-IsWeightSetting (setting.DeviceWeight device weight) line = IsWeightWrite device weight line
-IsWeightSetting _ line = ⊥
+abbrev pub IsWeightSetting : ℕ → Setting → List ℕ → Type 0
+IsWeightSetting most (setting.DefaultWeight weight) line = IsDefaultWrite most weight line
+IsWeightSetting most (setting.DeviceWeight device weight) line = IsWeightWrite most device weight line
+IsWeightSetting most _ line = ⊥
 
 -- device_target: io.latency. A device and its target latency.
 abbrev pub IsTargetWrite : Device × ℕ → List ℕ → Type 0
@@ -106,7 +107,7 @@ WriteLine form.Controllers s line = IsLineOf AreToggles setting.Controllers s li
 WriteLine form.CpuMax s line = IsLineOf (λ (x : Limit × Option ℕ) l. IsQuota (x.0) (x.1) l) (λ x. setting.CpuMax (x.0) (x.1)) s line
 WriteLine form.Reclaim s line = IsLineOf (λ (x : ℕ × Option ℕ) l. IsReclaim (x.0) (x.1) l) (λ x. setting.Reclaim (x.0) (x.1)) s line
 WriteLine form.DeviceLimits s line = IsLineOf IsLimitWrite limits_setting s line
-WriteLine form.DeviceWeight s line = IsWeightSetting s line
+WriteLine (form.DeviceWeight most) s line = IsWeightSetting most s line
 WriteLine form.DeviceTarget s line = IsLineOf IsTargetWrite (λ (x : Device × ℕ). setting.DeviceTarget (x.0) (x.1)) s line
 WriteLine (form.Set most) s line = IsLineOf (IsLooseList most) setting.Set s line
 WriteLine form.Role s line = IsLineOf IsRole setting.Role s line

@@ -7,7 +7,9 @@ ghost use Rattle.cg_value.specs.ReadLine.{ArePressureLines, AreWords, CanBeInval
 ghost use Rattle.cg_value.specs.SpelledLaws.{HasText, HasLines};
 
 use crate::kind::{ReadForm, ReadKind};
-use crate::spelled::{Spelled, are_keyed, are_spelled, are_within, is_between, is_raw, is_within};
+use crate::spelled::{
+    Spelled, are_keyed, are_spelled, are_weights, are_within, is_between, is_raw, is_within,
+};
 use crate::value::{Averages, Role, Value};
 use cg_index::KeyedItems;
 use cg_text::{Items, Key, NumberSet};
@@ -91,8 +93,8 @@ impl Value {
             (ReadForm::Flat, Value::Flat(flat)) => are_spelled(flat.pairs()),
             (ReadForm::DeviceStats, Value::DeviceStats(lines)) => are_spelled(lines.as_slice()),
             (ReadForm::DeviceLimits, Value::DeviceLimits(lines)) => are_spelled(lines.as_slice()),
-            (ReadForm::DeviceWeights, Value::DeviceWeights { default, lines }) => {
-                is_within(1, 10_000, *default) && are_spelled(lines.as_slice())
+            (ReadForm::DeviceWeights { most }, Value::DeviceWeights { default, lines }) => {
+                is_within(1, most, *default) && are_weights(most, lines.as_slice())
             }
             (ReadForm::DeviceTargets, Value::DeviceTargets(lines)) => are_spelled(lines.as_slice()),
             (ReadForm::Set { most }, Value::Set(set)) => is_set_within(most, set),

@@ -116,11 +116,11 @@ fn limits_fit(device: Device, limits: LimitPairs) -> bool
         && given_limit_fits(limits.wiops)
 }
 
-/// Whether the device's weight is the default one, or from 1 to 10000.
-fn weight_fits(device: Device, weight: Option<u64>) -> bool
-    ensures { IsTrue result ↔ (IsDeviceWithin device × IsGivenWithin 1 10000 weight) }
+/// Whether the device's weight is the default one, or from 1 to `most`.
+fn weight_fits(most: u64, device: Device, weight: Option<u64>) -> bool
+    ensures { IsTrue result ↔ (IsDeviceWithin device × IsGivenWithin 1 most weight) }
 {
-    device_fits(device) && is_given_within(1, 10000, weight)
+    device_fits(device) && is_given_within(1, most, weight)
 }
 
 /// Whether the device may be written, with any target of 64 bits.
@@ -180,9 +180,11 @@ impl Setting {
                 *swappiness,
             ),
             (Form::DeviceLimits, _) => self.fits_device_limits(),
-            (Form::DeviceWeight, Setting::DefaultWeight(weight)) => is_within(1, 10000, *weight),
-            (Form::DeviceWeight, Setting::DeviceWeight { device, weight }) => weight_fits(
-                *device, *weight,
+            (Form::DeviceWeight { most }, Setting::DefaultWeight(weight)) => is_within(
+                1, most, *weight,
+            ),
+            (Form::DeviceWeight { most }, Setting::DeviceWeight { device, weight }) => weight_fits(
+                most, *device, *weight,
             ),
             (Form::DeviceTarget, Setting::DeviceTarget { device, target }) => target_fits(
                 *device, *target,

@@ -29,8 +29,8 @@ pub enum ReadForm {
     DeviceStats,
     /// A device a line, with its four limits.
     DeviceLimits,
-    /// A default weight, and then a device a line with its weight.
-    DeviceWeights,
+    /// A default weight, and then a device a line with its weight, each from 1 to `most`.
+    DeviceWeights { most: u64 },
     /// A device a line, with its target latency in microseconds.
     DeviceTargets,
     /// A set of numbers of at most `most`, as a list of ranges.
@@ -68,8 +68,8 @@ pub enum WriteForm {
     Reclaim,
     /// A device, with some of its four limits.
     DeviceLimits,
-    /// A default weight, or a device with its weight or with `default`.
-    DeviceWeight,
+    /// A default weight, or a device with its weight or with `default`; a weight is from 1 to `most`.
+    DeviceWeight { most: u64 },
     /// A device with its target latency in microseconds.
     DeviceTarget,
     /// A set of numbers of at most `most`, as a list of ranges in any order.
@@ -136,7 +136,7 @@ impl ReadKind {
             ReadForm::Flat => "flat",
             ReadForm::DeviceStats => "device_stats",
             ReadForm::DeviceLimits => "device_limits",
-            ReadForm::DeviceWeights => "device_weights",
+            ReadForm::DeviceWeights { .. } => "device_weights",
             ReadForm::DeviceTargets => "device_targets",
             ReadForm::Set { .. } => "set",
             ReadForm::Partition => "partition",
@@ -200,7 +200,7 @@ impl WriteKind {
             WriteForm::CpuMax => "cpu_max",
             WriteForm::Reclaim => "reclaim",
             WriteForm::DeviceLimits => "device_limits",
-            WriteForm::DeviceWeight => "device_weight",
+            WriteForm::DeviceWeight { .. } => "device_weight",
             WriteForm::DeviceTarget => "device_target",
             WriteForm::Set { .. } => "set",
             WriteForm::Role => "role",

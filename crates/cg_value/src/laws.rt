@@ -1,7 +1,7 @@
 //! The laws of the files that are read. Each function takes and answers nothing: its contract is the law.
 ghost use Rattle.std.specs.Prelude.{[]};
 ghost use Rattle.cg_value.specs.Files.{KindText};
-ghost use Rattle.cg_value.specs.Laws.{OneText, PrintInGrammar, TextIsPrint, OneReadText, FileLines, WholeLines, FirstLine, NoLine};
+ghost use Rattle.cg_value.specs.Laws.{OneText, PrintInGrammar, TextIsPrint, OneReadText, FileLines, WholeLines, FirstLine, NoLine, SizedNames};
 ghost use Rattle.cg_value.specs.declared.kind.ReadForm.TheVariants.{Words as WordsForm};
 ghost use Rattle.cg_value.specs.declared.value.Value.TheVariants.{Words};
 
@@ -38,4 +38,10 @@ pub fn whole_lines()
 pub fn first_line()
     ensures first { FirstLine }
     ensures none { NoLine }
+{}
+
+/// The names that have a row with `*` in it are those in which a size stands in its place: a decimal of 1 to 1023, and
+/// `KB`, `MB` or `GB`.
+pub fn sized_names()
+    ensures { SizedNames }
 {}

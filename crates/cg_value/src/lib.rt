@@ -14,6 +14,7 @@ pub mod look_up;
 pub mod path;
 pub mod profile;
 pub mod raw_lines;
+mod row_name;
 pub mod rows;
 pub mod setting;
 pub mod setting_laws;
@@ -30,7 +31,7 @@ pub use path::name_of;
 pub use profile::Profile;
 pub use raw_lines::{LinesIn, RawLines, are_whole_lines};
 pub use setting::{Setting, Toggle};
-pub use table::{NotReadable, NotWritable, read_kind, table_name, write_kind};
+pub use table::{NotReadable, NotWritable, TableRow, has_row, read_kind, table_row, write_kind};
 pub use value::{
     Averages, GroupMode, LimitLine, NestedLine, NestedPair, Role, StatLine, StatPair, TargetLine,
     Value, WeightLine,

@@ -1,8 +1,10 @@
-//! The two profiles of the grammar.
+//! The profiles of the grammar.
 
-/// Which grammar is meant. The two differ in the greatest list number and in the read kind of `memory.numa_stat`.
+/// Which grammar is meant. The first two differ in the greatest list number and in the read kind of `memory.numa_stat`.
+/// That of the kernel has what the second has, and rows for files that kernels of today print beside these.
 #[derive(Clone, Copy, Debug, PartialEq, Eq)]
 pub enum Profile {
     One,
     Two,
+    Kernel,
 }

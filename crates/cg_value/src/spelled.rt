@@ -187,13 +187,19 @@ impl Spelled for LimitLine {
     }
 }
 
-impl Spelled for WeightLine {
-    ghost spells = { IsWeightLine };
+/// Whether some text spells the line of a device whose weight is at most `most`.
+#[tactic(auto, using(crate::specs::SpelledLaws::weight_text))]
+fn is_weight(most: u64, line: &WeightLine) -> bool
+    ensures { IsTrue result ↔ HasText (IsWeightLine most line.now) }
+{
+    line.device.is_spelled() && is_within(1, most, line.weight)
+}
 
-    #[tactic(auto, using(crate::specs::SpelledLaws::weight_text))]
-    fn is_spelled(&self) -> bool {
-        self.device.is_spelled() && is_within(1, 10_000, self.weight)
-    }
+/// Whether some text spells each of the lines, whose weights are at most `most`.
+pub(crate) fn are_weights(most: u64, lines: &[WeightLine]) -> bool
+    ensures { IsTrue result ↔ HasLines (AllZip (IsWeightLine most) lines.now) }
+{
+    lines.iter().all(|line| is_weight(most, line))
 }
 
 impl Spelled for TargetLine {

@@ -13,21 +13,21 @@ use Rattle.cg_join.specs.declared.choice.Either.TheVariants.{Left, Right}
 use Rattle.cg_write.specs.Texts.{IsChosen, IsWeight, IsWordOrWeight}
 use Rattle.cg_write.specs.Turned.{chosen_weight}
 
-chosen_from : (text : List ℕ) (v : Either (Unit {0}) ℕ) → IsWordOrWeight text v → IsChosen text (chosen_weight v)
-chosen_from text (Left u) h = h
-chosen_from text (Right n) h = h
+chosen_from : (most : ℕ) (text : List ℕ) (v : Either (Unit {0}) ℕ) → IsWordOrWeight most text v → IsChosen most text (chosen_weight v)
+chosen_from most text (Left u) h = h
+chosen_from most text (Right n) h = h
 
-chosen_to : (text : List ℕ) (w : Option ℕ) → IsChosen text w → IsTurned IsWordOrWeight chosen_weight text w
-chosen_to text None h = (Left tt, h, refl)
-chosen_to text (Some n) h = (Right n, h, refl)
+chosen_to : (most : ℕ) (text : List ℕ) (w : Option ℕ) → IsChosen most text w → IsTurned (IsWordOrWeight most) chosen_weight text w
+chosen_to most text None h = (Left tt, h, refl)
+chosen_to most text (Some n) h = (Right n, h, refl)
 
-pub chosen_is : (text : List ℕ) (w : Option ℕ) → IsTurned IsWordOrWeight chosen_weight text w ↔ IsChosen text w
-chosen_is text w = (λ h. (let k = chosen_from text h.0 h.1 in rw h.2 at k), λ h. chosen_to text w h)
+pub chosen_is : (most : ℕ) (text : List ℕ) (w : Option ℕ) → IsTurned (IsWordOrWeight most) chosen_weight text w ↔ IsChosen most text w
+chosen_is most text w = (λ h. (let k = chosen_from most text h.0 h.1 in rw h.2 at k), λ h. chosen_to most text w h)
 
-pub word_no_weight : Disjoint (IsFixed (text_of word.Default)) IsWeight
-word_no_weight = digits_disjoint (fixed_filled 100 _) (fixed_begins 100 _) (decimal_begins 1 10000) (λ h k. omega (arith, h, k))
+pub word_no_weight : (most : ℕ) → Disjoint (IsFixed (text_of word.Default)) (IsWeight most)
+word_no_weight most = digits_disjoint (fixed_filled 100 _) (fixed_begins 100 _) (decimal_begins 1 most) (λ h k. omega (arith, h, k))
 
-pub chosen_lacking : Lacking IsChosen 10
-chosen_lacking =
-    let parts = either_lacking (fixed_lacking 10 (text_of word.Default) refl) (decimal_lacking 10 1 10000 (omega arith)) in
-    record { is = λ front more w h. (let k = (chosen_is (front ++ 10 ∷ more) w).1 h in parts.is front more k.0 k.1) }
+pub chosen_lacking : (most : ℕ) → Lacking (IsChosen most) 10
+chosen_lacking most =
+    let parts = either_lacking (fixed_lacking 10 (text_of word.Default) refl) (decimal_lacking 10 1 most (omega arith)) in
+    record { is = λ front more w h. (let k = (chosen_is most (front ++ 10 ∷ more) w).1 h in parts.is front more k.0 k.1) }

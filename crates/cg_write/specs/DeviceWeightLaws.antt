@@ -21,42 +21,42 @@ use Rattle.cg_write.specs.Turned.{weight_of}
 use Rattle.cg_write.specs.ChosenWeightLaws.{chosen_lacking}
 use Rattle.cg_write.specs.DefaultWeightLaws.{default_lacking}
 
-weight_from : (text : List ℕ) (v : Either ℕ (Device × (Unit {0} × Option ℕ))) → IsAnyWeight text v → IsWeightSetting (weight_of v) text
-weight_from text (Left n) h = h
-weight_from text (Right v) h = device_from text v.0 v.1.1 ((parts_is (codes " ") IsChosen (λ t d. IsDevice d t) text v).0 h)
+weight_from : (most : ℕ) (text : List ℕ) (v : Either ℕ (Device × (Unit {0} × Option ℕ))) → IsAnyWeight most text v → IsWeightSetting most (weight_of v) text
+weight_from most text (Left n) h = h
+weight_from most text (Right v) h = device_from most text v.0 v.1.1 ((parts_is (codes " ") (IsChosen most) (λ t d. IsDevice d t) text v).0 h)
   where
-    device_from : (text : List ℕ) (device : Device) (w : Option ℕ) → (front : List ℕ) × (back : List ℕ) × (text ≡ front ++ codes " " ++ back) × IsDevice device front × IsChosen back w → IsWeightSetting (setting.DeviceWeight device w) text
-    device_from text device None k = (k.0, (rw k.4 at k.2) ∙ append_assoc k.0 (codes " ") (codes "default"), k.3)
-    device_from text device (Some n) k = record { front = k.0; back = k.1; text_is = k.2; front_is = k.3; back_is = k.4 }
+    device_from : (most : ℕ) (text : List ℕ) (device : Device) (w : Option ℕ) → (front : List ℕ) × (back : List ℕ) × (text ≡ front ++ codes " " ++ back) × IsDevice device front × IsChosen most back w → IsWeightSetting most (setting.DeviceWeight device w) text
+    device_from most text device None k = (k.0, (rw k.4 at k.2) ∙ append_assoc k.0 (codes " ") (codes "default"), k.3)
+    device_from most text device (Some n) k = record { front = k.0; back = k.1; text_is = k.2; front_is = k.3; back_is = k.4 }
 
-weight_to : (s : Setting) (text : List ℕ) → IsWeightSetting s text → IsLineOf (λ v l. IsAnyWeight l v) weight_of s text
-weight_to (setting.DefaultWeight n) text h = record { x = Left n; value = refl; spelled = h }
-weight_to (setting.DeviceWeight device None) text h = record {
+weight_to : (most : ℕ) (s : Setting) (text : List ℕ) → IsWeightSetting most s text → IsLineOf (λ v l. IsAnyWeight most l v) weight_of s text
+weight_to most (setting.DefaultWeight n) text h = record { x = Left n; value = refl; spelled = h }
+weight_to most (setting.DeviceWeight device None) text h = record {
   x = Right (device, (tt, None));
   value = refl;
-  spelled = (parts_is (codes " ") IsChosen (λ t d. IsDevice d t) text (device, (tt, None))).1 (h.0, codes "default", h.1 ∙ sym (append_assoc h.0 (codes " ") (codes "default")), h.2, refl);
+  spelled = (parts_is (codes " ") (IsChosen most) (λ t d. IsDevice d t) text (device, (tt, None))).1 (h.0, codes "default", h.1 ∙ sym (append_assoc h.0 (codes " ") (codes "default")), h.2, refl);
 }
-weight_to (setting.DeviceWeight device (Some n)) text h = record {
+weight_to most (setting.DeviceWeight device (Some n)) text h = record {
   x = Right (device, (tt, Some n));
   value = refl;
-  spelled = (parts_is (codes " ") IsChosen (λ t d. IsDevice d t) text (device, (tt, Some n))).1 (h.front, h.back, h.text_is, h.front_is, h.back_is);
+  spelled = (parts_is (codes " ") (IsChosen most) (λ t d. IsDevice d t) text (device, (tt, Some n))).1 (h.front, h.back, h.text_is, h.front_is, h.back_is);
 }
-weight_to _ text h = absurd h
+weight_to most _ text h = absurd h
 
 -- The lines, turned into settings.
-pub weight_is : (s : Setting) (line : List ℕ) → IsWeightSetting s line ↔ IsLineOf (λ v l. IsAnyWeight l v) weight_of s line
-weight_is s line = (λ h. weight_to s line h, λ h. rw h.value (weight_from line h.x h.spelled))
+pub weight_is : (most : ℕ) (s : Setting) (line : List ℕ) → IsWeightSetting most s line ↔ IsLineOf (λ v l. IsAnyWeight most l v) weight_of s line
+weight_is most s line = (λ h. weight_to most s line h, λ h. rw h.value (weight_from most line h.x h.spelled))
 
 -- ---- The side conditions
 
-pub device_apart : Apart (λ t d. IsDevice d t) (IsConcat (IsFixed (32 ∷ [])) IsChosen)
-device_apart = label_apart (device_lacking 32 (omega arith))
+pub device_apart : (most : ℕ) → Apart (λ t d. IsDevice d t) (IsConcat (IsFixed (32 ∷ [])) (IsChosen most))
+device_apart most = label_apart (device_lacking 32 (omega arith))
 
 -- A device has a colon, and the default weight's lines have none.
-pub default_no_device : Disjoint IsDefault IsDeviceAndWeight
-default_no_device = lacking_disjoint (default_lacking 58 (λ h k. omega (arith, h, k)) (fixed_lacking 58 (text_of word.Default) refl) (fixed_lacking 58 (32 ∷ []) refl)) (first_has device_has)
+pub default_no_device : (most : ℕ) → Disjoint (IsDefault most) (IsDeviceAndWeight most)
+default_no_device most = lacking_disjoint (default_lacking most 58 (λ h k. omega (arith, h, k)) (fixed_lacking 58 (text_of word.Default) refl) (fixed_lacking 58 (32 ∷ []) refl)) (first_has device_has)
 
-pub weight_lacking : Lacking IsAnyWeight 10
-weight_lacking = either_lacking
-    (default_lacking 10 (λ h k. omega (arith, h, k)) (fixed_lacking 10 (text_of word.Default) refl) (fixed_lacking 10 (32 ∷ []) refl))
-    (concat_lacking (device_lacking 10 (omega arith)) (concat_lacking (fixed_lacking 10 (32 ∷ []) refl) chosen_lacking))
+pub weight_lacking : (most : ℕ) → Lacking (IsAnyWeight most) 10
+weight_lacking most = either_lacking
+    (default_lacking most 10 (λ h k. omega (arith, h, k)) (fixed_lacking 10 (text_of word.Default) refl) (fixed_lacking 10 (32 ∷ []) refl))
+    (concat_lacking (device_lacking 10 (omega arith)) (concat_lacking (fixed_lacking 10 (32 ∷ []) refl) (chosen_lacking most)))

@@ -148,15 +148,15 @@ some_limits_one = one_as limits_new (limits_one no_limits (InKey Rbps 0))
 limit_write_one : HasOneText (λ line x. IsLimitWrite x line)
 limit_write_one = one_as limits_are (turned_one both_of (concat_one limits_apart device_proper.one_text (spaced_one AreSomeLimits some_limits_one)))
 
-default_one : HasOneText IsDefault
-default_one = one_as default_is (turned_one default_weight (either_one weight_no_word (one_decimal 1 10000)
-    (concat_one (fixed_apart (text_of word.Default) (IsSpaced IsWeight)) (fixed_one (text_of word.Default)) (spaced_one IsWeight (one_decimal 1 10000)))))
+default_one : (most : ℕ) → HasOneText (IsDefault most)
+default_one most = one_as (default_is most) (turned_one default_weight (either_one (weight_no_word most) (one_decimal 1 most)
+    (concat_one (fixed_apart (text_of word.Default) (IsSpaced (IsWeight most))) (fixed_one (text_of word.Default)) (spaced_one (IsWeight most) (one_decimal 1 most)))))
 
-chosen_one : HasOneText IsChosen
-chosen_one = one_as chosen_is (turned_one chosen_weight (either_one word_no_weight (fixed_one (text_of word.Default)) (one_decimal 1 10000)))
+chosen_one : (most : ℕ) → HasOneText (IsChosen most)
+chosen_one most = one_as (chosen_is most) (turned_one chosen_weight (either_one (word_no_weight most) (fixed_one (text_of word.Default)) (one_decimal 1 most)))
 
-any_weight_one : HasOneText IsAnyWeight
-any_weight_one = either_one default_no_device default_one (concat_one device_apart device_proper.one_text (spaced_one IsChosen chosen_one))
+any_weight_one : (most : ℕ) → HasOneText (IsAnyWeight most)
+any_weight_one most = either_one (default_no_device most) (default_one most) (concat_one (device_apart most) device_proper.one_text (spaced_one (IsChosen most) (chosen_one most)))
 
 target_one : HasOneText (λ line x. IsTargetWrite x line)
 target_one = one_as target_is (turned_one both_of device_target_proper.one_text)
@@ -198,7 +198,7 @@ line_setting form.Controllers s t line h k = line_one AreToggles setting.Control
 line_setting form.CpuMax s t line h k = line_one (λ (x : Limit × Option ℕ) l. IsQuota (x.0) (x.1) l) (λ x. setting.CpuMax (x.0) (x.1)) quota_one s t line h k
 line_setting form.Reclaim s t line h k = line_one (λ (x : ℕ × Option ℕ) l. IsReclaim (x.0) (x.1) l) (λ x. setting.Reclaim (x.0) (x.1)) reclaim_one s t line h k
 line_setting form.DeviceLimits s t line h k = line_one IsLimitWrite limits_setting limit_write_one s t line h k
-line_setting form.DeviceWeight s t line h k = line_one (λ v l. IsAnyWeight l v) weight_of any_weight_one s t line ((weight_is s line).0 h) ((weight_is t line).0 k)
+line_setting (form.DeviceWeight most) s t line h k = line_one (λ v l. IsAnyWeight most l v) weight_of (any_weight_one most) s t line ((weight_is most s line).0 h) ((weight_is most t line).0 k)
 line_setting form.DeviceTarget s t line h k = line_one IsTargetWrite (λ (x : Device × ℕ). setting.DeviceTarget (x.0) (x.1)) target_one s t line h k
 line_setting (form.Set most) s t line h k = line_one (IsLooseList most) setting.Set (set_one most) s t line h k
 line_setting form.Role s t line h k = line_one IsRole setting.Role role_one s t line h k

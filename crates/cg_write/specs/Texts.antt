@@ -100,30 +100,31 @@ AreJoinedToggles text toggles = AreJoined IsToggle 32 text toggles
 
 -- ---- Weights
 
-abbrev pub IsWeight : List ℕ → ℕ → Type 0
-IsWeight text n = IsNumberIn 1 10000 text n
+-- The weights are at most most.
+abbrev pub IsWeight : ℕ → List ℕ → ℕ → Type 0
+IsWeight most text n = IsNumberIn 1 most text n
 
 -- The word default, or a weight, part by part; and as the weight, which is none for the word.
-abbrev pub IsWordOrWeight : List ℕ → Either (Unit {0}) ℕ → Type 0
-IsWordOrWeight text v = IsEither (IsFixed (text_of word.Default)) IsWeight text v
+abbrev pub IsWordOrWeight : ℕ → List ℕ → Either (Unit {0}) ℕ → Type 0
+IsWordOrWeight most text v = IsEither (IsFixed (text_of word.Default)) (IsWeight most) text v
 
-abbrev pub IsChosen : List ℕ → Option ℕ → Type 0
-IsChosen text None = text ≡ codes "default"
-IsChosen text (Some n) = IsDecimal 1 10000 n text
+abbrev pub IsChosen : ℕ → List ℕ → Option ℕ → Type 0
+IsChosen most text None = text ≡ codes "default"
+IsChosen most text (Some n) = IsDecimal 1 most n text
 
 -- A weight, alone or after the word and a space, part by part; and as the weight.
-abbrev pub IsNamedWeight : List ℕ → Unit {0} × (Unit {0} × ℕ) → Type 0
-IsNamedWeight text v = IsLabelled word.Default (IsSpaced IsWeight) text v
+abbrev pub IsNamedWeight : ℕ → List ℕ → Unit {0} × (Unit {0} × ℕ) → Type 0
+IsNamedWeight most text v = IsLabelled word.Default (IsSpaced (IsWeight most)) text v
 
-abbrev pub IsPlainOrNamed : List ℕ → Either ℕ (Unit {0} × (Unit {0} × ℕ)) → Type 0
-IsPlainOrNamed text v = IsEither IsWeight IsNamedWeight text v
+abbrev pub IsPlainOrNamed : ℕ → List ℕ → Either ℕ (Unit {0} × (Unit {0} × ℕ)) → Type 0
+IsPlainOrNamed most text v = IsEither (IsWeight most) (IsNamedWeight most) text v
 
-abbrev pub IsDefault : List ℕ → ℕ → Type 0
-IsDefault text n = IsDefaultWrite n text
+abbrev pub IsDefault : ℕ → List ℕ → ℕ → Type 0
+IsDefault most text n = IsDefaultWrite most n text
 
 -- A device, a space and its weight; and the default weight, or these.
-abbrev pub IsDeviceAndWeight : List ℕ → Device × (Unit {0} × Option ℕ) → Type 0
-IsDeviceAndWeight text v = IsConcat IsADevice (IsSpaced IsChosen) text v
+abbrev pub IsDeviceAndWeight : ℕ → List ℕ → Device × (Unit {0} × Option ℕ) → Type 0
+IsDeviceAndWeight most text v = IsConcat IsADevice (IsSpaced (IsChosen most)) text v
 
-abbrev pub IsAnyWeight : List ℕ → Either ℕ (Device × (Unit {0} × Option ℕ)) → Type 0
-IsAnyWeight text v = IsEither IsDefault IsDeviceAndWeight text v
+abbrev pub IsAnyWeight : ℕ → List ℕ → Either ℕ (Device × (Unit {0} × Option ℕ)) → Type 0
+IsAnyWeight most text v = IsEither (IsDefault most) (IsDeviceAndWeight most) text v

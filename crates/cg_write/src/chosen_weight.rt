@@ -1,5 +1,5 @@
 //! A weight of a device, or that it has none of its own (cgroup-v2.rst, io.weight).
-ghost use Rattle.std.specs.Prelude.{◌≡◌};
+ghost use Rattle.std.specs.Prelude.{◌≡◌, ◌≤◌};
 ghost use Rattle.cg_text.specs.Token.{Spells};
 ghost use Rattle.cg_write.specs.Texts.{IsChosen};
 
@@ -36,21 +36,22 @@ impl Turn<Choice<KeywordText, DecimalText>> for ToChosen {
 
 type Parts = Mapped<Choice<KeywordText, DecimalText>, ToChosen>;
 
-/// The word `default`, whose value is none, or a weight of 1 to 10000.
+/// The word `default`, whose value is none, or a weight.
 #[derive(Drop)]
 pub struct ChosenText {
     parts: Parts,
 }
 
 impl ChosenText {
-    /// A token of such texts.
-    pub(crate) fn new() -> ChosenText
-        ensures spells { Spells ⟦<ChosenText as Token>⟧.means result IsChosen }
+    /// A token of such texts, with weights from 1 to `most`.
+    pub(crate) fn new(most: u64) -> ChosenText
+        requires { 1 ≤ most }
+        ensures spells { Spells ⟦<ChosenText as Token>⟧.means result (IsChosen most) }
         ensures size { ⟦<ChosenText as Token>⟧.size result ≡ 0 }
     {
         let word = KeywordText::new(Keyword::Default);
         ChosenText {
-            parts: Mapped::new(Choice::new(word, decimal_in(1, 10000))),
+            parts: Mapped::new(Choice::new(word, decimal_in(1, most))),
         }
     }
 }

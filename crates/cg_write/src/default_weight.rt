@@ -1,5 +1,5 @@
 //! The weight of the devices that have none of their own (cgroup-v2.rst, io.weight).
-ghost use Rattle.std.specs.Prelude.{◌≡◌};
+ghost use Rattle.std.specs.Prelude.{◌≡◌, ◌≤◌};
 ghost use Rattle.cg_text.specs.Token.{Spells};
 ghost use Rattle.cg_write.specs.Texts.{IsDefault};
 
@@ -36,20 +36,21 @@ impl Turn<Choice<DecimalText, LabelText<Spaced<DecimalText>>>> for ToDefault {
 
 type Parts = Mapped<Choice<DecimalText, LabelText<Spaced<DecimalText>>>, ToDefault>;
 
-/// A weight of 1 to 10000, alone or after the word `default` and a space.
+/// A weight, alone or after the word `default` and a space.
 #[derive(Drop)]
 pub struct DefaultText {
     parts: Parts,
 }
 
 impl DefaultText {
-    /// A token of such texts.
-    pub(crate) fn new() -> DefaultText
-        ensures spells { Spells ⟦<DefaultText as Token>⟧.means result IsDefault }
+    /// A token of such texts, with weights from 1 to `most`.
+    pub(crate) fn new(most: u64) -> DefaultText
+        requires { 1 ≤ most }
+        ensures spells { Spells ⟦<DefaultText as Token>⟧.means result (IsDefault most) }
         ensures size { ⟦<DefaultText as Token>⟧.size result ≡ 0 }
     {
-        let alone = decimal_in(1, 10000);
-        let weight = spaced(decimal_in(1, 10000));
+        let alone = decimal_in(1, most);
+        let weight = spaced(decimal_in(1, most));
         let named = labelled(Keyword::Default, weight);
         DefaultText {
             parts: Mapped::new(Choice::new(alone, named)),

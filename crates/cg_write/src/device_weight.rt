@@ -1,5 +1,5 @@
 //! A write of the default weight, or of the weight of a device (cgroup-v2.rst, io.weight).
-ghost use Rattle.std.specs.Prelude.{◌≡◌};
+ghost use Rattle.std.specs.Prelude.{◌≡◌, ◌≤◌};
 ghost use Rattle.cg_text.specs.Token.{Spells};
 ghost use Rattle.cg_value.specs.Settings.{WriteText};
 ghost use Rattle.cg_value.specs.declared.kind.WriteForm.TheVariants.{DeviceWeight as DeviceWeightForm};
@@ -14,12 +14,13 @@ use cg_value::Setting;
 /// A device, a space and its weight.
 type DeviceWeightText = Sequence<DeviceText, Spaced<ChosenText>>;
 
-/// A device, a space and its weight, or `default`.
-fn device_weight_text() -> DeviceWeightText
-    ensures spells { Spells ⟦<DeviceWeightText as Token>⟧.means result IsDeviceAndWeight }
+/// A device, a space and its weight, from 1 to `most`, or `default`.
+fn device_weight_text(most: u64) -> DeviceWeightText
+    requires { 1 ≤ most }
+    ensures spells { Spells ⟦<DeviceWeightText as Token>⟧.means result (IsDeviceAndWeight most) }
     ensures size { ⟦<DeviceWeightText as Token>⟧.size result ≡ 0 }
 {
-    Sequence::new(DeviceText::new(), spaced(ChosenText::new()))
+    Sequence::new(DeviceText::new(), spaced(ChosenText::new(most)))
 }
 
 type Parts = Choice<DefaultText, DeviceWeightText>;
@@ -31,13 +32,14 @@ pub struct AnyWeightText {
 }
 
 impl AnyWeightText {
-    /// A token of such texts.
-    pub(crate) fn new() -> AnyWeightText
-        ensures spells { Spells ⟦<AnyWeightText as Token>⟧.means result IsAnyWeight }
+    /// A token of such texts, with weights from 1 to `most`.
+    pub(crate) fn new(most: u64) -> AnyWeightText
+        requires { 1 ≤ most }
+        ensures spells { Spells ⟦<AnyWeightText as Token>⟧.means result (IsAnyWeight most) }
         ensures size { ⟦<AnyWeightText as Token>⟧.size result ≡ 0 }
     {
         AnyWeightText {
-            parts: Choice::new(DefaultText::new(), device_weight_text()),
+            parts: Choice::new(DefaultText::new(most), device_weight_text(most)),
         }
     }
 }
@@ -136,14 +138,15 @@ pub struct DeviceWeightWrite {
 
 impl DeviceWeightWrite {
     /// The text of a write of the default weight, or of the weight of a device, which `default` takes away
-    /// (cgroup-v2.rst, io.weight).
-    pub fn new() -> DeviceWeightWrite
+    /// (cgroup-v2.rst, io.weight; bfq-iosched.rst). The weights are from 1 to `most`.
+    pub fn new(most: u64) -> DeviceWeightWrite
+        requires { 1 ≤ most }
         ensures spells { Spells ⟦<DeviceWeightWrite as Token>⟧.means result
-            (λ text s. WriteText DeviceWeightForm s text) }
+            (λ text s. WriteText (DeviceWeightForm most) s text) }
         ensures size { ⟦<DeviceWeightWrite as Token>⟧.size result ≡ 0 }
     {
         DeviceWeightWrite {
-            text: one_line(AnyWeightText::new()),
+            text: one_line(AnyWeightText::new(most)),
         }
     }
 }

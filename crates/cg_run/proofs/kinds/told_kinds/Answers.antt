@@ -1,10 +1,10 @@
 use Rattle.std.proofs.Common.{◌≡◌, ◌+◌, ◌≤◌, ◌++◌, refl, sym, ap, ◌∙◌, take, length, length-append, arith}
 use Rattle.std.proofs.Math.Nat.{min-eq_left}
 use Rattle.cg_print.proofs.Known.{Appends-trans}
-use Rattle.cg_value.specs.TableRows.{table_name_at}
+use Rattle.cg_value.specs.TableRows.{row_at}
 use Rattle.cg_run.specs.Kinds.{kinds_line, kinds_lines}
 use Rattle.cg_run.specs.Run.{joined}
-use Rattle.cg_run.proofs.KindsLemmas.{lines_more, lines_all, first_bytes, within_all}
+use Rattle.cg_run.proofs.KindsLemmas.{few_rows, longest_name, lines_more, lines_all, first_bytes, within_all}
 use Rattle.cg_run.proofs.kinds.told_kinds.Goals as goal
 
 pub lines-preserved : goal.lines-preserved
@@ -13,7 +13,7 @@ lines-preserved g c =
     let within = c.in-Some.ensures.row.0 in
     let front = joined (take place (kinds_lines c.args.profile)) in
     let line = c.line_of-line.result in
-    let line_is : line ≡ kinds_line c.args.profile (table_name_at place) = c.line_of-line.ensures.line ∙ ap (λ name. kinds_line c.args.profile name) c.in-Some.ensures.row.1 in
+    let line_is : line ≡ kinds_line (row_at c.args.profile place) = c.line_of-line.ensures.line ∙ ap kinds_line c.in-Some.ensures.row.1 in
     let all : joined (take (place + 1) (kinds_lines c.args.profile)) ≡ front ++ line = lines_more c.args.profile place within ∙ ap (λ t. front ++ t) (sym line_is) in
     let count : length c.bytes-in-Ok.result.now ≡ length line = ap length c.bytes-in-Ok.ensures in
     record {
@@ -30,16 +30,16 @@ returns-in-Err g c =
     let within = c.in-Some.ensures.row.0 in
     let front = joined (take place (kinds_lines profile)) in
     let line = c.line_of-line.result in
-    let line_is : line ≡ kinds_line profile (table_name_at place) = c.line_of-line.ensures.line ∙ ap (λ name. kinds_line profile name) c.in-Some.ensures.row.1 in
+    let line_is : line ≡ kinds_line (row_at profile place) = c.line_of-line.ensures.line ∙ ap kinds_line c.in-Some.ensures.row.1 in
     let more = c.in-Err.field-0.written in
     let part : more ≤ length line = rw c.bytes.ensures at c.in-Err.ensures.part in
-    let part_is : more ≤ length (kinds_line profile (table_name_at place)) = rw line_is at part in
+    let part_is : more ≤ length (kinds_line (row_at profile place)) = rw line_is at part in
     let few : length line ≤ 80 = c.line_of-line.ensures.short in
     let taken = Appends-trans _ _ _ front (take more line) c.lines.invariant.taken (rw c.bytes.ensures at c.in-Err.ensures.err) in (
       length front + more,
       within_all profile place more within part_is,
       rw (first_bytes profile place more within part_is, ← line_is) taken,
-      ap (λ n. n + more) c.lines.invariant.count ∙ sym (min-eq_left (omega (arith, part, few, within, c.lines.invariant.small, c.lines.invariant.count))),
+      ap (λ n. n + more) c.lines.invariant.count ∙ sym (min-eq_left (omega (arith, part, few, within, few_rows profile, c.lines.invariant.small, c.lines.invariant.count))),
       c.in-Err.ensures.failed,
     )
 

@@ -10,19 +10,19 @@ use Rattle.cg_file.proofs.device_weights.DeviceWeightsFile.new.Goals as goal
 pub new-line-requires : goal.new-line-requires
 new-line-requires c =
     let first = label_spells (label_spells c.decimal_in.ensures.spells c.spaced-default.ensures.spells) c.labelled-first.ensures.spells in
-    apart_spells first c.new.ensures.spells (lacking_apart default_lacks (fixed_begins 10 []))
+    apart_spells first c.new.ensures.spells (lacking_apart (default_lacks c.args.most) (fixed_begins 10 []))
 
 pub new-lines-requires : goal.new-lines-requires
-new-lines-requires c = weight_lacks
+new-lines-requires c = weight_lacks c.args.most
 
 pub new-requires-2 : goal.new-requires-2
 new-requires-2 c =
     let first = label_spells (label_spells c.decimal_in.ensures.spells c.spaced-default.ensures.spells) c.labelled-first.ensures.spells in
-    apart_spells (sequence_spells first c.new.ensures.spells c.new-line.ensures.spells) c.new-lines.ensures.spells (ended_apart WeightLines default_lacks)
+    apart_spells (sequence_spells first c.new.ensures.spells c.new-line.ensures.spells) c.new-lines.ensures.spells (ended_apart (WeightLines c.args.most) (default_lacks c.args.most))
 
 pub returns-clause-spells : goal.returns-clause-spells
 returns-clause-spells c =
     let first = label_spells (label_spells c.decimal_in.ensures.spells c.spaced-default.ensures.spells) c.labelled-first.ensures.spells in
     let line = sequence_spells first c.new.ensures.spells c.new-line.ensures.spells in
-    let whole = spells_as (mapped_spells weights_value (sequence_spells line c.new-lines.ensures.spells c.new-2.ensures.spells) c.new-3.ensures.spells) weights_are in
+    let whole = spells_as (mapped_spells weights_value (sequence_spells line c.new-lines.ensures.spells c.new-2.ensures.spells) c.new-3.ensures.spells) (weights_are c.args.most) in
     record { is = whole.is }

@@ -52,13 +52,13 @@ returns-in-Reclaim-Reclaim c =
 pub returns-in-DeviceWeight-DefaultWeight : goal.returns-in-DeviceWeight-DefaultWeight
 returns-in-DeviceWeight-DefaultWeight c =
     let arm = c.in-DeviceWeight-DefaultWeight in
-    let fit = default_fits arm.weight in
+    let fit = default_fits arm.most arm.weight (rw (← c.form.ensures.form, arm.is-0) at c.form.ensures.bounds).1 in
     rw (arm.is-1, ← c.form.ensures.form, arm.is-0) (λ e. fit.0 (c.is_within-in-DeviceWeight-DefaultWeight.ensures.range.0 e), λ h. c.is_within-in-DeviceWeight-DefaultWeight.ensures.range.1 (fit.1 h))
 
 pub returns-in-DeviceWeight-DeviceWeight : goal.returns-in-DeviceWeight-DeviceWeight
 returns-in-DeviceWeight-DeviceWeight c =
     let arm = c.in-DeviceWeight-DeviceWeight in
-    let fit = weight_fits arm.device arm.weight in
+    let fit = weight_fits arm.most arm.device arm.weight (rw (← c.form.ensures.form, arm.is-0) at c.form.ensures.bounds).1 in
     rw (arm.is-1, ← c.form.ensures.form, arm.is-0) (λ e. fit.0 (c.weight_fits.ensures.0 e), λ h. c.weight_fits.ensures.1 (fit.1 h))
 
 pub returns-in-DeviceTarget-DeviceTarget : goal.returns-in-DeviceTarget-DeviceTarget

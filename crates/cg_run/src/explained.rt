@@ -1,0 +1,145 @@
+//! Why bytes that are at hand are no text of a file, or no write to it.
+ghost use Rattle.std.specs.Prelude.{◌≡◌, [], None, length};
+ghost use Rattle.cg_text.specs.Texts.{TextOf};
+ghost use Rattle.cg_value.specs.Files.{File};
+ghost use Rattle.cg_value.specs.Settings.{Write};
+ghost use Rattle.cg_value.specs.Table.{read_form_of, write_form_of};
+ghost use Rattle.cg_run.specs.Explained.{IsExplained, IsLine};
+ghost use Rattle.cg_run.specs.Spot.{more_words};
+
+use crate::explain::tell_spot;
+use crate::file_reader::FileReader;
+use crate::lines::Lines;
+use crate::reading::{Ending, take_piece};
+use crate::spot::{Spot, text_spot};
+use crate::text_reader::TextReader;
+use cg_line::SettingReader;
+use cg_print::{Failed, Sink};
+use cg_snap::Stop;
+use cg_text::OutOfMemory;
+use cg_value::{Profile, read_kind, write_kind};
+use std::alloc::Global;
+
+/// A sink that keeps what it takes, and fails where no memory is left.
+#[derive(Drop)]
+struct KeptText {
+    text: Vec<u8>,
+    failed: bool,
+}
+
+impl Sink for KeptText {
+    ghost use Rattle.std.specs.Prelude.{Some};
+
+    ghost taken = { λ s. Some s.text.items };
+
+    ghost has_failed = { λ s. s.failed };
+
+    fn put(&mut self, bytes: &[u8]) -> Result<usize, Failed> {
+        if bytes.is_empty() {
+            return Ok(0);
+        }
+        match self.text.extend_from_slice(bytes) {
+            Ok(()) => Ok(bytes.len()),
+            Err(_) => {
+                self.failed = true;
+                Err(Failed)
+            }
+        }
+    }
+}
+
+/// What is told of bytes, where memory is left for it.
+#[derive(Drop)]
+pub enum Explained {
+    /// Why they are no text: the line that `--explain` writes.
+    Line(Vec<u8>),
+    /// They are a text, so there is nothing to explain.
+    Whole,
+    /// A file of the name can't be read, or written.
+    NoForm,
+}
+
+/// The line of a spot, empty where there is none.
+fn line_of(alloc: Global, spot: Option<Spot<'_>>) -> Result<Explained, OutOfMemory>
+    ensures { IsLine (more_words spot.entry) result }
+{
+    let mut sink = KeptText {
+        text: Vec::new(alloc),
+        failed: false,
+    };
+    let Some(spot) = spot else {
+        return Ok(Explained::Line(sink.text));
+    };
+    let mut written = 0;
+    match tell_spot(&mut sink, &spot, &mut written) {
+        Ok(()) => Ok(Explained::Line(sink.text)),
+        Err(_) => Err(OutOfMemory),
+    }
+}
+
+/// Why bytes, which are so many, are no text of the reader's form, by the name of the file. The reader took none.
+fn explain_text<T: TextReader>(
+    alloc: Global,
+    text: T,
+    name: &[u8],
+    bytes: &[u8],
+    end: u64,
+) -> Result<Explained, OutOfMemory>
+    requires { end ≡ length bytes.now }
+    ensures { (form : T.Form) → T.took text form [] →
+        IsExplained ⊥ (TextOf (T.text form)) name.now bytes.now result }
+{
+    let mut text = text;
+    let mut lines = Some(Lines::new());
+    match take_piece(&mut text, bytes, 0, end, &mut lines) {
+        None if text.can_finish() => Ok(Explained::Whole),
+        None => {
+            let stop = Stop::Cut { at: end };
+            line_of(alloc, text_spot(name, &text, lines, stop, None))
+        }
+        Some(Ending::Stopped { stop, byte }) => {
+            line_of(alloc, text_spot(name, &text, lines, stop, byte))
+        }
+        Some(Ending::OutOfMemory) => Err(OutOfMemory),
+        // There is no source, which ends or fails.
+        Some(Ending::End { .. }) => Err(OutOfMemory),
+        Some(Ending::ReadFault) => Err(OutOfMemory),
+    }
+}
+
+/// Why bytes are no file of this name: the line with which `--explain` tells their first bad byte, or their end, where
+/// they end before a file does.
+pub fn explain_file(
+    alloc: Global,
+    profile: Profile,
+    name: &[u8],
+    bytes: &[u8],
+) -> Result<Explained, OutOfMemory>
+    ensures { IsExplained (read_form_of profile name.now ≡ None) (File profile name.now) name.now bytes.now result }
+{
+    match read_kind(profile, name) {
+        Ok(kind) => {
+            let reader = FileReader::new(alloc, kind);
+            explain_text(alloc, reader, name, bytes, bytes.len() as u64)
+        }
+        Err(_) => Ok(Explained::NoForm),
+    }
+}
+
+/// Why bytes are no write to the file of this name, as `explain_file` tells it.
+pub fn explain_setting(
+    alloc: Global,
+    profile: Profile,
+    name: &[u8],
+    bytes: &[u8],
+) -> Result<Explained, OutOfMemory>
+    ensures { IsExplained (write_form_of profile name.now ≡ None) (Write profile name.now) name.now bytes.now result }
+{
+    match write_kind(profile, name) {
+        Ok(kind) => {
+            let reader = SettingReader::new(alloc, kind);
+            explain_text(alloc, reader, name, bytes, bytes.len() as u64)
+        }
+        Err(_) => Ok(Explained::NoForm),
+    }
+}
