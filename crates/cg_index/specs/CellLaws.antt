@@ -7,13 +7,13 @@ use Rattle.std.proofs.Math.Seq.{take-set-lt}
 use Rattle.std.proofs.lemmas.List.{length-map, length-take-le, map-append, map-set, take-map, take_all, take_more_set, map_more, get_or-map, get_or-take}
 use Rattle.std.proofs.lemmas.Bool.{cases_lt}
 use Rattle.cg_text.specs.Distinct.{AreDistinct, LacksValue}
-use Rattle.cg_text.specs.Mark.{mark_of}
+use Rattle.cg_text.specs.Hash.{hash_of}
 use Rattle.cg_index.specs.Cells.{item_of, places_in, places_of, fork_of, no_links, tree_of}
 use Rattle.cg_index.specs.Keyed.{IsLastChanged}
 use Rattle.cg_index.specs.KeyedLaws.{last_changed}
 use Rattle.cg_index.specs.PlaceLaws.{lacks_at, keys_read}
 use Rattle.cg_index.specs.Tree.{Indexes, IsInsertionPoint, fork_at, key_at, no_fork, turned, led_from, led_forks, led_root}
-use Rattle.cg_index.specs.Trie.{next, places_at, HasMark, IsEnd, IsTrie, linked}
+use Rattle.cg_index.specs.Trie.{next, places_at, HasHash, IsEnd, IsTrie, linked}
 use Rattle.cg_index.specs.TrieLaws.{IsTrie-linked}
 use Rattle.cg_index.specs.declared.trie.End.TheVariants as end
 use Rattle.cg_index.specs.declared.trie.Opening.{Opening}
@@ -58,7 +58,7 @@ module _ {T : Type 0} where
   key_in key cells i cell h is =
       keys_read key (map item_of cells) i cell.item (omega (arith, h, length-map cells item_of)) ∙ ap key (item_there cells i cell h is)
 
-  -- Where a walk goes on from a cell of the trie, and whose mark its key has.
+  -- Where a walk goes on from a cell of the trie, and whose hash its key has.
   pub next_there : (cells : List (Cell T)) (i : ℕ) (cell : Cell T) (digit : ℕ) → i < length cells → cell ≡ get_or cells i cell → next (map places_of cells) i digit ≡ get_or (places_of cell) digit 0
   unfolding next
   next_there cells i cell digit h is = ap (λ (x : List ℕ). get_or x digit 0) (get_or-map places_of cells i cell [] h ∙ ap places_of (sym is))
@@ -69,17 +69,17 @@ module _ {T : Type 0} where
   next_of_none (c ∷ cs) zero digit h = absurd (h (omega arith))
   next_of_none (c ∷ cs) (suc i) digit h = next_of_none cs i digit (λ l. h (omega (arith, l)))
 
-  pub mark_there : (key : T → List ℕ) (cells : List (Cell T)) (i mark : ℕ) (cell : Cell T) → i < length cells → cell ≡ get_or cells i cell → mark_of (key cell.item) ≡ mark → HasMark (map key (map item_of cells)) mark i
-  mark_there key cells i mark cell h is has = (omega (arith, h, keys_length key cells), ap mark_of (key_in key cells i cell h is) ∙ has)
+  pub hash_there : (key : T → List ℕ) (cells : List (Cell T)) (i hash : ℕ) (cell : Cell T) → i < length cells → cell ≡ get_or cells i cell → hash_of (key cell.item) ≡ hash → HasHash (map key (map item_of cells)) hash i
+  hash_there key cells i hash cell h is has = (omega (arith, h, keys_length key cells), ap hash_of (key_in key cells i cell h is) ∙ has)
 
-  pub no_mark_there : (key : T → List ℕ) (cells : List (Cell T)) (i mark : ℕ) (cell : Cell T) → i < length cells → cell ≡ get_or cells i cell → (mark_of (key cell.item) ≡ mark → ⊥) →
-      HasMark (map key (map item_of cells)) mark i → ⊥
-  no_mark_there key cells i mark cell h is lacks has = lacks (sym (ap mark_of (key_in key cells i cell h is)) ∙ has.1)
+  pub no_hash_there : (key : T → List ℕ) (cells : List (Cell T)) (i hash : ℕ) (cell : Cell T) → i < length cells → cell ≡ get_or cells i cell → (hash_of (key cell.item) ≡ hash → ⊥) →
+      HasHash (map key (map item_of cells)) hash i → ⊥
+  no_hash_there key cells i hash cell h is lacks has = lacks (sym (ap hash_of (key_in key cells i cell h is)) ∙ has.1)
 
   -- The trie where an item has come in at an opening.
   pub linked_there : (key : T → List ℕ) (old now new : List (Cell T)) (item : T) (at : Opening) (cell : Cell T) → cell.item ≡ item → cell.links ≡ no_links → new ≡ now ++ cell ∷ [] → map item_of now ≡ map item_of old →
       map places_of now ≡ slice_set (map places_of old) at.place (slice_set (places_at (map places_of old) at.place) at.digit (length (map places_of old))) →
-      IsTrie (map places_of old) (map key (map item_of old)) → IsEnd (map places_of old) (map key (map item_of old)) (mark_of (key item)) (end.Open at) → IsTrie (map places_of new) (map key (map item_of new))
+      IsTrie (map places_of old) (map key (map item_of old)) → IsEnd (map places_of old) (map key (map item_of old)) (hash_of (key item)) (end.Open at) → IsTrie (map places_of new) (map key (map item_of new))
   linked_there key old now new item at cell item_is links_are new_is items places trie ends =
       let all : map key (map item_of new) ≡ map key (map item_of old) ++ key item ∷ [] =
       ap (λ v. map key (map item_of v)) new_is ∙ ap (map key) (map-append item_of now (cell ∷ []) ∙ ap (λ v. v ++ cell.item ∷ []) items ∙ ap (λ v. map item_of old ++ v ∷ []) item_is) ∙ map-append key (map item_of old) (item ∷ []) in

@@ -1,4 +1,4 @@
--- Keys that are found by the trie of their marks, and keys that are found by a tree.
+-- Keys that are found by the trie of their hashes, and keys that are found by a tree.
 use Rattle.std.specs.Prelude.{◌≡◌, ℕ, ◌<◌, List, Option, Some, None, length}
 use Rattle.cg_text.specs.Distinct.{AreDistinct}
 use Rattle.cg_index.specs.Tree.{Indexes, key_at}
@@ -12,12 +12,12 @@ use Rattle.cg_index.specs.declared.trie.Opening.{Opening}
 abbrev pub IsOnlyPlace : List (List ℕ) → List ℕ → Option ℕ → Type 0
 IsOnlyPlace keys key place = (j : ℕ) → j < length keys → key_at keys j ≡ key → place ≡ Some j
 
--- There is no tree, and no key has the mark, which goes in here.
-pub record IsOpening (trie keys : List (List ℕ)) (root : Option Link) (mark : ℕ) (at : Opening) : Type 0 where
+-- There is no tree, and no key has the hash, which goes in here.
+pub record IsOpening (trie keys : List (List ℕ)) (root : Option Link) (hash : ℕ) (at : Opening) : Type 0 where
   pub none : root ≡ None
-  pub ends : IsEnd trie keys mark (end.Open at)
+  pub ends : IsEnd trie keys hash (end.Open at)
 
--- Where there is no tree, the links are those of the trie of the keys' marks, and else the forks are those of the tree of the keys.
+-- Where there is no tree, the links are those of the trie of the keys' hashes, and else the forks are those of the tree of the keys.
 abbrev pub AreFoundBy : List (List ℕ) → List (List ℕ) → List Fork → Option Link → Type 0
 AreFoundBy keys trie forks None = IsTrie trie keys
 AreFoundBy keys trie forks (Some root) = Indexes (record { forks = forks; root = root }) keys

@@ -1,9 +1,9 @@
--- What holders of items with keys cite of marks and trees.
+-- What holders of items with keys cite of hashes and trees.
 use Rattle.std.proofs.Common.{◌≡◌, ℕ, suc, ◌<◌, List, [], ◌∷◌, ◌++◌, length, map, Option, Some, None, is_none, is_some, IfSome, ◌==◌, true, false}
 use Rattle.std.proofs.Common.{sym, ap, ◌∙◌, arith}
 use Rattle.std.proofs.lemmas.List.{map-append}
 use Rattle.cg_text.specs.Distinct.{AreDistinct, LacksValue}
-use Rattle.cg_text.specs.Mark.{mark_of}
+use Rattle.cg_text.specs.Hash.{hash_of}
 use Rattle.cg_index.specs.IndexLaws.{no_length, near_has, near_lacks}
 use Rattle.cg_index.specs.KeyedLaws.{some_place, distinct_push}
 use Rattle.cg_index.specs.Keyed.{is_among}
@@ -40,10 +40,10 @@ no_keys index none = record {
 }
 
 -- A key that goes in at an opening is new.
-pub opened_lacks : {keys trie : List (List ℕ)} {forks : List Fork} {root : Option Link} {at : Opening} (key : List ℕ) → IsKeyed keys trie forks root → IsOpening trie keys root (mark_of key) at → LacksValue key keys
+pub opened_lacks : {keys trie : List (List ℕ)} {forks : List Fork} {root : Option Link} {at : Opening} (key : List ℕ) → IsKeyed keys trie forks root → IsOpening trie keys root (hash_of key) at → LacksValue key keys
 opened_lacks {keys} key keyed opening = keys_lack key keys (opening_new key (rw (opening.none) at keyed.found) opening.ends)
 
-pub opened_among : {keys trie : List (List ℕ)} {forks : List Fork} {root : Option Link} {at : Opening} (key : List ℕ) → IsKeyed keys trie forks root → IsOpening trie keys root (mark_of key) at → false ≡ is_among key keys
+pub opened_among : {keys trie : List (List ℕ)} {forks : List Fork} {root : Option Link} {at : Opening} (key : List ℕ) → IsKeyed keys trie forks root → IsOpening trie keys root (hash_of key) at → false ≡ is_among key keys
 opened_among {keys} key keyed opening =
     ap is_some (sym (no_place key keys (opening_new key (rw (opening.none) at keyed.found) opening.ends))) ∙ some_place key keys
 
@@ -76,7 +76,7 @@ keyed_grown key old item distinct lacks items of = record {
 
 -- An item has been added without a tree.
 pub keyed_linked : {T : Type 0} (key : T → List ℕ) (old new : List (Cell T)) {root : Option Link} {at : Opening} (item : T) →
-    IsKeyed (map key (map item_of old)) (map places_of old) (map fork_of old) root → IsOpening (map places_of old) (map key (map item_of old)) root (mark_of (key item)) at →
+    IsKeyed (map key (map item_of old)) (map places_of old) (map fork_of old) root → IsOpening (map places_of old) (map key (map item_of old)) root (hash_of (key item)) at →
     map item_of new ≡ map item_of old ++ item ∷ [] → IsTrie (map places_of new) (map key (map item_of new)) → IsKeyed (map key (map item_of new)) (map places_of new) (map fork_of new) root
 keyed_linked key old new {root} item keyed opening items trie = record {
   distinct = rw (items, map-append) (distinct_push (map key (map item_of old)) (key item) keyed.distinct (opened_lacks (key item) keyed opening));

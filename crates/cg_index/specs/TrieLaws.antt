@@ -5,15 +5,15 @@ use Rattle.std.proofs.Math.ListN.{length-set}
 use Rattle.std.proofs.Math.Seq.{get_or-append_seam}
 use Rattle.std.proofs.lemmas.Bool.{cases_lt, cases_order}
 use Rattle.std.proofs.lemmas.List.{get_or_append_left, length_push, get_or-set_other, get_or-set_same}
-use Rattle.cg_text.specs.Mark.{mark_of}
+use Rattle.cg_text.specs.Hash.{hash_of}
 use Rattle.cg_index.specs.Tree.{key_at}
-use Rattle.cg_index.specs.Trie.{next, places_at, HasMark, Ends, met, vacant, on, IsEnd, IsTrie, linked}
+use Rattle.cg_index.specs.Trie.{next, places_at, HasHash, Ends, met, vacant, on, IsEnd, IsTrie, linked}
 use Rattle.cg_index.specs.declared.trie.End.{End}
 use Rattle.cg_index.specs.declared.trie.End.TheVariants as end
 use Rattle.cg_index.specs.declared.trie.Opening.{Opening}
 
 -- A walk has one end.
-pub one_end : {trie keys : List (List ℕ)} {mark rest p : ℕ} {e f : End} → Ends trie keys mark rest p e → Ends trie keys mark rest p f → e ≡ f
+pub one_end : {trie keys : List (List ℕ)} {hash rest p : ℕ} {e f : End} → Ends trie keys hash rest p e → Ends trie keys hash rest p f → e ≡ f
 one_end (met has e_is) (met has2 f_is) = e_is ∙ sym f_is
 one_end (met has e_is) (vacant lacks none f_is) = absurd (lacks has)
 one_end (met has e_is) (on lacks some w) = absurd (lacks has)
@@ -27,33 +27,33 @@ one_end (on lacks some v) (on lacks2 some2 w) = one_end v w
 same_opening : {at : Opening} {p digit : ℕ} → end.Open at ≡ end.Open (record { place = p; digit = digit }) → (at.place ≡ p) × (at.digit ≡ digit)
 same_opening {at} {p} {digit} e = let same : at ≡ record { place = p; digit = digit } = cc in (ap (λ (o : Opening). o.place) same, ap (λ (o : Opening). o.digit) same)
 
--- What a walk meets has the mark.
-pub met_has : {trie keys : List (List ℕ)} {mark rest p k : ℕ} {e : End} → Ends trie keys mark rest p e → e ≡ end.Met k → HasMark keys mark k
-met_has {keys} {mark} {k} (met {p} has e_is) is =
+-- What a walk meets has the hash.
+pub met_has : {trie keys : List (List ℕ)} {hash rest p k : ℕ} {e : End} → Ends trie keys hash rest p e → e ≡ end.Met k → HasHash keys hash k
+met_has {keys} {hash} {k} (met {p} has e_is) is =
     let same : p ≡ k = cc in
-    subst (HasMark keys mark) same has
+    subst (HasHash keys hash) same has
 met_has (vacant lacks none e_is) is = absurd (cc)
 met_has (on lacks some w) is = met_has w is
 
 -- An opening leads nowhere.
-pub open_is : {trie keys : List (List ℕ)} {mark rest p : ℕ} {at : Opening} {e : End} → Ends trie keys mark rest p e → e ≡ end.Open at → (next trie at.place at.digit ≡ 0) × (at.digit < 4)
+pub open_is : {trie keys : List (List ℕ)} {hash rest p : ℕ} {at : Opening} {e : End} → Ends trie keys hash rest p e → e ≡ end.Open at → (next trie at.place at.digit ≡ 0) × (at.digit < 4)
 open_is (met has e_is) is = absurd (cc)
 open_is {trie} {rest} {at} (vacant {p} lacks none e_is) is =
     let same = same_opening (sym is ∙ e_is) in
     rw (same.0, same.1) (none, omega arith)
 open_is (on lacks some w) is = open_is w is
 
--- A key whose mark a walk doesn't meet is new.
-pub opening_new : {trie keys : List (List ℕ)} {at : Opening} (key : List ℕ) → IsTrie trie keys → IsEnd trie keys (mark_of key) (end.Open at) → (j : ℕ) → j < length keys → key_at keys j ≡ key → ⊥
+-- A key whose hash a walk doesn't meet is new.
+pub opening_new : {trie keys : List (List ℕ)} {at : Opening} (key : List ℕ) → IsTrie trie keys → IsEnd trie keys (hash_of key) (end.Open at) → (j : ℕ) → j < length keys → key_at keys j ≡ key → ⊥
 opening_new {trie} {keys} {at} key is ends j h e =
-    let here : IsEnd trie keys (mark_of key) (end.Met j) = rw e at (is.met j (omega (arith, h, is.count))) in
+    let here : IsEnd trie keys (hash_of key) (end.Met j) = rw e at (is.met j (omega (arith, h, is.count))) in
     let same : end.Open at ≡ end.Met j = one_end ends here in
     cc
 
 -- The place that a walk meets is that of the only key that can be the one that is sought.
-pub met_only : {trie keys : List (List ℕ)} (key : List ℕ) (k j : ℕ) → IsTrie trie keys → IsEnd trie keys (mark_of key) (end.Met k) → j < length keys → key_at keys j ≡ key → k ≡ j
+pub met_only : {trie keys : List (List ℕ)} (key : List ℕ) (k j : ℕ) → IsTrie trie keys → IsEnd trie keys (hash_of key) (end.Met k) → j < length keys → key_at keys j ≡ key → k ≡ j
 met_only {trie} {keys} key k j is ends h e =
-    let here : IsEnd trie keys (mark_of key) (end.Met j) = rw e at (is.met j (omega (arith, h, is.count))) in
+    let here : IsEnd trie keys (hash_of key) (end.Met j) = rw e at (is.met j (omega (arith, h, is.count))) in
     let same : end.Met k ≡ end.Met j = one_end ends here in
     cc
 
@@ -64,7 +64,7 @@ none_leads (suc (suc zero)) = refl
 none_leads (suc (suc (suc zero))) = refl
 none_leads (suc (suc (suc (suc d)))) = refl
 
-module _ {trie keys : List (List ℕ)} (is : IsTrie trie keys) (key : List ℕ) (at : Opening) (ends : IsEnd trie keys (mark_of key) (end.Open at)) where
+module _ {trie keys : List (List ℕ)} (is : IsTrie trie keys) (key : List ℕ) (at : Opening) (ends : IsEnd trie keys (hash_of key) (end.Open at)) where
   abbrev n : ℕ
   n = length trie
 
@@ -117,34 +117,34 @@ module _ {trie keys : List (List ℕ)} (is : IsTrie trie keys) (key : List ℕ) 
   new_key : key_at (keys ++ key ∷ []) n ≡ key
   new_key = rw (is.count) (get_or-append_seam keys key [] [])
 
-  new_has : HasMark (keys ++ key ∷ []) (mark_of key) n
-  new_has = (omega (arith, is.count, length_push keys key), ap mark_of new_key)
+  new_has : HasHash (keys ++ key ∷ []) (hash_of key) n
+  new_has = (omega (arith, is.count, length_push keys key), ap hash_of new_key)
 
-  has_kept : (mark p : ℕ) → HasMark keys mark p → HasMark (keys ++ key ∷ []) mark p
-  has_kept mark p has = (omega (arith, has.0, length_push keys key), ap mark_of (old_key p (omega (arith, has.0, is.count))) ∙ has.1)
+  has_kept : (hash p : ℕ) → HasHash keys hash p → HasHash (keys ++ key ∷ []) hash p
+  has_kept hash p has = (omega (arith, has.0, length_push keys key), ap hash_of (old_key p (omega (arith, has.0, is.count))) ∙ has.1)
 
-  lacks_kept : (mark p : ℕ) → p < n → (HasMark keys mark p → ⊥) → HasMark (keys ++ key ∷ []) mark p → ⊥
-  lacks_kept mark p h lacks has = lacks (omega (arith, h, is.count), ap mark_of (sym (old_key p h)) ∙ has.1)
+  lacks_kept : (hash p : ℕ) → p < n → (HasHash keys hash p → ⊥) → HasHash (keys ++ key ∷ []) hash p → ⊥
+  lacks_kept hash p h lacks has = lacks (omega (arith, h, is.count), ap hash_of (sym (old_key p h)) ∙ has.1)
 
-  goes_on : {mark rest p : ℕ} {e : End} → p < n → (HasMark keys mark p → ⊥) → 0 < next trie p (rest % 4) → Ends new (keys ++ key ∷ []) mark (rest / 4) (next trie p (rest % 4)) e →
-      Ends new (keys ++ key ∷ []) mark rest p e
-  goes_on {mark} {rest} {p} {e} h lacks some w =
+  goes_on : {hash rest p : ℕ} {e : End} → p < n → (HasHash keys hash p → ⊥) → 0 < next trie p (rest % 4) → Ends new (keys ++ key ∷ []) hash (rest / 4) (next trie p (rest % 4)) e →
+      Ends new (keys ++ key ∷ []) hash rest p e
+  goes_on {hash} {rest} {p} {e} h lacks some w =
       let same = kept_next p (rest % 4) h some in
-      on (lacks_kept mark p h lacks) (omega (arith, same, some)) (rw same w)
+      on (lacks_kept hash p h lacks) (omega (arith, same, some)) (rw same w)
 
   -- What was met is met.
-  still_met : {mark rest p k : ℕ} {e : End} → p < n → Ends trie keys mark rest p e → e ≡ end.Met k → Ends new (keys ++ key ∷ []) mark rest p (end.Met k)
-  still_met {mark} {p} h (met has e_is) is_met = met (has_kept mark p has) (sym is_met ∙ e_is)
+  still_met : {hash rest p k : ℕ} {e : End} → p < n → Ends trie keys hash rest p e → e ≡ end.Met k → Ends new (keys ++ key ∷ []) hash rest p (end.Met k)
+  still_met {hash} {p} h (met has e_is) is_met = met (has_kept hash p has) (sym is_met ∙ e_is)
   still_met h (vacant lacks none e_is) is_met = absurd (cc)
   still_met {rest} {p} h (on lacks some w) is_met = goes_on h lacks some (still_met ((is.rising p (rest % 4) h some).1) w is_met)
 
-  -- Where the walk of the new mark ended, it meets the new key.
-  now_met : {rest p : ℕ} {e : End} → p < n → Ends trie keys (mark_of key) rest p e → e ≡ end.Open at → Ends new (keys ++ key ∷ []) (mark_of key) rest p (end.Met n)
+  -- Where the walk of the new hash ended, it meets the new key.
+  now_met : {rest p : ℕ} {e : End} → p < n → Ends trie keys (hash_of key) rest p e → e ≡ end.Open at → Ends new (keys ++ key ∷ []) (hash_of key) rest p (end.Met n)
   now_met h (met has e_is) is_open = absurd (cc)
   now_met {rest} {p} h (vacant lacks none e_is) is_open =
       let same = same_opening (sym is_open ∙ e_is) in
       let goes : next new p (rest % 4) ≡ n = rw (← same.0, ← same.1) (here_next (rw same.0 h)) in
-      on (lacks_kept (mark_of key) p h lacks) (omega (arith, goes, h)) (rw goes (met new_has refl))
+      on (lacks_kept (hash_of key) p h lacks) (omega (arith, goes, h)) (rw goes (met new_has refl))
   now_met {rest} {p} h (on lacks some w) is_open = goes_on h lacks some (now_met ((is.rising p (rest % 4) h some).1) w is_open)
 
   new_length : length new ≡ n + 1
@@ -187,13 +187,13 @@ module _ {trie keys : List (List ℕ)} (is : IsTrie trie keys) (key : List ℕ) 
     ]
   ]
 
-  first_met : (k : ℕ) → k ≡ n → Ends new (keys ++ key ∷ []) (mark_of key) (mark_of key) 0 (end.Met k)
+  first_met : (k : ℕ) → k ≡ n → Ends new (keys ++ key ∷ []) (hash_of key) (hash_of key) 0 (end.Met k)
   first_met k last = rw last (elim (cases_lt 0 n) [
     | inl some ↦ now_met some ends refl
     | inr none ↦ let zero_is : n ≡ 0 = omega (arith, none) in met (rw zero_is at new_has) (ap end.Met zero_is)
   ])
 
-  new_met : (k : ℕ) → k < n + 1 → IsEnd new (keys ++ key ∷ []) (mark_of (key_at (keys ++ key ∷ []) k)) (end.Met k)
+  new_met : (k : ℕ) → k < n + 1 → IsEnd new (keys ++ key ∷ []) (hash_of (key_at (keys ++ key ∷ []) k)) (end.Met k)
   new_met k h = elim (cases_lt k n) [
     | inl less ↦ rw (old_key k less) (still_met (omega (arith, less)) (is.met k less) refl)
     | inr more ↦

@@ -7,7 +7,7 @@ use crate::fork::Fork;
 /// How walks go on from a cell.
 #[derive(Clone, Copy, Debug)]
 pub(crate) enum Links {
-    /// In the trie of the marks, by two digits of a mark: to the cell at a place, and nowhere at 0.
+    /// In the trie of the hashes, by two digits of a hash: to the cell at a place, and nowhere at 0.
     Trie([usize; 4]),
     /// In the tree of the keys, by a digit of a key.
     Tree(Fork),

@@ -10,7 +10,7 @@ use crate::cell::Cell;
 use crate::fork::Link;
 use crate::tree;
 use crate::trie::{self, End, Opening};
-use cg_text::{Key, OutOfMemory, make_room, mark_of};
+use cg_text::{Key, OutOfMemory, hash_of, make_room};
 use std::alloc::Global;
 use std::marker::Model;
 use thiserror::Error;
@@ -60,16 +60,16 @@ pub enum Refused<T> {
     OutOfMemory(T),
 }
 
-/// Where an item goes whose key has this mark, none where that takes the tree.
+/// Where an item goes whose key has this hash, none where that takes the tree.
 #[inline(always)]
-fn opening<T: HasKey>(cells: &[Cell<T>], root: Option<Link>, mark: u32) -> Option<Opening>
+fn opening<T: HasKey>(cells: &[Cell<T>], root: Option<Link>, hash: u32) -> Option<Opening>
     requires { IsKeyed (map T.key_of (map item_of cells.now)) (map places_of cells.now) (map fork_of cells.now) root }
-    ensures { IfSome result (IsOpening (map places_of cells.now) (map T.key_of (map item_of cells.now)) root mark) }
+    ensures { IfSome result (IsOpening (map places_of cells.now) (map T.key_of (map item_of cells.now)) root hash) }
 {
     if root.is_some() {
         return None;
     }
-    match trie::walk(cells, mark) {
+    match trie::walk(cells, hash) {
         End::Open(at) => Some(at),
         End::Met(_) => None,
     }
@@ -79,9 +79,9 @@ fn opening<T: HasKey>(cells: &[Cell<T>], root: Option<Link>, mark: u32) -> Optio
 /// there. Contracts see the items and whether there is room.
 #[derive(Debug, Drop)]
 pub struct KeyedBuilder<T: HasKey> {
-    /// The only vector: the trie of the marks, or the tree of the keys, lies in it too.
+    /// The only vector: the trie of the hashes, or the tree of the keys, lies in it too.
     cells: Vec<Cell<T>>,
-    /// Where a walk over the tree of the keys begins, none where marks tell the keys apart.
+    /// Where a walk over the tree of the keys begins, none where hashes tell the keys apart.
     root: Option<Link>,
 }
 
@@ -145,7 +145,7 @@ impl<T: HasKey> KeyedBuilder<T> {
     {
         match self.root {
             Some(root) => tree::nearest(self.cells.as_slice(), root, key),
-            None => match trie::walk(self.cells.as_slice(), mark_of(key)) {
+            None => match trie::walk(self.cells.as_slice(), hash_of(key)) {
                 End::Met(place) => Some(place),
                 End::Open(_) => None,
             },
@@ -183,7 +183,7 @@ impl<T: HasKey> KeyedBuilder<T> {
         requires new { LacksValue (T.key_of item) (map T.key_of self.old.items) }
         ensures { self.new.items ≡ self.old.items ++ item ∷ [] }
     {
-        match opening(self.cells.as_slice(), self.root, item.key().mark()) {
+        match opening(self.cells.as_slice(), self.root, item.key().hash()) {
             Some(at) => trie::insert(&mut self.cells, at, item),
             None => self.root = Some(tree::push(&mut self.cells, self.root, item)),
         }
@@ -199,7 +199,7 @@ impl<T: HasKey> KeyedBuilder<T> {
         ensures repeated { is_repeated result ≡ is_among (T.key_of item) (map T.key_of self.old.items) }
         ensures room { IsTrue self.old.has_room → is_err result ≡ is_repeated result }
     {
-        let Some(at) = opening(self.cells.as_slice(), self.root, item.key().mark()) else {
+        let Some(at) = opening(self.cells.as_slice(), self.root, item.key().hash()) else {
             return self.add_by_tree(item);
         };
         if make_room(&mut self.cells).is_err() {
@@ -209,7 +209,7 @@ impl<T: HasKey> KeyedBuilder<T> {
         Ok(())
     }
 
-    /// Adds an item as `add` does, where marks alone don't tell that it is new.
+    /// Adds an item as `add` does, where hashes alone don't tell that it is new.
     fn add_by_tree(&mut self, item: T) -> Result<(), Refused<T>>
         ensures ok { OnOk result (self.new.items ≡ self.old.items ++ item ∷ []) }
         ensures err { OnErr result (self.new.items ≡ self.old.items) }

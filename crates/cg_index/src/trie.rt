@@ -1,6 +1,6 @@
-//! The trie of the marks, the hashes, of items' keys, whose links lie in the items' cells.
+//! The trie of the hashes of items' keys, whose links lie in the items' cells.
 ghost use Rattle.std.specs.Prelude.{◌≡◌, ◌<◌, ◌++◌, ◌∷◌, [], map, vec_len, vec_capacity};
-ghost use Rattle.cg_text.specs.Mark.{mark_of};
+ghost use Rattle.cg_text.specs.Hash.{hash_of};
 ghost use Rattle.cg_index.specs.Cells.{item_of, places_of};
 ghost use Rattle.cg_index.specs.Trie.{IsTrie, IsEnd};
 ghost use Rattle.cg_index.specs.declared.trie.End.TheVariants as end;
@@ -13,32 +13,32 @@ use crate::keyed::HasKey;
 pub(crate) struct Opening {
     /// The cell in which it lies. Where there are no cells, it counts for nothing.
     pub(crate) place: usize,
-    /// The two digits of marks that go this way.
+    /// The two digits of hashes that go this way.
     pub(crate) digit: usize,
 }
 
-/// Where a walk by the digits of a mark ends.
+/// Where a walk by the digits of a hash ends.
 #[derive(Clone, Copy, Debug)]
 pub(crate) enum End {
-    /// At the item whose key has the mark.
+    /// At the item whose key has the hash.
     Met(usize),
     /// Where no item has it.
     Open(Opening),
 }
 
-/// Walks from the first item by the digits of the mark, two by two from the lowest.
+/// Walks from the first item by the digits of the hash, two by two from the lowest.
 #[inline(always)]
-pub(crate) fn walk<T: HasKey>(cells: &[Cell<T>], mark: u32) -> End
+pub(crate) fn walk<T: HasKey>(cells: &[Cell<T>], hash: u32) -> End
     requires { IsTrie (map places_of cells.now) (map T.key_of (map item_of cells.now)) }
-    ensures { IsEnd (map places_of cells.now) (map T.key_of (map item_of cells.now)) mark result }
+    ensures { IsEnd (map places_of cells.now) (map T.key_of (map item_of cells.now)) hash result }
 {
     let mut place = 0;
-    let mut rest = mark;
+    let mut rest = hash;
     loop {
         let digit = (rest % 4) as usize;
         let next = match cells.get(place) {
             Some(cell) => {
-                if cell.item.key().mark() == mark {
+                if cell.item.key().hash() == hash {
                     return End::Met(place);
                 }
                 cell.links.next(digit)
@@ -53,13 +53,13 @@ pub(crate) fn walk<T: HasKey>(cells: &[Cell<T>], mark: u32) -> End
     }
 }
 
-/// Adds an item where the walk by its key's mark ended, where there is room. It takes no memory.
+/// Adds an item where the walk by its key's hash ended, where there is room. It takes no memory.
 #[inline(always)]
 pub(crate) fn insert<T: HasKey>(cells: &mut Vec<Cell<T>>, at: Opening, item: T)
     requires room { vec_len cells.old < vec_capacity cells.old }
     requires trie { IsTrie (map places_of cells.old.items) (map T.key_of (map item_of cells.old.items)) }
     requires opening { IsEnd (map places_of cells.old.items) (map T.key_of (map item_of cells.old.items))
-        (mark_of (T.key_of item)) (end.Open at) }
+        (hash_of (T.key_of item)) (end.Open at) }
     ensures items { map item_of cells.new.items ≡ map item_of cells.old.items ++ item ∷ [] }
     ensures trie { IsTrie (map places_of cells.new.items) (map T.key_of (map item_of cells.new.items)) }
 {

@@ -8,7 +8,7 @@ use Rattle.cg_index.specs.Keyed.{is_among, is_repeated}
 use Rattle.cg_index.specs.KeyedLaws.{not_among}
 use Rattle.cg_index.specs.declared.keyed.Refused.{Refused}
 use Rattle.cg_join.specs.Distinct.{LacksValue}
-use Rattle.cg_text.specs.Token.{HasOneText, told}
+use Rattle.cg_text.specs.Token.{HasOneText, saturated}
 use Rattle.cg_join.specs.SequenceLaws.{cuts}
 use Rattle.cg_join.specs.Repeat.{Stops, IsList, IsListAfter, items_size, out_size}
 
@@ -202,11 +202,11 @@ out_size_push f [] v = omega arith
 out_size_push f (w ∷ vs) v = omega (arith, items_size_push f vs v)
 
 -- One more element is told.
-pub told_more : (a b n kept one w more : ℕ) → kept ≡ told a → one ≡ min (kept + 1) 18446744073709551615 → w ≡ told b → more ≡ min (one + w) 18446744073709551615 → n ≡ a + 1 + b → more ≡ told n
-told_more a b n kept one w more h k l m e = omega arith
+pub saturated_more : (a b n kept one w more : ℕ) → kept ≡ saturated a → one ≡ min (kept + 1) 18446744073709551615 → w ≡ saturated b → more ≡ min (one + w) 18446744073709551615 → n ≡ a + 1 + b → more ≡ saturated n
+saturated_more a b n kept one w more h k l m e = omega arith
 
-pub told_sum : (a b n x y more : ℕ) → x ≡ told a → y ≡ told b → more ≡ min (x + y) 18446744073709551615 → n ≡ a + b → more ≡ told n
-told_sum a b n x y more h k l e = omega arith
+pub saturated_sum : (a b n x y more : ℕ) → x ≡ saturated a → y ≡ saturated b → more ≡ min (x + y) 18446744073709551615 → n ≡ a + b → more ≡ saturated n
+saturated_sum a b n x y more h k l e = omega arith
 
 pub size_pushed : {V : Type 0} (f : V → ℕ) (new vs : List V) (v : V) → new ≡ vs ++ v ∷ [] → items_size f new ≡ items_size f vs + 1 + f v
 size_pushed f new vs v e = rw e (items_size_push f vs v)
@@ -224,20 +224,20 @@ out_size_summed f [] = refl
 out_size_summed f (v ∷ vs) = omega (arith, size_summed f vs, sum_by-cons f v vs)
 
 -- What is told of the places and what the values hold.
-pub told_size : {V : Type 0} (f : V → ℕ) (xs vs : List V) (places result : ℕ) → xs ≡ vs → places ≡ length vs → result ≡ told (places + sum_by f xs) → result ≡ told (items_size f vs)
-told_size f xs vs places result same is told_is =
+pub saturated_size : {V : Type 0} (f : V → ℕ) (xs vs : List V) (places result : ℕ) → xs ≡ vs → places ≡ length vs → result ≡ saturated (places + sum_by f xs) → result ≡ saturated (items_size f vs)
+saturated_size f xs vs places result same is told_is =
     let sum = ap (sum_by f) same in
     omega (arith, sum, is, told_is, size_summed f vs)
 
-pub told_out_size : {V : Type 0} (f : V → ℕ) (xs vs : List V) (places result : ℕ) → xs ≡ vs → places ≡ length vs - 1 → result ≡ told (places + sum_by f xs) → result ≡ told (out_size f vs)
-told_out_size f xs vs places result same is told_is =
+pub saturated_out_size : {V : Type 0} (f : V → ℕ) (xs vs : List V) (places result : ℕ) → xs ≡ vs → places ≡ length vs - 1 → result ≡ saturated (places + sum_by f xs) → result ≡ saturated (out_size f vs)
+saturated_out_size f xs vs places result same is told_is =
     let sum = ap (sum_by f) same in
     omega (arith, sum, is, told_is, out_size_summed f vs)
 
 -- One more item is told.
-pub told_item : {V X : Type 0} (f : X → ℕ) (g : V → X) (vs : List V) (i : ℕ) (v : V) (places total size more : ℕ) → i < length vs → v ≡ get_or vs i v →
-    total ≡ told (places + sum_by f (take i (map g vs))) → size ≡ told (f (g v)) → more ≡ min (total + size) 18446744073709551615 → more ≡ told (places + sum_by f (take (i + 1) (map g vs)))
-told_item f g vs i v places total size more h is before one sum =
+pub saturated_item : {V X : Type 0} (f : X → ℕ) (g : V → X) (vs : List V) (i : ℕ) (v : V) (places total size more : ℕ) → i < length vs → v ≡ get_or vs i v →
+    total ≡ saturated (places + sum_by f (take i (map g vs))) → size ≡ saturated (f (g v)) → more ≡ min (total + size) 18446744073709551615 → more ≡ saturated (places + sum_by f (take (i + 1) (map g vs)))
+saturated_item f g vs i v places total size more h is before one sum =
     let within : i < length (map g vs) = omega (arith, h, length-map vs g) in
     let read : get_or (map g vs) i (g v) ≡ g v = get_or-map g vs i v (g v) h ∙ sym (ap g is) in
     let grown : sum_by f (take (i + 1) (map g vs)) ≡ sum_by f (take i (map g vs)) + f (g v) =

@@ -1,6 +1,6 @@
 //! What keeps the pairs of keyed lines.
 ghost use Rattle.std.specs.Prelude.{◌≡◌, ℕ, ◌+◌, ◌≤◌, List, [], ◌++◌, ◌∷◌, map, IsTrue, IsFalse, OnOk};
-ghost use Rattle.cg_text.specs.Token.{told};
+ghost use Rattle.cg_text.specs.Token.{saturated};
 ghost use Rattle.cg_text.specs.WordState.{is_taken};
 ghost use Rattle.cg_join.specs.Distinct.{LacksValue, any_value};
 
@@ -76,7 +76,7 @@ pub trait Collection<V: Token>: Drop {
 
     /// The sum of the lengths of its vectors.
     fn held(&self) -> u64
-        ensures { result ≡ told (size self.now) };
+        ensures { result ≡ saturated (size self.now) };
 
     /// Hands the pairs out. It takes no memory.
     fn finish(self) -> Self::Out
@@ -85,5 +85,5 @@ pub trait Collection<V: Token>: Drop {
 
     /// The sum of the lengths of the vectors in what is handed out.
     fn held_in(out: &Self::Out) -> u64
-        ensures { result ≡ told (value_size out.now) };
+        ensures { result ≡ saturated (value_size out.now) };
 }

@@ -1,7 +1,7 @@
 //! One or more words, all different, with a byte between.
 ghost use Rattle.std.specs.Prelude.{◌≡◌, ◌+◌, ◌<◌, true, false, not, ◌&&◌, [], IsTrue, map};
 ghost use Rattle.std.specs.List.{sum_by};
-ghost use Rattle.cg_text.specs.Token.{Spells, told};
+ghost use Rattle.cg_text.specs.Token.{Spells, saturated};
 ghost use Rattle.cg_index.specs.Cells.{item_of};
 ghost use Rattle.cg_join.specs.Repeat.{LacksEmpty, Stops, items_size, out_size};
 ghost use Rattle.cg_join.specs.Distinct.{AreDistinct, AreDistinctJoined, any_value, IsDistinctAfter};
@@ -53,7 +53,7 @@ impl DistinctWords {
 
 /// The places, and the sum of the lengths of the words.
 fn held_in_words(places: usize, cells: &[Cell<Key>]) -> u64
-    ensures { result ≡ told (places + sum_by ⟦<WordText as Token>⟧.value_size (map item_of cells.now)) }
+    ensures { result ≡ saturated (places + sum_by ⟦<WordText as Token>⟧.value_size (map item_of cells.now)) }
 {
     let mut total = places as u64;
     for cell in cells {

@@ -1,6 +1,6 @@
 //! Lines: any number of a token, each with an ending byte.
 ghost use Rattle.std.specs.Prelude.{◌≡◌, ◌+◌, ◌<◌, ◌↔◌, ℕ, List, true, false, not, IsFalse};
-ghost use Rattle.cg_text.specs.Token.{Spells, told};
+ghost use Rattle.cg_text.specs.Token.{Spells, saturated};
 ghost use Rattle.cg_join.specs.Repeat.{items_size};
 ghost use Rattle.cg_join.specs.Line.{LacksByte};
 ghost use Rattle.cg_join.specs.Lines.{AreLines, AreLinesAfter};

@@ -1,7 +1,7 @@
 //! Pairs of a key and a value.
 ghost use Rattle.std.specs.Prelude.{◌≡◌, ℕ, ◌+◌, List, [], IsTrue, map};
 ghost use Rattle.std.specs.List.{sum_by};
-ghost use Rattle.cg_text.specs.Token.{told};
+ghost use Rattle.cg_text.specs.Token.{saturated};
 ghost use Rattle.cg_index.specs.Cells.{item_of};
 ghost use Rattle.cg_join.specs.Pairs.{pair_size};
 ghost use Rattle.cg_join.specs.Repeat.{items_size};
@@ -72,7 +72,7 @@ impl<V: Token, F: MakePair<V>> PairList<V, F> {
 
 /// The places, and the sum of the lengths of the vectors in the pairs.
 fn held_in_made<V: Token, F: MakePair<V>>(places: usize, cells: &[Cell<F::Pair>]) -> u64
-    ensures { result ≡ told (places +
+    ensures { result ≡ saturated (places +
         sum_by (pair_size F.key_of F.value_of ⟦<WordText as Token>⟧.value_size V.value_size) (map item_of cells.now)) }
 {
     let mut total = places as u64;

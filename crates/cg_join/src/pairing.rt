@@ -1,7 +1,7 @@
 //! Pairs of a word and a value.
 ghost use Rattle.std.specs.Prelude.{◌≡◌, ℕ, ◌+◌, ◌≤◌, ◌<◌, List, [], IsTrue, map, length};
 ghost use Rattle.std.specs.List.{sum_by};
-ghost use Rattle.cg_text.specs.Token.{Spells, told};
+ghost use Rattle.cg_text.specs.Token.{Spells, saturated};
 ghost use Rattle.cg_index.specs.Cells.{item_of};
 ghost use Rattle.cg_text.specs.WordState.{is_taken};
 ghost use Rattle.cg_join.specs.Distinct.{any_value};
@@ -99,7 +99,7 @@ pub(crate) fn complete_last<V: Token, F: Pairing<V>>(
 
 /// The places, and the sum of the lengths of the vectors in the pairs.
 pub(crate) fn held_in_pairs<V: Token, F: Pairing<V>>(places: usize, cells: &[Cell<F::Pair>]) -> u64
-    ensures { result ≡ told (places +
+    ensures { result ≡ saturated (places +
         sum_by (pair_size F.word_of F.value_of ⟦<WordText as Token>⟧.value_size V.value_size) (map item_of cells.now)) }
 {
     let mut total = places as u64;

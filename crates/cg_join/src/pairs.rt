@@ -1,6 +1,6 @@
 //! Any number of pairs of a word and a value, the words all different.
 ghost use Rattle.std.specs.Prelude.{◌≡◌, ◌+◌, ◌≤◌, ◌<◌, true, false, [], map, length, IsTrue, IfSome, OnErr};
-ghost use Rattle.cg_text.specs.Token.{Begins, Follows, IfRefused, IfTaken, NoneBegins, Same, Spells, UnlessTaken, told};
+ghost use Rattle.cg_text.specs.Token.{Begins, Follows, IfRefused, IfTaken, NoneBegins, Same, Spells, UnlessTaken, saturated};
 ghost use Rattle.cg_join.specs.Repeat.{Stops, items_size};
 ghost use Rattle.cg_join.specs.Line.{LacksByte};
 ghost use Rattle.cg_join.specs.Distinct.{AreDistinct};

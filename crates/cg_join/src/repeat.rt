@@ -1,7 +1,7 @@
 //! One or more of a token, with a byte between.
 ghost use Rattle.std.specs.Prelude.{◌≡◌, ◌+◌, ◌≤◌, ◌<◌, true, false, IsTrue, length, take, vec_len, vec_capacity};
 ghost use Rattle.cg_text.specs.Scan.{FollowsRun};
-ghost use Rattle.cg_text.specs.Token.{Spells, told};
+ghost use Rattle.cg_text.specs.Token.{Spells, saturated};
 ghost use Rattle.cg_join.specs.Repeat.{AreJoined, IsListAfter, LacksEmpty, Stops, items_size, out_size};
 
 use crate::start::Start;

@@ -1,6 +1,6 @@
 //! The vectors in which repetitions keep their values.
 ghost use Rattle.std.specs.Prelude.{◌≡◌, ◌+◌, ◌≤◌, ◌<◌, [], ◌++◌, ◌∷◌, OnOk, vec_len, vec_capacity};
-ghost use Rattle.cg_text.specs.Token.{told};
+ghost use Rattle.cg_text.specs.Token.{saturated};
 ghost use Rattle.cg_join.specs.Repeat.{items_size, out_size};
 
 use cg_text::{OutOfMemory, Token};
@@ -15,7 +15,7 @@ pub(crate) fn put<X: Drop>(items: &mut Vec<X>, value: X)
 
 /// The sum of the lengths of the vectors in values, and a place for each.
 pub(crate) fn held_in_all<T: Token>(items: &[T::Out]) -> u64
-    ensures { result ≡ told (items_size T.value_size items.now) }
+    ensures { result ≡ saturated (items_size T.value_size items.now) }
 {
     let mut total: u64 = 0;
     for item in items {
@@ -26,7 +26,7 @@ pub(crate) fn held_in_all<T: Token>(items: &[T::Out]) -> u64
 
 /// The same, but that the first has no place.
 pub(crate) fn held_in_joined<T: Token>(items: &[T::Out]) -> u64
-    ensures { result ≡ told (out_size T.value_size items.now) }
+    ensures { result ≡ saturated (out_size T.value_size items.now) }
 {
     match items.split_first() {
         Some((first, rest)) => held_in_all::<T>(rest).saturating_add(T::held_in(first)),

@@ -3,7 +3,7 @@ ghost use Rattle.std.specs.Prelude.{◌≡◌, ◌≤◌, ◌<◌, ◌+◌, ◌�
 ghost use Rattle.cg_text.specs.Bytes.{HasByte};
 ghost use Rattle.cg_file.specs.Front.{IsLineFront};
 ghost use Rattle.cg_text.specs.Texts.{Lacks, Next};
-ghost use Rattle.cg_text.specs.Token.{told};
+ghost use Rattle.cg_text.specs.Token.{saturated};
 ghost use Rattle.cg_value.specs.Files.{ReadLines, KindText, KindFile};
 ghost use Rattle.cg_value.specs.Lines.{unlines};
 ghost use Rattle.cg_value.specs.Held.{held_of_lines};
@@ -345,7 +345,7 @@ impl ValueReader {
 
     /// The sum of the lengths of its vectors, or `u64::MAX` where that is more. It takes no memory.
     pub fn held(&self) -> u64
-        ensures exact { result ≡ told (held_by self.now) }
+        ensures exact { result ≡ saturated (held_by self.now) }
         ensures few { (kind : ReadForm) (taken : List ℕ) → Reads self.now kind taken → held_by self.now ≤ length taken }
         ensures most { (kind : ReadForm) (lines : List (List ℕ)) (line : List ℕ) (v : Value) →
             Reads self.now kind (unlines lines ++ line) → Lacks 10 line → ReadLines kind v lines →

@@ -4,7 +4,7 @@
 ghost use Rattle.std.specs.Prelude.{◌≡◌, ◌≤◌, ◌<◌, ◌+◌, ◌↔◌, ℕ, List, [], length, MatchResult, IsTrue, IfNone, OnErr};
 ghost use Rattle.cg_text.specs.Bytes.{HasByte};
 ghost use Rattle.cg_text.specs.Texts.{Next};
-ghost use Rattle.cg_text.specs.Token.{told};
+ghost use Rattle.cg_text.specs.Token.{saturated};
 ghost use Rattle.cg_value.specs.Settings.{WriteText as IsWriteText, KindWrite};
 ghost use Rattle.cg_value.specs.declared.kind.WriteForm.{WriteForm};
 
@@ -92,7 +92,7 @@ impl SettingReader {
 
     /// The sum of the lengths of its vectors, or `u64::MAX` where that is more. It takes no memory.
     pub fn held(&self) -> u64
-        ensures exact { result ≡ told (held_of self.now) }
+        ensures exact { result ≡ saturated (held_of self.now) }
         ensures most { (kind : WriteForm) (taken : List ℕ) → Takes self.now kind taken →
             held_of self.now ≤ length taken }
     {

@@ -3,7 +3,7 @@ use Rattle.std.specs.Prelude.{Ok, is_some}
 use Rattle.std.proofs.Common.{◌≡◌, ◌≢◌, ℕ, suc, ◌+◌, ◌-◌, ◌<◌, ◌≤◌, List, [], ◌∷◌, ◌++◌, Option, Some, None, Err, true, length, take, inl, inr, refl, sym, ap, subst, ◌∙◌, append-nil, append_assoc, arith}
 use Rattle.std.proofs.lemmas.Grind.{flat_map-append}
 use Rattle.std.specs.List.{flat_map}
-use Rattle.cg_text.specs.Token.{told as counted}
+use Rattle.cg_text.specs.Token.{saturated}
 use Rattle.cg_value.specs.Entry.{EntryData}
 use Rattle.cg_value.specs.declared.profile.Profile.{Profile}
 use Rattle.cg_snap.specs.Begun.{IsRecordEnd}
@@ -52,7 +52,7 @@ count_entry told e =
     let both = how_many_both told (told_entry e) in
     let none = how_many_entry e in
     let same : how_many (told ++ told_entry e) ≡ how_many told = omega (arith, both, none) in
-    ap counted same
+    ap saturated same
 
 pub count_found : (told : List Told) (f : Found) → left_out_of (told ++ told_found f) ≡ left_out_of (told ++ told_out f.left_out)
 count_found told f =
@@ -61,9 +61,9 @@ count_found told f =
     let out = how_many_both told (told_out f.left_out) in
     let none = how_many_entry f.entry in
     let same : how_many (told ++ (told_entry f.entry ++ told_out f.left_out)) ≡ how_many (told ++ told_out f.left_out) = omega (arith, all, back, out, none) in
-    ap counted same
+    ap saturated same
 
-pub count_out : (told : List Told) (out : LeftOut) (before after : ℕ) → before ≡ left_out_of told → after ≡ counted (before + 1) → after ≡ left_out_of (told ++ inr out ∷ [])
+pub count_out : (told : List Told) (out : LeftOut) (before after : ℕ) → before ≡ left_out_of told → after ≡ saturated (before + 1) → after ≡ left_out_of (told ++ inr out ∷ [])
 count_out told out before after e f =
     let both = how_many_both told (inr out ∷ []) in
     let one : how_many (inr out ∷ []) ≡ 1 = refl in

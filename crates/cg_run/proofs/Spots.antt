@@ -3,7 +3,7 @@ use Rattle.std.proofs.Common.{◌≡◌, ◌↔◌, ℕ, ◌≤◌, Bool, true, 
 use Rattle.std.specs.Prelude.{◌&&◌}
 use Rattle.cg_text.specs.Bytes.{HasByte}
 use Rattle.cg_text.specs.Texts.{Next}
-use Rattle.cg_text.specs.Token.{told}
+use Rattle.cg_text.specs.Token.{saturated}
 use Rattle.cg_snap.specs.Begun.{IsBegun}
 use Rattle.cg_snap.specs.ClosedLaws.{begun_once}
 use Rattle.cg_snap.specs.RecordPlace.{IsRecordPlace}
@@ -17,7 +17,7 @@ use Rattle.cg_run.specs.declared.lines.Lines.{Lines}
 use Rattle.cg_run.specs.declared.spot.Spot.{Spot}
 use Rattle.cg_run.proofs.Lined.{newlines_few}
 
-exact : (n : ℕ) → n ≤ 18446744073709551615 → told n ≡ n
+exact : (n : ℕ) → n ≤ 18446744073709551615 → saturated n ≡ n
 exact n few = omega (arith, few)
 
 begun_few : (p r : List ℕ) → IsBegun p r → length r ≤ length p

@@ -4,7 +4,7 @@ use Rattle.std.proofs.Math.Seq.{take-append-add}
 use Rattle.std.proofs.lemmas.List.{take-append-le}
 use Rattle.std.specs.Io.KnownBytes.{Appends}
 use Rattle.cg_print.proofs.Known.{Appends-trans}
-use Rattle.cg_text.specs.Token.{told}
+use Rattle.cg_text.specs.Token.{saturated}
 use Rattle.cg_run.specs.Run.{Wrote, joined}
 use Rattle.cg_run.specs.Output.{Holds}
 use Rattle.cg_run.specs.Streaming.{FailsAfter, HasWritten, HasWrittenText}
@@ -78,7 +78,7 @@ joined_one part = sym (append-nil part)
 
 -- The same text, in other parts.
 pub written_as : (first now : Option (List ℕ)) (xs ys : List (List ℕ)) (written : ℕ) → joined xs ≡ joined ys → HasWritten first now xs written → HasWritten first now ys written
-written_as first now xs ys written e h = subst (λ (t : List ℕ). Appends first now t × (written ≡ told (length t))) e h
+written_as first now xs ys written e h = subst (λ (t : List ℕ). Appends first now t × (written ≡ saturated (length t))) e h
 
 -- All is written where it holds nothing.
 pub holds_none : (first now : Option (List ℕ)) (parts : List (List ℕ)) (output : Output) → output.text.items ≡ [] → HasWritten first now parts output.written → Holds first now parts output

@@ -2,7 +2,7 @@
 use Rattle.std.proofs.Common.{inl, inr}
 use Rattle.std.specs.Prelude.{◌≡◌, ◌≢◌, ℕ, suc, List, [], ◌∷◌, ◌++◌, codes, decimal, length, Option, Some, None}
 use Rattle.std.specs.List.{flat_map}
-use Rattle.cg_text.specs.Token.{told as counted}
+use Rattle.cg_text.specs.Token.{saturated}
 use Rattle.cg_value.specs.Entry.{EntryData}
 use Rattle.cg_value.specs.declared.profile.Profile.{Profile}
 use Rattle.cg_json.specs.Entry.{left_out_line as json_line}
@@ -73,7 +73,7 @@ how_many (inl e ∷ told) = how_many told
 how_many (inr out ∷ told) = suc (how_many told)
 
 abbrev pub left_out_of : List Told → ℕ
-left_out_of told = counted (how_many told)
+left_out_of told = saturated (how_many told)
 
 -- The outcome of a run that tells each block; and of one that checks: what it writes is the line of each block that is left out,
 -- and at the end a line for each finding.

@@ -1,6 +1,6 @@
 -- Lines of the input, counted.
 use Rattle.std.specs.Prelude.{◌≡◌, ℕ, List, length, Option, Some, None}
-use Rattle.cg_text.specs.Token.{told}
+use Rattle.cg_text.specs.Token.{saturated}
 use Rattle.cg_snap.specs.Begun.{IsBegun}
 use Rattle.cg_run.specs.Explain.{newlines}
 use Rattle.cg_run.specs.declared.lines.Lines.{Lines}
@@ -9,8 +9,8 @@ use Rattle.cg_run.specs.declared.lines.Lines.{Lines}
 pub record AreCounted (lines : Lines) (p : List ℕ) : Type 0 where
   pub begun : List ℕ
   pub begins : IsBegun p begun
-  pub ended_is : lines.ended ≡ told (newlines p)
-  pub begun_is : lines.begun ≡ told (length begun)
+  pub ended_is : lines.ended ≡ saturated (newlines p)
+  pub begun_is : lines.begun ≡ saturated (length begun)
 
 -- The same, if lines are counted.
 abbrev pub AreBehind : Option Lines → List ℕ → Type 0

@@ -2,7 +2,7 @@
 use Rattle.std.specs.Prelude.{◌≡◌, ℕ, ◌+◌, ◌<◌, ◌≤◌, ◌⊎◌, Bool, true, false, List, [], ◌∷◌, ◌++◌, length, take, Option, Some, None}
 use Rattle.std.specs.Io.KnownBytes.{Appends, Consumes}
 use Rattle.cg_text.specs.Texts.{TextOf}
-use Rattle.cg_text.specs.Token.{told}
+use Rattle.cg_text.specs.Token.{saturated}
 use Rattle.cg_value.specs.Entry.{EntryData, ItemData}
 use Rattle.cg_value.specs.Files.{KindText}
 use Rattle.cg_value.specs.Print.{print_of, print_setting_of}
@@ -167,7 +167,7 @@ joined (part ∷ parts) = part ++ joined parts
 
 -- The writer took the whole text of the outcome that is right; or, where it failed, the first bytes of it.
 abbrev pub Wrote : Option (List ℕ) → Option (List ℕ) → Bool → List ℕ → Outcome → Outcome → Type 0
-Wrote taken now failed text wanted (out.WriteFault written) = (n : ℕ) × (n ≤ length text) × Appends taken now (take n text) × (written ≡ told n) × (failed ≡ true)
+Wrote taken now failed text wanted (out.WriteFault written) = (n : ℕ) × (n ≤ length text) × Appends taken now (take n text) × (written ≡ saturated n) × (failed ≡ true)
 Wrote taken now failed text wanted o = (o ≡ wanted) × Appends taken now text
 
 -- A fault of the writer is told only where it has failed.

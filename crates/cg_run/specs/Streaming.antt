@@ -1,7 +1,7 @@
 -- What the steps of a run over a stream do.
 use Rattle.std.specs.Prelude.{◌≡◌, ◌≢◌, ℕ, ◌+◌, ◌<◌, ◌⊎◌, Bool, List, [], ◌∷◌, ◌++◌, length, take, Option, Result, Ok, Err}
 use Rattle.std.specs.Io.KnownBytes.{Appends}
-use Rattle.cg_text.specs.Token.{told}
+use Rattle.cg_text.specs.Token.{saturated}
 use Rattle.cg_snap.specs.Stop.{place_of}
 use Rattle.cg_snap.specs.declared.decode.StreamFault.{StreamFault}
 use Rattle.cg_snap.specs.declared.decode.StreamFault.TheVariants as faults
@@ -96,7 +96,7 @@ module _ (Whole : List ℕ → List (List ℕ) → Outcome → Type 0) where
 
 -- The writer took this text since it had taken first, and so many bytes are told of it.
 abbrev pub HasWrittenText : Option (List ℕ) → Option (List ℕ) → List ℕ → ℕ → Type 0
-HasWrittenText first now text written = Appends first now text × (written ≡ told (length text))
+HasWrittenText first now text written = Appends first now text × (written ≡ saturated (length text))
 
 -- It failed in this text, whatever was to come behind it.
 abbrev pub FailsAfter : Option (List ℕ) → Option (List ℕ) → Bool → List ℕ → Outcome → Type 0
@@ -104,7 +104,7 @@ FailsAfter first now write_failed text fault = (rest : List ℕ) (wanted : Outco
 
 -- The writer took these parts since it had taken first, and so many bytes are told of them.
 abbrev pub HasWritten : Option (List ℕ) → Option (List ℕ) → List (List ℕ) → ℕ → Type 0
-HasWritten first now parts written = Appends first now (joined parts) × (written ≡ told (length (joined parts)))
+HasWritten first now parts written = Appends first now (joined parts) × (written ≡ saturated (length (joined parts)))
 
 -- It failed in these parts, whatever was to come behind them.
 abbrev pub FailsIn : Option (List ℕ) → Option (List ℕ) → Bool → List (List ℕ) → Outcome → Type 0

@@ -4,7 +4,7 @@ use Rattle.std.proofs.lemmas.Bool.{cases_lt}
 use Rattle.std.proofs.lemmas.List.{length-append, length_push}
 use Rattle.cg_text.specs.ListFacts.{push_one}
 use Rattle.cg_text.specs.Texts.{Lacks, Next, Viable}
-use Rattle.cg_text.specs.Token.{told}
+use Rattle.cg_text.specs.Token.{saturated}
 use Rattle.cg_value.specs.Entry.{EntryData, IsPath, IsPathByte, ReadsAt}
 use Rattle.cg_value.specs.Records.{records}
 use Rattle.cg_value.specs.declared.kind.ReadForm.{ReadForm}
@@ -47,7 +47,7 @@ snoc (b ∷ t) = elim (snoc t) [
   | inr s ↦ inr (b ∷ s.0, s.1, ap (λ (u : List ℕ). b ∷ u) s.2)
 ]
 
-none_told : (n : ℕ) → 0 ≡ told n → n ≡ 0
+none_told : (n : ℕ) → 0 ≡ saturated n → n ≡ 0
 none_told n e = omega (arith, e)
 
 module _ (profile : Profile) where

@@ -4,7 +4,7 @@ use Rattle.std.proofs.Math.Seq.{take-add}
 use Rattle.std.proofs.lemmas.List.{append-nil, length-append, take-append-le, take_all}
 use Rattle.cg_text.specs.Texts.{Lacks}
 use Rattle.cg_text.specs.TextsLaws.{lacks_both}
-use Rattle.cg_text.specs.Token.{told}
+use Rattle.cg_text.specs.Token.{saturated}
 use Rattle.cg_value.specs.Entry.{EntryData, IsPathByte}
 use Rattle.cg_value.specs.Lines.{unlines}
 use Rattle.cg_value.specs.declared.kind.ReadForm.{ReadForm}
@@ -94,7 +94,7 @@ module _ (profile : Profile) (x : Present) (now : ValueReader) (p : List ℕ) (e
       let nul = same_path profile x.path.items [] x begun_line (p ++ x.path.items) es 0 a refl refl refl refl refl a.reads goes in
       subst (λ (q : List ℕ). AtLine profile [] begun_line q es) (append_assoc p x.path.items (0 ∷ [])) nul
 
-  pub record_taken : (y : Present) (bytes : List ℕ) → bytes ≡ (x.path.items ++ 0 ∷ []) ++ (line ++ 10 ∷ []) → y.path.items ≡ x.path.items → y.lines ≡ told (x.lines + 1) → y.reader ≡ now → AtPath profile [] y (p ++ bytes) es
+  pub record_taken : (y : Present) (bytes : List ℕ) → bytes ≡ (x.path.items ++ 0 ∷ []) ++ (line ++ 10 ∷ []) → y.path.items ≡ x.path.items → y.lines ≡ saturated (x.lines + 1) → y.reader ≡ now → AtPath profile [] y (p ++ bytes) es
   record_taken y bytes e path lines reader =
       let l = after_head in
       let after : Reads y.reader l.kind ((unlines l.lines ++ l.line) ++ (line ++ 10 ∷ [])) =

@@ -1,6 +1,6 @@
 -- How many records came before the NUL of a path.
 use Rattle.std.proofs.Common.{◌≡◌, ◌≢◌, ℕ, ◌<◌, ◌≤◌, List, [], ◌∷◌, ◌++◌, length, refl, sym, ap, subst, ◌∙◌, append_assoc, arith, inl, inr, Some, None, Bool, true, false, Option}
-use Rattle.cg_text.specs.Token.{told}
+use Rattle.cg_text.specs.Token.{saturated}
 use Rattle.cg_value.specs.Entry.{EntryData, IsPath}
 use Rattle.cg_value.specs.Records.{records}
 use Rattle.cg_value.specs.declared.profile.Profile.{Profile}
@@ -22,10 +22,10 @@ next_whole : (p g r b : List ℕ) → p ≡ g ++ (r ++ b) → p ++ 0 ∷ [] ≡ 
 next_whole p g r b e = rw e (simp append_assoc)
 
 -- Counted so far as a u64 goes, and compared with a u64.
-told_most : (n m max : ℕ) → m ≡ told n → max ≤ m → max ≤ n
+told_most : (n m max : ℕ) → m ≡ saturated n → max ≤ m → max ≤ n
 told_most n m max e h = omega (arith, e, h)
 
-told_less : (n m max : ℕ) → m ≡ told n → max ≤ 18446744073709551615 → m < max → n < max
+told_less : (n m max : ℕ) → m ≡ saturated n → max ≤ 18446744073709551615 → m < max → n < max
 told_less n m max e b h = omega (arith, e, b, h)
 
 -- There is one count of the records that have ended.
@@ -65,7 +65,7 @@ module _ (profile : Profile) where
         count = refl;
       }
 
-  pub before_nul : (begun : List ℕ) (o : Option Present) (p : List ℕ) (es : List EntryData) (m : ℕ) → AtPaths profile begun o p es → IsLineCount begun o m → IsPath begun → (n : ℕ) × HasBefore profile p begun n × (m ≡ told n)
+  pub before_nul : (begun : List ℕ) (o : Option Present) (p : List ℕ) (es : List EntryData) (m : ℕ) → AtPaths profile begun o p es → IsLineCount begun o m → IsPath begun → (n : ℕ) × HasBefore profile p begun n × (m ≡ saturated n)
   before_nul begun None p es m h c g = (0, start_before begun p es h g, c)
   before_nul begun (Some x) p es m h c g =
       elim (same_or_other x.path.items begun) [

@@ -5,7 +5,7 @@ use Rattle.std.specs.Prelude.{MatchOption}
 use Rattle.std.proofs.lemmas.Bool.{MatchBool-at_true, MatchBool-at_false}
 use Rattle.cg_text.specs.ListFacts.{push_one}
 use Rattle.cg_text.specs.Texts.{Lacks, Viable, Next}
-use Rattle.cg_text.specs.Token.{told}
+use Rattle.cg_text.specs.Token.{saturated}
 use Rattle.cg_value.specs.Entry.{EntryData, IsPath, IsPathByte, ReadsAt}
 use Rattle.cg_value.specs.Files.{KindFile}
 use Rattle.cg_value.specs.Lines.{unlines}
@@ -138,7 +138,7 @@ module _ (profile : Profile) where
 
   -- The rest of the line and its newline, which are the bytes.
   pub line_at_once : (begun : List ℕ) (x x' : Present) (p : List ℕ) (es : List EntryData) (line bs : List ℕ) → bs ≡ line ++ 10 ∷ [] → x.in_line ≡ true →
-      At profile begun (Some x) p es → Lacks 10 line → x'.path.items ≡ x.path.items → x'.lines ≡ told (x.lines + 1) → x'.in_line ≡ false →
+      At profile begun (Some x) p es → Lacks 10 line → x'.path.items ≡ x.path.items → x'.lines ≡ saturated (x.lines + 1) → x'.in_line ≡ false →
       ((k : ReadForm) (t : List ℕ) → Reads x.reader k t → Reads x'.reader k (t ++ (line ++ 10 ∷ []))) → At profile begun (Some x') (p ++ bs) es
   line_at_once begun x x' p es line bs f t h n e c i r =
       let l = line_state begun x p es t h in

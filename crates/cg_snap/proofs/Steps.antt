@@ -6,7 +6,7 @@ use Rattle.std.proofs.lemmas.Bool.{cases_eq}
 use Rattle.cg_text.specs.ListFacts.{push_one}
 use Rattle.cg_text.specs.Texts.{Lacks, Viable}
 use Rattle.cg_text.specs.TextsLaws.{lacks_both}
-use Rattle.cg_text.specs.Token.{told}
+use Rattle.cg_text.specs.Token.{saturated}
 use Rattle.cg_value.specs.Entry.{EntryData, IsEntry, IsPath, IsPathByte, ReadsAt}
 use Rattle.cg_value.specs.Files.{KindFile, ReadLines}
 use Rattle.cg_value.specs.FirstLineLaws.{first_value}
@@ -231,7 +231,7 @@ run_can_end kind ls line (b ∷ q) w n a g v =
     lacks_left c [] ys p = tt
     lacks_left c (x ∷ xs) ys p = (p.0, lacks_left c xs ys p.1)
 
-told_more : (n : ℕ) → told (n + 1) ≡ told (told n + 1)
+told_more : (n : ℕ) → saturated (n + 1) ≡ saturated (saturated n + 1)
 told_more n = omega arith
 
 -- A line of a new file goes on.
@@ -309,7 +309,7 @@ module _ (profile : Profile) where
 
   -- The rest of the line and its newline at once.
   pub line_whole : (begun : List ℕ) (x x' : Present) (p : List ℕ) (es : List EntryData) (bs : List ℕ)
-      (h : AtLine profile begun x p es) → Lacks 10 bs → x'.path.items ≡ x.path.items → x'.lines ≡ told (x.lines + 1) →
+      (h : AtLine profile begun x p es) → Lacks 10 bs → x'.path.items ≡ x.path.items → x'.lines ≡ saturated (x.lines + 1) →
       Reads x'.reader h.kind ((unlines h.lines ++ h.line) ++ (bs ++ 10 ∷ [])) → AtPath profile begun x' (p ++ (bs ++ 10 ∷ [])) es
   line_whole begun x x' p es bs h n e c r = record {
     given = h.given;
@@ -324,7 +324,7 @@ module _ (profile : Profile) where
     plain = all_push (Lacks 10) h.lines (h.line ++ bs) h.plain (lacks_both 10 h.line bs h.plain_line n);
     reads = rw (unlines-push, append_assoc h.line bs (10 ∷ []), ← append_assoc (unlines h.lines) h.line (bs ++ 10 ∷ [])) r;
     begun_path = rw h.nothing_begun tt;
-    count = c ∙ ap (λ n. told (n + 1)) h.count ∙ sym (told_more (length h.lines)) ∙ sym (ap told (length_push h.lines (h.line ++ bs)));
+    count = c ∙ ap (λ n. saturated (n + 1)) h.count ∙ sym (told_more (length h.lines)) ∙ sym (ap saturated (length_push h.lines (h.line ++ bs)));
   }
 
   -- ---- The NUL of a path

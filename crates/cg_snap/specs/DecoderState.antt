@@ -3,7 +3,7 @@ use Rattle.std.specs.Prelude.{◌≡◌, ◌≢◌, ℕ, List, [], ◌∷◌, �
 use Rattle.std.specs.Bool.{MatchBool}
 use Rattle.std.specs.List.{AllByRecursion}
 use Rattle.cg_text.specs.Texts.{Lacks, Viable}
-use Rattle.cg_text.specs.Token.{told}
+use Rattle.cg_text.specs.Token.{saturated}
 use Rattle.cg_value.specs.Entry.{EntryData, IsPath, ReadsAt}
 use Rattle.cg_value.specs.Files.{KindFile}
 use Rattle.cg_value.specs.Lines.{unlines}
@@ -60,7 +60,7 @@ pub record AtPath (profile : Profile) (begun : List ℕ) (x : Present) (p : List
   pub plain : AllByRecursion (Lacks 10) lines
   pub reads : Reads x.reader kind (unlines lines)
   pub begun_path : ArePathBytes begun
-  pub count : x.lines ≡ told (length lines)
+  pub count : x.lines ≡ saturated (length lines)
 
 -- After the entries that were given came whole records of the present one, also none, and then its path, a NUL, and the
 -- front of a line.
@@ -79,7 +79,7 @@ pub record AtLine (profile : Profile) (begun : List ℕ) (x : Present) (p : List
   pub reads : Reads x.reader kind (unlines lines ++ line)
   pub goes : CanEndLine kind lines line
   pub nothing_begun : begun ≡ []
-  pub count : x.lines ≡ told (length lines)
+  pub count : x.lines ≡ saturated (length lines)
 
 -- The bytes p came, and the entries es were given.
 abbrev pub At : Profile → List ℕ → Option Present → List ℕ → List EntryData → Type 0

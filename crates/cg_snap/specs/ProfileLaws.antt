@@ -318,6 +318,7 @@ renamed name row o p e (inr (inr d)) = inr (inr (plain_name (behind (codes "huge
     no_size (Some rest) k =
         let sized : codes "hugetlb.*" ++ rest ≡ row = ap (λ (o : Option (List ℕ)). unwrap_or o []) k in
         let firsts : 104 ≡ 109 = ap first_byte (sized ∙ d.0) in absurd (omega (arith, firsts))
+
     plain_name : (front : Option (List ℕ)) → sized_name name front ≡ Some row → name ≡ row
     plain_name None k = cc
     plain_name (Some text) k = absurd (no_size (behind_size text) k)

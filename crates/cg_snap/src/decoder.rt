@@ -2,7 +2,7 @@
 ghost use Rattle.std.specs.Prelude.{◌≡◌, ◌↔◌, ◌≤◌, ℕ, List, [], length, Some, None, Err};
 ghost use Rattle.cg_text.specs.Bytes.{HasByte};
 ghost use Rattle.cg_text.specs.Texts.{Next};
-ghost use Rattle.cg_text.specs.Token.{told};
+ghost use Rattle.cg_text.specs.Token.{saturated};
 ghost use Rattle.cg_value.specs.Entry.{EntryData, ItemData};
 ghost use Rattle.cg_value.specs.declared.profile.Profile.{Profile};
 ghost use Rattle.cg_snap.specs.Begun.{IsBegun};
@@ -126,7 +126,7 @@ impl Decoder<SnapshotRecords> {
 
     /// The sum of the lengths of its vectors, or `u64::MAX` where that is more. It takes no memory.
     pub fn held(&self) -> u64
-        ensures exact { result ≡ told (held_by self.now) }
+        ensures exact { result ≡ saturated (held_by self.now) }
         ensures held { (p : List ℕ) (es : List EntryData) → Stands self.now p es →
             IsHeldFor (profile_of self.now) p es (held_by self.now) }
     {
@@ -194,7 +194,7 @@ impl Decoder<PlanRecords> {
     /// The sum of the lengths of its vectors, or `u64::MAX` where that is more: never more than the record that is
     /// begun. It takes no memory.
     pub fn held(&self) -> u64
-        ensures exact { result ≡ told (plan_held_by self.now) }
+        ensures exact { result ≡ saturated (plan_held_by self.now) }
         ensures held { (p : List ℕ) (items : List ItemData) → StandsForPlan self.now p items → (begun : List ℕ) ×
             IsBegun p begun × (plan_held_by self.now ≤ length begun) }
     {

@@ -1,6 +1,6 @@
 //! The decoder of a snapshot that leaves out what is at fault, and goes on.
 ghost use Rattle.std.specs.Prelude.{◌≡◌, ℕ, List, [], Some, None, Err, length};
-ghost use Rattle.cg_text.specs.Token.{told};
+ghost use Rattle.cg_text.specs.Token.{saturated};
 ghost use Rattle.cg_snap.specs.GoingOn.{stream_limits};
 ghost use Rattle.cg_snap.specs.GoingOnDecoder.{GoingFinishIs, IsHeldOn, StandsOn, going_form_of, going_held_by, going_limits_of, going_stop_of};
 ghost use Rattle.cg_snap.specs.GoingOnState.{HasFound, form_of};
@@ -35,7 +35,7 @@ impl Decoder<GoingOnRecords> {
 
     /// The sum of the lengths of its vectors, or `u64::MAX` where that is more. It takes no memory.
     pub fn held(&self) -> u64
-        ensures exact { result ≡ told (going_held_by self.now) }
+        ensures exact { result ≡ saturated (going_held_by self.now) }
         ensures held { (p : List ℕ) (found : List Found) → StandsOn self.now p found →
             IsHeldOn (going_form_of self.now).0 (going_form_of self.now).1 p (going_held_by self.now) }
     {

@@ -1,6 +1,6 @@
 //! The records of a snapshot.
 ghost use Rattle.std.specs.Prelude.{◌≡◌, ℕ, List, []};
-ghost use Rattle.cg_text.specs.Token.{told};
+ghost use Rattle.cg_text.specs.Token.{saturated};
 ghost use Rattle.cg_value.specs.Entry.{EntryData};
 ghost use Rattle.cg_value.specs.declared.profile.Profile.{Profile};
 ghost use Rattle.cg_snap.specs.Closed.{IsHeldFor};
@@ -57,7 +57,7 @@ impl SnapshotRecords {
 
     /// The sum of the lengths of its vectors, or `u64::MAX` where that is more.
     pub(crate) fn held(&self) -> u64
-        ensures exact { result ≡ told (held_by_records self.now) }
+        ensures exact { result ≡ saturated (held_by_records self.now) }
         ensures held { (profile : Profile) (p : List ℕ) (es : List EntryData) →
             HasTakenRecords self.now profile p es → IsHeldFor profile p es (held_by_records self.now) }
     {

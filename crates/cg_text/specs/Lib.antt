@@ -31,8 +31,8 @@ pub mod ListState
 pub mod ListTextLaws
 pub mod LooseLaws
 pub mod LooseState
-pub mod Mark
-pub mod MarkLaws
+pub mod Hash
+pub mod HashLaws
 pub mod NewlineLaws
 pub mod NumberRest
 pub mod NumberRestLaws

@@ -3,20 +3,20 @@ ghost use Rattle.std.specs.Prelude.{◌≡◌, IsTrue, ◌↔◌, ◌≤◌, IfO
 ghost use Rattle.cg_text.specs.Word.{IsWord, IsWordByte, AreWordBytes};
 ghost use Rattle.cg_text.specs.Key.{IsKeyMade};
 ghost use Rattle.cg_text.specs.KeyState.{stored, IsStored};
-ghost use Rattle.cg_text.specs.Mark.{mark_of};
+ghost use Rattle.cg_text.specs.Hash.{hash_of};
 
-use crate::mark::{mark_after, mark_of};
+use crate::hash::{hash_after, hash_of};
 use crate::memory::OutOfMemory;
 use std::alloc::Global;
 use std::marker::Model;
 use thiserror::Error;
 
-/// Where the bytes of a key lie, and their mark.
+/// Where the bytes of a key lie, and their hash.
 #[derive(Drop, Debug)]
 enum Store {
     /// In the key itself, so many of these.
-    Short { len: u8, mark: u32, bytes: [u8; 24] },
-    Long { mark: u32, bytes: Vec<u8> },
+    Short { len: u8, hash: u32, bytes: [u8; 24] },
+    Long { hash: u32, bytes: Vec<u8> },
 }
 
 /// How many bytes a key has at most that take no memory of their own.
@@ -58,21 +58,21 @@ pub(crate) fn is_word_byte(byte: u8) -> bool
     33 <= byte && byte <= 126 && byte != b'='
 }
 
-/// How many bytes in front are those of words, and their mark.
+/// How many bytes in front are those of words, and their hash.
 #[inline(always)]
 pub(crate) fn word_front(bytes: &[u8]) -> (usize, u32)
     ensures within { result.0 ≤ length bytes.now }
     ensures words { AreWordBytes (take result.0 bytes.now) }
-    ensures mark { result.1 ≡ mark_of (take result.0 bytes.now) }
+    ensures hash { result.1 ≡ hash_of (take result.0 bytes.now) }
 {
-    let mut mark = 0;
+    let mut hash = 0;
     for (i, byte) in bytes.iter().enumerate() {
         if !is_word_byte(*byte) {
-            return (i, mark);
+            return (i, hash);
         }
-        mark = mark_after(mark, *byte);
+        hash = hash_after(hash, *byte);
     }
-    (bytes.len(), mark)
+    (bytes.len(), hash)
 }
 
 /// Whether the bytes are a word.
@@ -106,21 +106,21 @@ fn short_bytes(bytes: &[u8], len: usize) -> [u8; SHORT]
     short
 }
 
-/// The first `len` of the bytes with their mark, in a vector only where they are too many for the key itself.
+/// The first `len` of the bytes with their hash, in a vector only where they are too many for the key itself.
 #[inline(always)]
-fn stored(alloc: Global, bytes: &[u8], len: usize, mark: u32) -> Result<Store, OutOfMemory>
+fn stored(alloc: Global, bytes: &[u8], len: usize, hash: u32) -> Result<Store, OutOfMemory>
     requires within { len ≤ length bytes.now }
-    requires mark { mark ≡ mark_of (take len bytes.now) }
+    requires hash { hash ≡ hash_of (take len bytes.now) }
     ensures { IfOk result (λ store. (stored store ≡ take len bytes.now) × IsStored store) }
 {
     if len > SHORT {
         return Ok(Store::Long {
-            mark,
+            hash,
             bytes: Vec::from_slice(alloc, &bytes[..len])?,
         });
     }
     Ok(Store::Short {
-        mark,
+        hash,
         len: len as u8,
         bytes: short_bytes(bytes, len),
     })
@@ -134,7 +134,7 @@ impl Key {
         if !is_word(bytes) {
             return Err(KeyFault::BadKey);
         }
-        match stored(alloc, bytes, bytes.len(), mark_of(bytes)) {
+        match stored(alloc, bytes, bytes.len(), hash_of(bytes)) {
             Ok(store) => Ok(Key { store }),
             Err(_) => Err(KeyFault::OutOfMemory),
         }
@@ -147,27 +147,27 @@ impl Key {
     {
         Key {
             store: Store::Long {
-                mark: mark_of(bytes.as_slice()),
+                hash: hash_of(bytes.as_slice()),
                 bytes,
             },
         }
     }
 
-    /// The key of the first `len` of the bytes, which are a word and have this mark.
+    /// The key of the first `len` of the bytes, which are a word and have this hash.
     #[inline(always)]
     pub(crate) fn of_word(
         alloc: Global,
         bytes: &[u8],
         len: usize,
-        mark: u32,
+        hash: u32,
     ) -> Result<Key, OutOfMemory>
         requires within { len ≤ length bytes.now }
         requires word { IsWord (take len bytes.now) }
-        requires mark { mark ≡ mark_of (take len bytes.now) }
+        requires hash { hash ≡ hash_of (take len bytes.now) }
         ensures { IfOk result (λ key. key ≡ take len bytes.now) }
     {
         Ok(Key {
-            store: stored(alloc, bytes, len, mark)?,
+            store: stored(alloc, bytes, len, hash)?,
         })
     }
 
@@ -182,13 +182,13 @@ impl Key {
         }
     }
 
-    /// The mark of its bytes, which it carries.
-    pub fn mark(&self) -> u32
-        ensures { result ≡ mark_of self.now }
+    /// The hash of its bytes, which it carries.
+    pub fn hash(&self) -> u32
+        ensures { result ≡ hash_of self.now }
     {
         match &self.store {
-            Store::Short { mark, .. } => *mark,
-            Store::Long { mark, .. } => *mark,
+            Store::Short { hash, .. } => *hash,
+            Store::Long { hash, .. } => *hash,
         }
     }
 }

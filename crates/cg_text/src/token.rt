@@ -1,7 +1,7 @@
 //! What every token keeps.
 ghost use Rattle.std.specs.Prelude.{◌≡◌, ℕ, ◌+◌, ◌≤◌, ◌↔◌, Bool, List, [], IsTrue, IsFalse, IfSome, OnErr, length, take};
 ghost use Rattle.cg_text.specs.Scan.{FollowsRun};
-ghost use Rattle.cg_text.specs.Token.{Follows, Begins, NoneBegins, Ends, Same, Completes, HasOneValue, HoldsBytes, IfTaken, IfRefused, IsFront, UnlessTaken, told};
+ghost use Rattle.cg_text.specs.Token.{Follows, Begins, NoneBegins, Ends, Same, Completes, HasOneValue, HoldsBytes, IfTaken, IfRefused, IsFront, UnlessTaken, saturated};
 
 use crate::memory::OutOfMemory;
 
@@ -88,7 +88,7 @@ pub trait Token: Drop + Sized {
     /// The sum of the lengths of its vectors. The bytes of a short key, which lie in the key itself, count as a
     /// vector's do.
     fn held(&self) -> u64
-        ensures { result ≡ told (size self.now) };
+        ensures { result ≡ saturated (size self.now) };
 
     /// The value of what was taken.
     fn take(self) -> Self::Out
@@ -98,5 +98,5 @@ pub trait Token: Drop + Sized {
 
     /// The sum of the lengths of the vectors in a value.
     fn held_in(value: &Self::Out) -> u64
-        ensures { result ≡ told (value_size value.now) };
+        ensures { result ≡ saturated (value_size value.now) };
 }

@@ -103,11 +103,11 @@ impl Token for WordText {
         {
             return None;
         }
-        let (count, mark) = word_front(bytes);
+        let (count, hash) = word_front(bytes);
         if count == 0 {
             return None;
         }
-        match Key::of_word(self.alloc, bytes, count, mark) {
+        match Key::of_word(self.alloc, bytes, count, hash) {
             Ok(key) => Some((key, count)),
             Err(_) => None,
         }

@@ -1,6 +1,6 @@
 //! The pairs of flat keyed files.
 ghost use Rattle.std.specs.Prelude.{◌≡◌, ◌≤◌, ◌++◌, ◌∷◌, [], IsTrue, IfOk, IfErr, OnOk, OnErr, length, map, is_some, is_err};
-ghost use Rattle.cg_text.specs.Token.{told};
+ghost use Rattle.cg_text.specs.Token.{saturated};
 ghost use Rattle.cg_index.specs.Cells.{item_of};
 ghost use Rattle.cg_value.specs.Flat.{number_of, place_of, HasDistinctKeys, flat_size, IsWithinDigits, IsHandedBack, is_repeated};
 
@@ -104,7 +104,7 @@ impl FlatBuilder {
         }
     }
 
-    /// Looks for the pair that has the key, by the marks of the keys or by their tree: it compares at most one key, and
+    /// Looks for the pair that has the key, by the hashes of the keys or by their tree: it compares at most one key, and
     /// never more than the number of pairs has binary digits.
     pub fn find(&self, key: &[u8]) -> Found
         ensures place { result.place ≡ place_of key.now self.now.pairs }
@@ -132,7 +132,7 @@ impl FlatBuilder {
 
     /// The length of its vector with each key's length, or `u64::MAX` where it is more.
     pub fn held(&self) -> u64
-        ensures { result ≡ told (flat_size self.now.pairs) }
+        ensures { result ≡ saturated (flat_size self.now.pairs) }
     {
         let mut held = self.built.places() as u64;
         for pair in self.built.cells() {
@@ -192,7 +192,7 @@ impl Flat {
         self.built.push(key, number)
     }
 
-    /// Looks for the pair that has the key, by the marks of the keys or by their tree: it compares at most one key, and
+    /// Looks for the pair that has the key, by the hashes of the keys or by their tree: it compares at most one key, and
     /// never more than the number of pairs has binary digits.
     pub fn find(&self, key: &[u8]) -> Found
         ensures place { result.place ≡ place_of key.now self.now }
@@ -222,7 +222,7 @@ impl Flat {
     /// The length of its vector with each key's length, or `u64::MAX` where it is more: at most the sum of each key's
     /// length plus 2. The bytes of a short key, which lie in the key itself, are counted as those of a long one are.
     pub fn held(&self) -> u64
-        ensures exact { result ≡ told (flat_size self.now) }
+        ensures exact { result ≡ saturated (flat_size self.now) }
         ensures most { result ≤ flat_size self.now }
     {
         self.built.held()

@@ -1,7 +1,7 @@
 use Rattle.std.proofs.Common.{◌≡◌, ◌+◌, ◌∙◌, ap, arith}
 use Rattle.cg_index.specs.Cells.{item_of}
 use Rattle.cg_join.specs.Pairs.{pair_size}
-use Rattle.cg_join.specs.RepeatLaws.{told_item, told_sum}
+use Rattle.cg_join.specs.RepeatLaws.{saturated_item, saturated_sum}
 use Rattle.cg_text.specs.contracts.word.WordTextToken.TheImpl as word_text
 use Rattle.cg_join.proofs.pairing.held_in_pairs.Goals as goal
 
@@ -16,7 +16,7 @@ loop-cell-preserved g c =
     let key : k c.key.result.now ≡ k (w x) = ap k (c.key.ensures ∙ ap (λ h. h x) g.met.F.Pairing.keyed) in
     let value : d c.value.result.now ≡ d (v x) = ap d c.value.ensures in
     let sum : f x ≡ k c.key.result.now + d c.value.result.now = omega (arith, key, value) in
-    let one = told_sum (k c.key.result.now) (d c.value.result.now) (f x) c.held_in-word.result c.held_in.result c.saturating_add-size.result
+    let one = saturated_sum (k c.key.result.now) (d c.value.result.now) (f x) c.held_in-word.result c.held_in.result c.saturating_add-size.result
     c.held_in-word.ensures c.held_in.ensures c.saturating_add-size.ensures sum in
-    told_item f item_of c.args.cells.now c.loop-cell.cell-index c.cell-item.result c.args.places c.loop-cell.total c.saturating_add-size.result c.saturating_add-total.result
+    saturated_item f item_of c.args.cells.now c.loop-cell.cell-index c.cell-item.result c.args.places c.loop-cell.total c.saturating_add-size.result c.saturating_add-total.result
     c.loop-cell-test.true c.cell-item.is c.loop-cell.invariant one c.saturating_add-total.ensures

@@ -14,11 +14,11 @@ returns-in-Met-clause-within g c =
 pub returns-in-Met-clause-only : goal.returns-in-Met-clause-only
 returns-in-Met-clause-only g c = rw (← c.self.view_is) (λ j h e.
     let trie = rw (c.in-None.is) at c.self.invariant.found in
-    let ends = rw (c.as_slice-in-None.ensures.value, c.mark_of.ensures, c.in-Met.is) at c.walk.ensures in
+    let ends = rw (c.as_slice-in-None.ensures.value, c.hash_of.ensures, c.in-Met.is) at c.walk.ensures in
     ap Some (met_only c.args.key.now c.in-Met.place j trie ends h e))
 
 pub returns-in-Open-clause-only : goal.returns-in-Open-clause-only
 returns-in-Open-clause-only g c = rw (← c.self.view_is) (λ j h e.
     let trie = rw (c.in-None.is) at c.self.invariant.found in
-    let ends = rw (c.as_slice-in-None.ensures.value, c.mark_of.ensures, c.in-Open.is) at c.walk.ensures in
+    let ends = rw (c.as_slice-in-None.ensures.value, c.hash_of.ensures, c.in-Open.is) at c.walk.ensures in
     absurd (opening_new c.args.key.now trie ends j h e))

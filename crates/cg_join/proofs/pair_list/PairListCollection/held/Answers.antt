@@ -1,11 +1,11 @@
 use Rattle.std.proofs.Common.{map}
 use Rattle.cg_index.specs.Cells.{item_of}
 use Rattle.cg_join.specs.Pairs.{pair_size}
-use Rattle.cg_join.specs.RepeatLaws.{told_size}
+use Rattle.cg_join.specs.RepeatLaws.{saturated_size}
 use Rattle.cg_text.specs.contracts.word.WordTextToken.TheImpl as word_text
 use Rattle.cg_join.proofs.pair_list.PairListCollection.held.Goals as goal
 
 pub returns : goal.returns
 returns g c =
     let f = pair_size g.F.MakePair.key_of g.F.MakePair.value_of word_text.ghosts.value_size g.V.Token.value_size in
-    told_size f (map item_of c.cells.result.now) c.args.self.now.pairs.items c.places.result c.held_in_made.result c.cells.ensures.items c.places.ensures c.held_in_made.ensures
+    saturated_size f (map item_of c.cells.result.now) c.args.self.now.pairs.items c.places.result c.held_in_made.result c.cells.ensures.items c.places.ensures c.held_in_made.ensures
