@@ -1,13 +1,13 @@
--- An entry of the first profile in the second (cgroup-v2.rst, "Memory Interface Files": the lines of memory.numa_stat are a key
--- with pairs of a memory node and a number).
-use Rattle.std.specs.Prelude.{◌≡◌, ℕ, ◌+◌, ◌<◌, ◌≤◌, List, [], ◌∷◌, ◌++◌, length, take, get_or, codes, Result, Ok, Err}
+-- An entry as another profile reads it: raw lines are read there by the kind of their file.
+use Rattle.std.specs.Prelude.{◌≡◌, ◌≢◌, ℕ, ◌+◌, ◌<◌, ◌≤◌, List, [], ◌∷◌, ◌++◌, length, take, get_or, Some, Result, Ok, Err}
 use Rattle.cg_text.specs.Texts.{FirstBad}
-use Rattle.cg_value.specs.Entry.{EntryData}
-use Rattle.cg_value.specs.Files.{File, KindFile, ReadLines}
+use Rattle.cg_value.specs.Entry.{EntryData, ReadsAt}
+use Rattle.cg_value.specs.Files.{KindFile, ReadLines}
 use Rattle.cg_value.specs.Lines.{unlines}
-use Rattle.cg_value.specs.Path.{IsNameOf}
-use Rattle.cg_value.specs.declared.kind.ReadForm.TheVariants.{Nested}
-use Rattle.cg_value.specs.declared.profile.Profile.TheVariants.{Two}
+use Rattle.cg_value.specs.declared.kind.ReadForm.{ReadForm}
+use Rattle.cg_value.specs.declared.kind.ReadForm.TheVariants.{Raw as RawForm}
+use Rattle.cg_value.specs.declared.profile.Profile.{Profile}
+use Rattle.cg_value.specs.declared.profile.Profile.TheVariants.{One, Two, Kernel}
 use Rattle.cg_value.specs.declared.value.Value.{Value}
 use Rattle.cg_value.specs.declared.value.Value.TheVariants.{Raw}
 use Rattle.cg_line.specs.Decode.{IsStarved}
@@ -18,18 +18,26 @@ use Rattle.cg_line.specs.declared.reader.ValueReader.{ValueReader}
 use Rattle.cg_line.specs.declared.upgrading.UpgradeFault.{UpgradeFault}
 use Rattle.cg_line.specs.declared.upgrading.UpgradeFault.TheVariants.{Line, OutOfMemory}
 
--- The entry is memory.numa_stat with these raw lines, as the first profile reads it.
-abbrev pub AreRawNuma : EntryData → List (List ℕ) → Type 0
-AreRawNuma e lines = IsNameOf e.path (codes "memory.numa_stat") × (e.value ≡ Raw lines)
+-- The profile is the other, or comes before it.
+abbrev pub IsBefore : Profile → Profile → Type 0
+IsBefore One to = Unit {0}
+IsBefore Two One = ⊥
+IsBefore Two Two = Unit {0}
+IsBefore Two Kernel = Unit {0}
+IsBefore Kernel One = ⊥
+IsBefore Kernel Two = ⊥
+IsBefore Kernel Kernel = Unit {0}
 
--- The entry in the second profile: there these lines are read as nested; every other entry is itself.
-abbrev pub IsUp : EntryData → EntryData → Type 0
-IsUp e f = ((lines : List (List ℕ)) → IsNameOf e.path (codes "memory.numa_stat") → e.value ≡ Raw lines → (f.path ≡ e.path) × ReadLines Nested f.value lines)
-    × (((lines : List (List ℕ)) → AreRawNuma e lines → ⊥) → f ≡ e)
+-- The entry has these raw lines, and a file of its path is of this kind in the profile, which isn't raw.
+pub record AreToRead (to : Profile) (e : EntryData) (kind : ReadForm) (lines : List (List ℕ)) : Type 0 where
+  pub reads : ReadsAt to e.path (Some kind)
+  pub typed : kind ≢ RawForm
+  pub raw : e.value ≡ Raw lines
 
--- The files of memory.numa_stat in the second profile.
-abbrev pub NumaFile : List ℕ → Type 0
-NumaFile = File Two (codes "memory.numa_stat")
+-- The entry in the profile: there these lines are read by the kind; every other entry is itself.
+pub record IsUp (to : Profile) (e f : EntryData) : Type 0 where
+  pub read : (kind : ReadForm) (lines : List (List ℕ)) → AreToRead to e kind lines → (f.path ≡ e.path) × ReadLines kind f.value lines
+  pub same : ((kind : ReadForm) (lines : List (List ℕ)) → AreToRead to e kind lines → ⊥) → f ≡ e
 
 -- Of these lines, each with its newline, the first byte after which no text of the set goes on stands at this place in this
 -- line. The place of a newline is its line's length.
@@ -38,19 +46,20 @@ pub record IsBadIn (L : List ℕ → Type 0) (lines : List (List ℕ)) (line at 
   pub in_line : at ≤ length (get_or lines line [])
   pub bad : FirstBad L (unlines lines) (length (unlines (take line lines)) + at)
 
--- The entry is none of the second profile: of its raw lines this is the first bad byte.
-pub record IsLineFault (e : EntryData) (line at : ℕ) : Type 0 where
+-- The entry is none of the profile: of its raw lines this is the first bad byte.
+pub record IsLineFault (to : Profile) (e : EntryData) (line at : ℕ) : Type 0 where
+  pub kind : ReadForm
   pub lines : List (List ℕ)
-  pub raw : AreRawNuma e lines
-  pub bad : IsBadIn NumaFile lines line at
-  pub no_up : (f : EntryData) → IsUp e f → ⊥
+  pub read : AreToRead to e kind lines
+  pub bad : IsBadIn (KindFile kind) lines line at
+  pub no_up : (f : EntryData) → IsUp to e f → ⊥
 
--- The entry in the second profile; or the first bad byte of its raw lines; or memory was refused, where the entry has raw lines
--- to be read at a byte with which some file goes on.
-abbrev pub IsUpgraded : EntryData → Result EntryData UpgradeFault → Type 0
-IsUpgraded e (Ok f) = IsUp e f
-IsUpgraded e (Err (Line line at)) = IsLineFault e line at
-IsUpgraded e (Err OutOfMemory) = (lines : List (List ℕ)) → AreRawNuma e lines → IsStarved NumaFile (unlines lines)
+-- The entry in the profile, which is the only one; or the first bad byte of its raw lines; or memory was refused, where the entry
+-- has raw lines to be read at a byte with which some file goes on.
+abbrev pub IsUpgraded : Profile → EntryData → Result EntryData UpgradeFault → Type 0
+IsUpgraded to e (Ok f) = IsUp to e f × ((g : EntryData) → IsUp to e g → g ≡ f)
+IsUpgraded to e (Err (Line line at)) = IsLineFault to e line at
+IsUpgraded to e (Err OutOfMemory) = (kind : ReadForm) (lines : List (List ℕ)) → AreToRead to e kind lines → IsStarved (KindFile kind) (unlines lines)
 
 -- ---- The raw lines read
 
@@ -61,21 +70,21 @@ fault_in push.OutOfMemory line at = OutOfMemory
 
 -- After these bytes the line of this number was taken with its newline; or the first bad byte of them is told; or memory was
 -- refused before it.
-abbrev pub IsLineTaken : ValueReader → List ℕ → ℕ → List ℕ → Result (Unit {0}) UpgradeFault → Type 0
-IsLineTaken r before number line (Ok u) = Reads r Nested (before ++ (line ++ 10 ∷ []))
-IsLineTaken r before number line (Err (Line n at)) = (n ≡ number) × (at ≤ length line) × FirstBad (KindFile Nested) (before ++ (line ++ 10 ∷ [])) (length before + at)
-IsLineTaken r before number line (Err OutOfMemory) = IsStarved (KindFile Nested) (before ++ (line ++ 10 ∷ []))
+abbrev pub IsLineTaken : ReadForm → ValueReader → List ℕ → ℕ → List ℕ → Result (Unit {0}) UpgradeFault → Type 0
+IsLineTaken kind r before number line (Ok u) = Reads r kind (before ++ (line ++ 10 ∷ []))
+IsLineTaken kind r before number line (Err (Line n at)) = (n ≡ number) × (at ≤ length line) × FirstBad (KindFile kind) (before ++ (line ++ 10 ∷ [])) (length before + at)
+IsLineTaken kind r before number line (Err OutOfMemory) = IsStarved (KindFile kind) (before ++ (line ++ 10 ∷ []))
 
 -- Why not all lines were taken.
-abbrev pub IsLinesFault : List (List ℕ) → UpgradeFault → Type 0
-IsLinesFault lines (Line line at) = IsBadIn (KindFile Nested) lines line at
-IsLinesFault lines OutOfMemory = IsStarved (KindFile Nested) (unlines lines)
+abbrev pub IsLinesFault : ReadForm → List (List ℕ) → UpgradeFault → Type 0
+IsLinesFault kind lines (Line line at) = IsBadIn (KindFile kind) lines line at
+IsLinesFault kind lines OutOfMemory = IsStarved (KindFile kind) (unlines lines)
 
-abbrev pub AreLinesTaken : ValueReader → List (List ℕ) → Result (Unit {0}) UpgradeFault → Type 0
-AreLinesTaken r lines (Ok u) = Reads r Nested (unlines lines)
-AreLinesTaken r lines (Err fault) = IsLinesFault lines fault
+abbrev pub AreLinesTaken : ReadForm → ValueReader → List (List ℕ) → Result (Unit {0}) UpgradeFault → Type 0
+AreLinesTaken kind r lines (Ok u) = Reads r kind (unlines lines)
+AreLinesTaken kind r lines (Err fault) = IsLinesFault kind lines fault
 
 -- The value that they spell, or why they spell none.
-abbrev pub AreLinesRead : List (List ℕ) → Result Value UpgradeFault → Type 0
-AreLinesRead lines (Ok v) = ReadLines Nested v lines
-AreLinesRead lines (Err fault) = IsLinesFault lines fault
+abbrev pub AreLinesRead : ReadForm → List (List ℕ) → Result Value UpgradeFault → Type 0
+AreLinesRead kind lines (Ok v) = ReadLines kind v lines
+AreLinesRead kind lines (Err fault) = IsLinesFault kind lines fault

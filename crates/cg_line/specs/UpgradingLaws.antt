@@ -1,33 +1,30 @@
--- What holds of raw lines that are read as nested.
-use Rattle.std.proofs.Common.{◌≡◌, ◌≢◌, ℕ, ◌+◌, ◌<◌, ◌≤◌, ◌↔◌, List, [], ◌∷◌, ◌++◌, Some, None, Err, codes, inl, inr, length, take, drop, get_or, zero, suc, refl, sym, ◌∙◌, ap, subst, append_assoc, arith, length-append}
+-- What holds of raw lines that are read by a kind.
+use Rattle.std.proofs.Common.{◌≡◌, ◌≢◌, ℕ, ◌+◌, ◌<◌, ◌≤◌, List, [], ◌∷◌, ◌++◌, Some, None, Ok, Err, inl, inr, length, take, drop, get_or, zero, suc, refl, sym, ◌∙◌, ap, subst, append_assoc, arith, length-append}
 use Rattle.std.proofs.Math.Seq.{drop-cons, take-append_seam, take-append-add}
 use Rattle.std.proofs.lemmas.List.{length-take-le, take-append-drop, take-append-le, take_all, take_more}
 use Rattle.std.specs.List.{AllByRecursion}
 use Rattle.cg_text.specs.Texts.{FirstBad, Lacks, Next, Viable}
 use Rattle.cg_text.specs.TextsLaws.{lacks_inside}
 use Rattle.cg_value.specs.Entry.{EntryData}
-use Rattle.cg_value.specs.EntryLaws.{entry_has_line, entry_path}
+use Rattle.cg_value.specs.EntryLaws.{entry_has_line, entry_path, same_entry}
 use Rattle.cg_value.specs.EntryRefusal.{IsEntryFault}
-use Rattle.cg_value.specs.Files.{KindFile, ReadLines}
+use Rattle.cg_value.specs.Files.{KindFile, KindText, ReadLines}
 use Rattle.cg_value.specs.Lines.{unlines}
-use Rattle.cg_value.specs.Path.{IsNameOf}
 use Rattle.cg_value.specs.Print.{print_lines}
-use Rattle.cg_value.specs.Table.{read_form_of}
 use Rattle.cg_value.specs.WholeLinesLaws.{can_end}
 use Rattle.cg_value.specs.declared.entry.EntryFault.{EntryFault}
 use Rattle.cg_value.specs.declared.kind.ReadForm.{ReadForm}
-use Rattle.cg_value.specs.declared.kind.ReadForm.TheVariants.{Nested}
-use Rattle.cg_value.specs.declared.profile.Profile.TheVariants.{Two}
+use Rattle.cg_value.specs.declared.profile.Profile.{Profile}
 use Rattle.cg_value.specs.declared.value.Value.{Value}
 use Rattle.cg_value.specs.declared.value.Value.TheVariants as value
+use Rattle.cg_file.specs.OneValueLaws.{one_value}
 use Rattle.cg_line.specs.Decode.{IsStarved}
-use Rattle.cg_line.specs.DecodeLaws.{first_bad_as, kind_files, starved_as}
 use Rattle.cg_line.specs.HeldLaws.{lines_last}
-use Rattle.cg_line.specs.MadeLaws.{entry_plain, no_fault, one_name}
+use Rattle.cg_line.specs.MadeLaws.{entry_plain, no_fault, one_form}
 use Rattle.cg_line.specs.Reads.{IsPushed, Reads, reads_viable}
 use Rattle.cg_line.specs.Runs.{RunStops}
 use Rattle.cg_line.specs.SplitLaws.{unlines-append, unlines-push}
-use Rattle.cg_line.specs.Upgrading.{AreRawNuma, IsBadIn, IsLineTaken, IsLinesFault, IsUp, IsUpgraded, NumaFile, fault_in}
+use Rattle.cg_line.specs.Upgrading.{AreToRead, IsBadIn, IsLineTaken, IsLinesFault, IsUp, IsUpgraded, fault_in}
 use Rattle.cg_line.specs.declared.push.PushFault.{PushFault}
 use Rattle.cg_line.specs.declared.push.PushFault.TheVariants as push
 use Rattle.cg_line.specs.declared.reader.ValueReader.{ValueReader}
@@ -99,111 +96,115 @@ module _ (L : List ℕ → Type 0) where
 
 -- ---- A line that a reader takes
 
--- A run that isn't stopped takes the whole line.
-pub line_run : (r : ValueReader) (before line : List ℕ) (used : ℕ) → Lacks 10 line → Reads r Nested (before ++ take used line) → RunStops Nested before line used None → Reads r Nested (before ++ line)
-line_run r before line used plain h (inl stops) = subst (λ l. Reads r Nested (before ++ l)) (take_all used line (omega (arith, stops.0))) h
-line_run r before line used plain h (inr stops) =
-    let whole : line ≡ stops.0 ++ 10 ∷ drop used line = sym (take-append-drop used line) ∙ ap (λ t. t ++ drop used line) stops.1 ∙ append_assoc stops.0 (10 ∷ []) (drop used line) in
-    absurd (lacks_inside 10 stops.0 (drop used line) (subst (Lacks 10) whole plain))
+module _ (kind : ReadForm) where
+  -- A run that isn't stopped takes the whole line.
+  pub line_run : (r : ValueReader) (before line : List ℕ) (used : ℕ) → Lacks 10 line → Reads r kind (before ++ take used line) → RunStops kind before line used None → Reads r kind (before ++ line)
+  line_run r before line used plain h (inl stops) = subst (λ l. Reads r kind (before ++ l)) (take_all used line (omega (arith, stops.0))) h
+  line_run r before line used plain h (inr stops) =
+      let whole : line ≡ stops.0 ++ 10 ∷ drop used line = sym (take-append-drop used line) ∙ ap (λ t. t ++ drop used line) stops.1 ∙ append_assoc stops.0 (10 ∷ []) (drop used line) in
+      absurd (lacks_inside 10 stops.0 (drop used line) (subst (Lacks 10) whole plain))
 
--- Why a run stopped in a line is why the line was not taken.
-pub line_stopped : (r r' : ValueReader) (before line : List ℕ) (number used : ℕ) (fault : PushFault) → Reads r Nested (before ++ take used line) → RunStops Nested before line used (Some fault) →
-    IsLineTaken r' before number line (Err (fault_in fault number used))
-line_stopped r r' before line number used push.Refused h stops = (refl, omega (arith, stops.0), bad_in_line (KindFile Nested) before line used stops.0 (reads_viable r Nested _ h) stops.2)
-line_stopped r r' before line number used push.OutOfMemory h stops = starved_in_line (KindFile Nested) before line used stops.0 stops.2
+  -- Why a run stopped in a line is why the line was not taken.
+  pub line_stopped : (r r' : ValueReader) (before line : List ℕ) (number used : ℕ) (fault : PushFault) → Reads r kind (before ++ take used line) → RunStops kind before line used (Some fault) →
+      IsLineTaken kind r' before number line (Err (fault_in fault number used))
+  line_stopped r r' before line number used push.Refused h stops = (refl, omega (arith, stops.0), bad_in_line (KindFile kind) before line used stops.0 (reads_viable r kind _ h) stops.2)
+  line_stopped r r' before line number used push.OutOfMemory h stops = starved_in_line (KindFile kind) before line used stops.0 stops.2
 
-pub newline_stopped : (r r' : ValueReader) (before line : List ℕ) (number : ℕ) (fault : PushFault) → IsPushed r Nested (before ++ line) 10 (Err fault) → IsLineTaken r' before number line (Err (fault_in fault number (length line)))
-newline_stopped r r' before line number push.Refused h = (refl, omega arith, bad_newline (KindFile Nested) before line (reads_viable r Nested _ h.0) h.1)
-newline_stopped r r' before line number push.OutOfMemory h = starved_newline (KindFile Nested) before line h.1
+  pub newline_stopped : (r r' : ValueReader) (before line : List ℕ) (number : ℕ) (fault : PushFault) → IsPushed r kind (before ++ line) 10 (Err fault) → IsLineTaken kind r' before number line (Err (fault_in fault number (length line)))
+  newline_stopped r r' before line number push.Refused h = (refl, omega arith, bad_newline (KindFile kind) before line (reads_viable r kind _ h.0) h.1)
+  newline_stopped r r' before line number push.OutOfMemory h = starved_newline (KindFile kind) before line h.1
 
-plain_at : (lines : List (List ℕ)) (i : ℕ) → i < length lines → AllByRecursion (Lacks 10) lines → Lacks 10 (get_or lines i [])
-plain_at [] i within plain = absurd (omega (arith, within))
-plain_at (line ∷ lines) zero within plain = plain.0
-plain_at (line ∷ lines) (suc i) within plain = plain_at lines i (omega (arith, within)) plain.1
+  plain_at : (lines : List (List ℕ)) (i : ℕ) → i < length lines → AllByRecursion (Lacks 10) lines → Lacks 10 (get_or lines i [])
+  plain_at [] i within plain = absurd (omega (arith, within))
+  plain_at (line ∷ lines) zero within plain = plain.0
+  plain_at (line ∷ lines) (suc i) within plain = plain_at lines i (omega (arith, within)) plain.1
 
--- The line that comes has no newline, and with it the lines so far are one more.
-module _ (lines : List (List ℕ)) (i : ℕ) (line : List ℕ) (within : i < length lines) (is : line ≡ get_or lines i []) where
-  pub next_plain : AllByRecursion (Lacks 10) lines → Lacks 10 line
-  next_plain plain = rw is (plain_at lines i within plain)
+  -- The line that comes has no newline, and with it the lines so far are one more.
+  module _ (lines : List (List ℕ)) (i : ℕ) (line : List ℕ) (within : i < length lines) (is : line ≡ get_or lines i []) where
+    pub next_plain : AllByRecursion (Lacks 10) lines → Lacks 10 line
+    next_plain plain = rw is (plain_at lines i within plain)
 
-  pub next_taken : (r : ValueReader) → Reads r Nested (unlines (take i lines) ++ (line ++ 10 ∷ [])) → Reads r Nested (unlines (take (i + 1) lines))
-  next_taken r h = rw (lines_to (KindFile Nested) lines i within, ← is) h
+    pub next_taken : (r : ValueReader) → Reads r kind (unlines (take i lines) ++ (line ++ 10 ∷ [])) → Reads r kind (unlines (take (i + 1) lines))
+    next_taken r h = rw (lines_to (KindFile kind) lines i within, ← is) h
 
-  -- Why it was not taken is why not all lines were.
-  pub next_stopped : (r : ValueReader) (fault : UpgradeFault) → IsLineTaken r (unlines (take i lines)) i line (Err fault) → IsLinesFault lines fault
-  next_stopped r fault h = stopped fault (subst (λ l. IsLineTaken r (unlines (take i lines)) i l (Err fault)) is h)
-    where
-      stopped : (fault : UpgradeFault) → IsLineTaken r (unlines (take i lines)) i (get_or lines i []) (Err fault) → IsLinesFault lines fault
-      stopped (Line n at) h = subst (λ k. IsBadIn (KindFile Nested) lines k at) (sym h.0) (bad_in_lines (KindFile Nested) lines i within at h.1 h.2)
-      stopped OutOfMemory h = starved_in_lines (KindFile Nested) lines i within h
+    -- Why it was not taken is why not all lines were.
+    pub next_stopped : (r : ValueReader) (fault : UpgradeFault) → IsLineTaken kind r (unlines (take i lines)) i line (Err fault) → IsLinesFault kind lines fault
+    next_stopped r fault h = stopped fault (subst (λ l. IsLineTaken kind r (unlines (take i lines)) i l (Err fault)) is h)
+      where
+        stopped : (fault : UpgradeFault) → IsLineTaken kind r (unlines (take i lines)) i (get_or lines i []) (Err fault) → IsLinesFault kind lines fault
+        stopped (Line n at) h = subst (λ k. IsBadIn (KindFile kind) lines k at) (sym h.0) (bad_in_lines (KindFile kind) lines i within at h.1 h.2)
+        stopped OutOfMemory h = starved_in_lines (KindFile kind) lines i within h
 
 -- ---- Whole lines
-
--- Nested lines can end after each.
-pub lines_whole : (lines : List (List ℕ)) → Viable (KindFile Nested) (unlines lines) → KindFile Nested (unlines lines)
-lines_whole lines viable = elim (lines_last lines) [
-  | inl none ↦ rw none (value.Nested [], record { lines = []; spelled = record { x = []; value = refl; spelled = record { each = tt; distinct = tt } }; text_is = refl })
-  | inr some ↦ rw some.1 (can_end Nested some.0 (rw some.1 at viable))
-]
 
 lines_some : (lines : List (List ℕ)) → lines ≢ [] → 0 < length (unlines lines)
 lines_some [] some = absurd (some refl)
 lines_some (line ∷ lines) some = omega (arith, length-append line (10 ∷ unlines lines))
 
+-- Lines can end after each.
+pub lines_whole : (kind : ReadForm) (lines : List (List ℕ)) → lines ≢ [] → Viable (KindFile kind) (unlines lines) → KindFile kind (unlines lines)
+lines_whole kind lines some viable = elim (lines_last lines) [
+  | inl none ↦ absurd (omega (arith, lines_some lines some, ap length none))
+  | inr last ↦ rw last.1 (can_end kind last.0 (rw last.1 at viable))
+]
+
 -- What stands at the front of a file begins one.
-front_viable : (lines : List (List ℕ)) (v : Value) → ReadLines Nested v lines → (k : ℕ) → Viable (KindFile Nested) (take k (unlines lines))
-front_viable lines v spelled k = record {
+front_viable : (kind : ReadForm) (lines : List (List ℕ)) (v : Value) → ReadLines kind v lines → (k : ℕ) → Viable (KindFile kind) (take k (unlines lines))
+front_viable kind lines v spelled k = record {
   rest = drop k (unlines lines);
-  whole = subst (KindFile Nested) (sym (take-append-drop k (unlines lines))) (v, record { lines = lines; spelled = spelled; text_is = refl });
+  whole = subst (KindFile kind) (sym (take-append-drop k (unlines lines))) (v, record { lines = lines; spelled = spelled; text_is = refl });
 }
 
 -- ---- Entries
 
-pub numa_nested : read_form_of Two (codes "memory.numa_stat") ≡ Some Nested
-unfolding read_form_of
-numa_nested = refl
-
-pub nested_kind : (kind : ReadForm) → read_form_of Two (codes "memory.numa_stat") ≡ Some kind → kind ≡ Nested
-nested_kind kind e = let nested = numa_nested in cc
-
-pub numa_readable : read_form_of Two (codes "memory.numa_stat") ≡ None → ⊥
-numa_readable e = let nested = numa_nested in cc
-
 pub same_lines : (ls ms : List (List ℕ)) → value.Raw ls ≡ value.Raw ms → ls ≡ ms
 same_lines ls ms e = cc
 
--- The files of memory.numa_stat are nested.
-nested_files : (text : List ℕ) → KindFile Nested text ↔ NumaFile text
-nested_files = kind_files Two (codes "memory.numa_stat") Nested numa_nested
+module _ (to : Profile) (e : EntryData) (kind : ReadForm) (lines : List (List ℕ)) (read : AreToRead to e kind lines) where
+  -- The lines and their kind are one.
+  pub one_kind : (k : ReadForm) (ls : List (List ℕ)) → AreToRead to e k ls → kind ≡ k
+  one_kind k ls other = one_form to e.path kind k read.reads other.reads
 
-module _ (e : EntryData) (lines : List (List ℕ)) (raw : AreRawNuma e lines) where
+  pub one_lines : (k : ReadForm) (ls : List (List ℕ)) → AreToRead to e k ls → lines ≡ ls
+  one_lines k ls other = same_lines lines ls (sym read.raw ∙ other.raw)
+
   -- No raw line has a newline.
   pub raw_plain : AllByRecursion (Lacks 10) lines
-  raw_plain = subst (λ v. AllByRecursion (Lacks 10) (print_lines v)) raw.1 (entry_plain e)
+  raw_plain = subst (λ v. AllByRecursion (Lacks 10) (print_lines v)) read.raw (entry_plain e)
 
-  raw_some : lines ≢ []
-  raw_some none = entry_has_line e (ap print_lines raw.1 ∙ none)
+  pub raw_some : lines ≢ []
+  raw_some none = entry_has_line e (ap print_lines read.raw ∙ none)
 
-  pub never_refused : (path : List ℕ) (v : Value) (why : EntryFault) → path ≡ e.path → ReadLines Nested v lines → IsEntryFault Two path v why → ⊥
-  never_refused path v why same spelled fault =
-      no_fault Two e.path Nested v lines why (entry_path e) (record { name = codes "memory.numa_stat"; name_is = raw.0; form_is = numa_nested }) raw_some spelled (subst (λ p. IsEntryFault Two p v why) same fault)
+  pub never_refused : (path : List ℕ) (v : Value) (why : EntryFault) → path ≡ e.path → ReadLines kind v lines → IsEntryFault to path v why → ⊥
+  never_refused path v why same spelled fault = no_fault to e.path kind v lines why (entry_path e) read.reads raw_some spelled (subst (λ p. IsEntryFault to p v why) same fault)
 
-  none_up : (line at : ℕ) → IsBadIn (KindFile Nested) lines line at → (f : EntryData) → IsUp e f → ⊥
-  none_up line at bad f up = bad.bad.after (front_viable lines f.value (up.0 lines raw.0 raw.1).1 (length (unlines (take line lines)) + at + 1))
+  none_up : (line at : ℕ) → IsBadIn (KindFile kind) lines line at → (f : EntryData) → IsUp to e f → ⊥
+  none_up line at bad f up = bad.bad.after (front_viable kind lines f.value (up.read kind lines read).1 (length (unlines (take line lines)) + at + 1))
 
   -- Why the lines were not read is why there is no such entry, or it wants memory.
-  pub lines_fault : (fault : UpgradeFault) → IsLinesFault lines fault → IsUpgraded e (Err fault)
-  lines_fault (Line line at) bad = record {
-    lines = lines;
-    raw = raw;
-    bad = record { within = bad.within; in_line = bad.in_line; bad = first_bad_as (KindFile Nested) NumaFile nested_files (unlines lines) _ bad.bad };
-    no_up = none_up line at bad;
-  }
-  lines_fault OutOfMemory starved = λ ls other. subst (λ ms. IsStarved NumaFile (unlines ms)) (same_lines lines ls (sym raw.1 ∙ other.1)) (starved_as (KindFile Nested) NumaFile nested_files (unlines lines) starved)
+  pub lines_fault : (fault : UpgradeFault) → IsLinesFault kind lines fault → IsUpgraded to e (Err fault)
+  lines_fault (Line line at) bad = record { kind = kind; lines = lines; read = read; bad = bad; no_up = none_up line at bad }
+  lines_fault OutOfMemory starved = λ k ls other. subst (λ ms. IsStarved (KindFile k) (unlines ms)) (one_lines k ls other) (subst (λ l. IsStarved (KindFile l) (unlines lines)) (one_kind k ls other) starved)
 
   -- Where the lines were read, a file goes on with each of their bytes.
-  pub file_starved : (v : Value) → ReadLines Nested v lines → IsLinesFault lines OutOfMemory
-  file_starved v spelled = record { at = 0; within = lines_some lines raw_some; goes = front_viable lines v spelled 1 }
+  pub file_starved : (v : Value) → ReadLines kind v lines → IsLinesFault kind lines OutOfMemory
+  file_starved v spelled = record { at = 0; within = lines_some lines raw_some; goes = front_viable kind lines v spelled 1 }
 
-pub other_name : (e : EntryData) (name : List ℕ) → IsNameOf e.path name → name ≢ codes "memory.numa_stat" → (lines : List (List ℕ)) → AreRawNuma e lines → ⊥
-other_name e name is other lines raw = other (one_name e.path name (codes "memory.numa_stat") is raw.0)
+  -- The entry with what they spell is this one in the profile.
+  pub read_up : (f : EntryData) → f.path ≡ e.path → ReadLines kind f.value lines → IsUp to e f
+  read_up f same spelled = record {
+    read = λ k ls other. (same, subst (λ ms. ReadLines k f.value ms) (one_lines k ls other) (subst (λ l. ReadLines l f.value lines) (one_kind k ls other) spelled));
+    same = λ none. absurd (none kind lines read);
+  }
+
+  file_of : (v : Value) → ReadLines kind v lines → KindText kind v (unlines lines)
+  file_of v spelled = record { lines = lines; spelled = spelled; text_is = refl }
+
+  pub up_once : (f g : EntryData) → IsUp to e f → IsUp to e g → g ≡ f
+  up_once f g one other =
+      let a = one.read kind lines read in
+      let b = other.read kind lines read in
+      same_entry g f (b.0 ∙ sym a.0) (one_value kind (unlines lines) g.value f.value (file_of g.value b.1) (file_of f.value a.1))
+
+  pub read_upgraded : (f : EntryData) → f.path ≡ e.path → ReadLines kind f.value lines → IsUpgraded to e (Ok f)
+  read_upgraded f same spelled = let up = read_up f same spelled in (up, λ g. up_once f g up)

@@ -1,5 +1,5 @@
-//! Readers of one file and of one write, which take its text a byte at a time; and entries of one profile read in the
-//! other.
+//! Readers of one file and of one write, which take its text a byte at a time; and entries as another profile reads
+//! them.
 #![tactic(auto)]
 
 pub mod decode;
@@ -19,4 +19,4 @@ pub use decode_write::{SettingFault, decode_setting};
 pub use push::PushFault;
 pub use reader::{PushedRun, ReaderCut, ValueReader};
 pub use setting_reader::{SettingCut, SettingReader};
-pub use upgrading::{UpgradeFault, upgrade};
+pub use upgrading::{UpgradeFault, upgrade, upgrade_to};

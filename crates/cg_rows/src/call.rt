@@ -3,7 +3,7 @@ use crate::escape::bytes_of;
 use crate::row::RowFault;
 use crate::token::spelled;
 use cg_join::DeviceText;
-use cg_line::{UpgradeFault, decode_file, upgrade};
+use cg_line::{UpgradeFault, decode_file, upgrade, upgrade_to};
 use cg_print::append_entry;
 use cg_snap::{EncodeFault, Limits, decode_snapshot, encode_snapshot};
 use cg_value::{Entry, Profile};
@@ -36,11 +36,19 @@ fn text_of<F: Display + Drop>(alloc: Global, fault: F) -> Result<Vec<u8>, AllocE
     Ok(format!(in alloc; "{fault}")?.into_bytes())
 }
 
-/// The records of the entries as the second profile reads them, or why one of them has no such form.
-fn upgraded(alloc: Global, entries: &[Entry]) -> Result<Vec<u8>, RowFault> {
+/// The entry as the profile reads it.
+fn upgraded_to(alloc: Global, to: Profile, entry: &Entry) -> Result<Entry, UpgradeFault> {
+    match to {
+        Profile::Two => upgrade(alloc, entry),
+        _ => upgrade_to(alloc, to, entry),
+    }
+}
+
+/// The records of the entries as the profile reads them, or why one of them has no such form.
+fn upgraded(alloc: Global, to: Profile, entries: &[Entry]) -> Result<Vec<u8>, RowFault> {
     let mut records = Vec::new(alloc);
     for entry in entries {
-        match upgrade(alloc, entry) {
+        match upgraded_to(alloc, to, entry) {
             Ok(other) => append_entry(&mut records, &other)?,
             Err(fault) => return Ok(text_of(alloc, fault)?),
         }
@@ -56,13 +64,13 @@ fn encoded(alloc: Global, entries: &[Entry]) -> Result<Vec<u8>, RowFault> {
     }
 }
 
-/// Whether the entries of the snapshots are upgraded as the last field says.
-pub(crate) fn upgrades(alloc: Global, fields: &[&str]) -> Result<bool, RowFault> {
+/// Whether the entries of the snapshots are upgraded to the profile as the last field says.
+pub(crate) fn upgrades(alloc: Global, to: Profile, fields: &[&str]) -> Result<bool, RowFault> {
     let [snapshots @ .., answer] = fields else {
         return Err(RowFault::Fields);
     };
     let entries = entries_of(alloc, snapshots)?;
-    let text = upgraded(alloc, entries.as_slice())?;
+    let text = upgraded(alloc, to, entries.as_slice())?;
     let wanted = bytes_of(alloc, answer)?;
     Ok(text.as_slice() == wanted.as_slice())
 }

@@ -30,7 +30,7 @@
 //!     sweep WORDS | TEXT | MARK ..            what each front of a text leads to (streams, going_on, samples)
 //!     pull WORDS | CALL | ANSWER ..           what calls with pieces are answered, one after another (pulls)
 //!     token NAME | TEXT | VALUE               what a text spells of a single token (tokens)
-//!     upgrade, encode, amount, fault ..       what a call on values is answered (calls)
+//!     upgrade, upgrade_kernel, encode ..      what a call on values is answered (calls)
 //!
 //! A sweep ends the text at each byte; it hands it over in all pairs of pieces, and in pieces of one byte; and behind
 //! each front it tries each of the 256 bytes, which must be taken exactly where it is among those that are told to be

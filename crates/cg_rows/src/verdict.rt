@@ -4,6 +4,7 @@ use crate::script::script_of;
 use crate::sweep::{Counts, sweep};
 use crate::trial::{Way, difference_of};
 use crate::{call, pull, token};
+use cg_value::Profile;
 use std::alloc::Global;
 
 /// The first run of a row's sweeps that differs.
@@ -24,7 +25,8 @@ fn agrees(alloc: Global, form: &str, fields: &[&str]) -> Result<Option<bool>, Ro
     Ok(Some(match form {
         "pull" => pull::agrees(alloc, fields)?,
         "token" => token::agrees(alloc, fields)?,
-        "upgrade" => call::upgrades(alloc, fields)?,
+        "upgrade" => call::upgrades(alloc, Profile::Two, fields)?,
+        "upgrade_kernel" => call::upgrades(alloc, Profile::Kernel, fields)?,
         "encode" => call::encodes(alloc, fields)?,
         "amount" => call::has_amount(alloc, fields)?,
         "fault" => call::is_told(alloc, fields)?,

@@ -13,7 +13,7 @@ use Rattle.cg_snap.specs.Closed.{AreOfPath, Closed, EndsOther}
 use Rattle.cg_snap.specs.Begun.{IsBegun}
 use Rattle.cg_snap.specs.Laws.{AreOneClosing}
 use Rattle.cg_snap.specs.Snap.{SnapText}
-use Rattle.cg_snap.specs.SnapLaws.{NotOf, cut, entry_starts, heads, lines_plain, one_back, record_then, rest_not_of, snap_is_print}
+use Rattle.cg_snap.specs.SnapLaws.{NotOf, cut, entry_starts, heads_lines, lines_plain, one_back, one_list, record_then, rest_not_of}
 
 -- The bytes begin with the path and its NUL.
 abbrev BeginsWith : List ℕ → List ℕ → Type 0
@@ -77,32 +77,38 @@ module _ (profile : Profile) where
       (n.0, (ap (λ (x : List ℕ). x ++ h) s.5.4 ∙ append_assoc (records k.path s.5.0) s.5.1 h) ∙ n.1)
       (sym p.split ∙ (e ∙ (ap (λ (x : List ℕ). x ++ h) s.4 ∙ append_assoc (records f.path s.0) s.1 h)))
 
-  both_lists : (k f : EntryData) (es fs : List EntryData) → k ≡ f → es ≡ fs → k ∷ es ≡ f ∷ fs
-  both_lists k f es fs x y = cc
+some_entry : (k : EntryData) (es : List EntryData) → k ∷ es ≢ []
+some_entry k es z = absurd (cc)
 
-  some_entry : (k : EntryData) (es : List EntryData) → k ∷ es ≢ []
-  some_entry k es z = absurd (cc)
+same_records : (p q : List ℕ) (ls ms : List (List ℕ)) (s t : List ℕ) → p ≡ q → ls ≡ ms → s ≡ t → records p ls ++ s ≡ records q ms ++ t
+same_records p q ls ms s t a b c = cc
 
-  same : (es fs : List EntryData) (q r g h u v : List ℕ) → IsPath q → IsPath r → AreOfPath q u → AreOfPath r v → SnapText profile es g → SnapText profile fs h → EndsOther es q → EndsOther fs r →
-      (es ≢ [] → BeginsWith q u) → (fs ≢ [] → BeginsWith r v) → g ++ u ≡ h ++ v → es ≡ fs
-  same [] [] q r g h u v a b p n s t o m x y e = refl
+module _ (from to : Profile) where
+  same : (es fs : List EntryData) (q r g h u v : List ℕ) → IsPath q → IsPath r → AreOfPath q u → AreOfPath r v → SnapText from es g → SnapText to fs h → EndsOther es q → EndsOther fs r →
+      (es ≢ [] → BeginsWith q u) → (fs ≢ [] → BeginsWith r v) → g ++ u ≡ h ++ v → g ≡ h
+  same [] [] q r g h u v a b p n s t o m x y e = s ∙ sym t
   same [] (f ∷ fs) q r g h u v a b p n s t o m x y e =
-      absurd (many f fs q r h v u a b p t m (y (some_entry f fs)) (ap (λ (w : List ℕ). w ++ u) (sym s) ∙ e))
+      absurd (many to f fs q r h v u a b p t m (y (some_entry f fs)) (ap (λ (w : List ℕ). w ++ u) (sym s) ∙ e))
   same (k ∷ es) [] q r g h u v a b p n s t o m x y e =
-      absurd (many k es r q g u v b a n s o (x (some_entry k es)) (ap (λ (w : List ℕ). w ++ v) (sym t) ∙ sym e))
+      absurd (many from k es r q g u v b a n s o (x (some_entry k es)) (ap (λ (w : List ℕ). w ++ v) (sym t) ∙ sym e))
   same (k ∷ es) (f ∷ fs) q r g h u v a b p n s t o m x y e =
       let i = x (some_entry k es) in
       let j = y (some_entry f fs) in
-      let c = heads profile k f s.0 t.0 (s.1 ++ u) (t.1 ++ v) s.2 t.2
-      (rest_not_of profile k.path es s.1 u (entry_path k) s.3 s.5 (λ z. last_other k q u a i (ends_one k es q z o)))
-      (rest_not_of profile f.path fs t.1 v (entry_path f) t.3 t.5 (λ z. last_other f r v b j (ends_one f fs r z m)))
+      let c = heads_lines k f s.0 t.0 (s.1 ++ u) (t.1 ++ v) (lines_plain from k s.0 s.2) (lines_plain to f t.0 t.2) s.2.some t.2.some
+      (rest_not_of from k.path es s.1 u (entry_path k) s.3 s.5 (λ z. last_other k q u a i (ends_one k es q z o)))
+      (rest_not_of to f.path fs t.1 v (entry_path f) t.3 t.5 (λ z. last_other f r v b j (ends_one f fs r z m)))
       (sym (append_assoc (records k.path s.0) s.1 u) ∙ (ap (λ (w : List ℕ). w ++ u) (sym s.4) ∙ (e ∙ (ap (λ (w : List ℕ). w ++ v) t.4 ∙ append_assoc (records f.path t.0) t.1 v)))) in
-      both_lists k f es fs c.0 (same es fs q r s.1 t.1 u v a b p n s.5 t.5 (ends_rest k es q o) (ends_rest f fs r m) (λ z. i) (λ z. j) c.1)
+      let rest = same es fs q r s.1 t.1 u v a b p n s.5 t.5 (ends_rest k es q o) (ends_rest f fs r m) (λ z. i) (λ z. j) c.2 in
+      s.4 ∙ same_records k.path f.path s.0 t.0 s.1 t.1 c.0 c.1 rest ∙ sym t.4
 
-  -- The bytes close one list of entries.
-  pub closed_once : (bytes : List ℕ) (es fs : List EntryData) → Closed profile bytes es → Closed profile bytes fs → es ≡ fs
-  closed_once bytes es fs c d =
+  -- The bytes of the closed entries are one, whatever the profile.
+  pub given_once : (bytes : List ℕ) (es fs : List EntryData) (c : Closed from bytes es) (d : Closed to bytes fs) → c.given ≡ d.given
+  given_once bytes es fs c d =
       same es fs c.path d.path c.given d.given c.present d.present c.good d.good c.of_path d.of_path c.entries d.entries c.other d.other c.begun d.begun (sym c.split ∙ d.split)
+
+-- The bytes close one list of entries.
+pub closed_once : (profile : Profile) (bytes : List ℕ) (es fs : List EntryData) → Closed profile bytes es → Closed profile bytes fs → es ≡ fs
+closed_once profile bytes es fs c d = one_list profile es fs d.given (subst (SnapText profile es) (given_once profile profile bytes es fs c d) c.entries) d.entries
 
 -- ---- What is begun, and the present entry
 
@@ -137,7 +143,7 @@ lines_once q r (l ∷ ls) (k ∷ ms) t s a b p o n m e =
 -- it has a line.
 pub one_closing : (profile : Profile) (bytes : List ℕ) (es : List EntryData) (c d : Closed profile bytes es) → AreOneClosing c d
 one_closing profile bytes es c d =
-    let given : c.given ≡ d.given = snap_is_print profile es c.given c.entries ∙ sym (snap_is_print profile es d.given d.entries) in
+    let given = given_once profile profile bytes es es c d in
     let present : c.present ≡ d.present = append_cancel_left d.given c.present d.present (subst (λ g. g ++ c.present ≡ d.given ++ d.present) given (sym c.split ∙ d.split)) in
     let lines = lines_once c.path d.path c.of_path.lines d.of_path.lines c.of_path.begun d.of_path.begun c.good d.good c.of_path.plain d.of_path.plain
     (begun_plain c.path c.of_path.begun c.good c.of_path.last) (begun_plain d.path d.of_path.begun d.good d.of_path.last) (sym c.of_path.split ∙ present ∙ d.of_path.split) in

@@ -1,9 +1,11 @@
 -- What the calls of a decoder promise, of the bytes that it consumed and the entries that it gave.
 use Rattle.std.specs.Prelude.{◌≡◌, ℕ, ◌+◌, List, ◌++◌, length, Option, Some, None, option_to_list, Result, Ok, Err}
+use Rattle.std.specs.List.{AllZip}
 use Rattle.cg_text.specs.Texts.{Viable}
 use Rattle.cg_value.specs.Entry.{EntryData}
 use Rattle.cg_value.specs.declared.profile.Profile.{Profile}
 use Rattle.cg_line.specs.Reads as reader
+use Rattle.cg_line.specs.Upgrading.{IsBefore, IsUp}
 use Rattle.cg_snap.specs.Streams.{snap_stream}
 use Rattle.cg_snap.specs.Closed.{Closed}
 use Rattle.cg_snap.specs.Pulled.{StandsFor, WhatCame}
@@ -53,6 +55,11 @@ Stands d = StandsFor (snap_stream (profile_of d)) d
 abbrev pub PulledIsClosed : Type 0
 PulledIsClosed = (d : SnapshotDecoder) (p : List ℕ) (es : List EntryData) → Stands d p es →
     Closed (profile_of d) p es × Viable (Snap (profile_of d)) p × IsSnapUnstopped (profile_of d) (limits_of d) p
+
+-- Where decoders of two profiles consumed the same bytes, the entries that the later one's gave are those of the earlier one's,
+-- upgraded.
+abbrev pub PulledIsUpgraded : Type 0
+PulledIsUpgraded = (c d : SnapshotDecoder) (p : List ℕ) (es fs : List EntryData) → IsBefore (profile_of c) (profile_of d) → Stands c p es → Stands d p fs → AllZip (IsUp (profile_of d)) es fs
 
 -- What a call of next leaves that consumed so many bytes of the piece, and what it found.
 abbrev pub WhatIs : SnapshotDecoder → List ℕ → List EntryData → List ℕ → ℕ → Event EntryData → Type 0

@@ -1,12 +1,18 @@
 -- The laws of snapshots and of plans, over their definitions alone.
-use Rattle.std.specs.Prelude.{◌≡◌, ◌≢◌, ℕ, List, [], ◌∷◌, ◌++◌, length}
+use Rattle.std.specs.Prelude.{◌≡◌, ◌≢◌, ◌↔◌, ℕ, ◌⊎◌, List, [], ◌∷◌, ◌++◌, length, codes, Result, Ok, Err}
 use Rattle.std.specs.List.{AllAdjacentBelow, AllByRecursion, AllZip}
 use Rattle.cg_value.specs.Entry.{EntryData, IsEntry, IsItem, ItemData}
+use Rattle.cg_value.specs.Path.{IsNameOf}
 use Rattle.cg_value.specs.Print.{print_lines, print_setting_of}
 use Rattle.cg_value.specs.Records.{records}
+use Rattle.cg_value.specs.declared.kind.ReadForm.{ReadForm}
+use Rattle.cg_value.specs.declared.kind.ReadForm.TheVariants.{Nested}
 use Rattle.cg_value.specs.declared.profile.Profile.{Profile}
-use Rattle.cg_value.specs.declared.profile.Profile.TheVariants.{One, Two}
-use Rattle.cg_line.specs.Upgrading.{IsUp}
+use Rattle.cg_value.specs.declared.profile.Profile.TheVariants.{Two, Kernel}
+use Rattle.cg_value.specs.declared.value.Value.TheVariants.{Raw}
+use Rattle.cg_line.specs.Upgrading.{AreToRead, IsBefore, IsUp, IsUpgraded}
+use Rattle.cg_line.specs.declared.upgrading.UpgradeFault.{UpgradeFault}
+use Rattle.cg_line.specs.declared.upgrading.UpgradeFault.TheVariants.{OutOfMemory}
 use Rattle.cg_snap.specs.Begun.{IsBegun}
 use Rattle.cg_snap.specs.Closed.{Closed}
 use Rattle.cg_snap.specs.Plan.{ClosedPlan, PlanText}
@@ -87,8 +93,28 @@ PlanIsOfItems = (profile : Profile) (items : List ItemData) (text : List ℕ) �
 abbrev pub ClosedPlanOnce : Type 0
 ClosedPlanOnce = (profile : Profile) (bytes : List ℕ) (xs ys : List ItemData) → ClosedPlan profile bytes xs → ClosedPlan profile bytes ys → xs ≡ ys
 
--- ---- Two profiles
+-- ---- Profiles
 
--- Where a text is a snapshot of both profiles, the entries of the second are those of the first, upgraded.
+-- Where a text is a snapshot of two profiles, the entries of the later one are those of the earlier one, upgraded.
 abbrev pub TwoProfiles : Type 0
-TwoProfiles = (es fs : List EntryData) (text : List ℕ) → SnapText One es text → SnapText Two fs text → AllZip IsUp es fs
+TwoProfiles = (from to : Profile) → IsBefore from to → (es fs : List EntryData) (text : List ℕ) → SnapText from es text → SnapText to fs text → AllZip (IsUp to) es fs
+
+-- And so are the entries that bytes close in the later one.
+abbrev pub TwoClosed : Type 0
+TwoClosed = (from to : Profile) → IsBefore from to → (bytes : List ℕ) (es fs : List EntryData) → Closed from bytes es → Closed to bytes fs → AllZip (IsUp to) es fs
+
+-- Where an entry has a form in a profile, it is answered, or memory was refused.
+abbrev pub AnswersUp : Type 0
+AnswersUp = (to : Profile) (e f : EntryData) (answer : Result EntryData UpgradeFault) → IsUp to e f → IsUpgraded to e answer → (answer ≡ Ok f) ⊎ (answer ≡ Err OutOfMemory)
+
+-- What the second profile reads anew are raw lines of memory.numa_stat, as nested.
+abbrev pub OnlyNuma : Type 0
+OnlyNuma = (e : EntryData) (kind : ReadForm) (lines : List (List ℕ)) → AreToRead Two e kind lines ↔ (IsNameOf e.path (codes "memory.numa_stat") × (kind ≡ Nested) × (e.value ≡ Raw lines))
+
+-- So it is with the snapshots of the second profile and of that of the kernel.
+abbrev pub KernelProfile : Type 0
+KernelProfile = (es fs : List EntryData) (text : List ℕ) → SnapText Two es text → SnapText Kernel fs text → AllZip (IsUp Kernel) es fs
+
+-- What is upgraded by way of a profile to a later one is upgraded to that at once.
+abbrev pub ByTheWay : Type 0
+ByTheWay = (by to : Profile) → IsBefore by to → (e f g : EntryData) → IsUp by e f → IsUp to f g → IsUp to e g

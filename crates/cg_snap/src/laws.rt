@@ -1,8 +1,8 @@
 //! The laws of snapshots and of plans. Each function takes and answers nothing: its contract is the law.
-ghost use Rattle.cg_snap.specs.Decoder.{PulledIsClosed};
+ghost use Rattle.cg_snap.specs.Decoder.{PulledIsClosed, PulledIsUpgraded};
 ghost use Rattle.cg_snap.specs.GoingOnLaws.{AllAreDecoded, AllAreTold, FirstFault, NothingLeftOut, NothingStops, OneAllTold, OneTold, OwnFaults, OwnLines, PlainStopped, PlainUnstopped, ToldStays, UnstoppedCloses};
 ghost use Rattle.cg_snap.specs.Headline.{EntriesOfTheBytes, ItemsOfTheBytes, OnePlanStop, OneStop};
-ghost use Rattle.cg_snap.specs.Laws.{ClosedOnce, ClosedPlanOnce, EntriesPrinted, ItemsPrinted, OneBegun, OneClosing, OneList, OnePlan, PlanIsOfItems, SnapIsOfEntries, SnapIsPrint, TwoProfiles};
+ghost use Rattle.cg_snap.specs.Laws.{AnswersUp, ByTheWay, ClosedOnce, ClosedPlanOnce, EntriesPrinted, ItemsPrinted, KernelProfile, OneBegun, OneClosing, OneList, OnePlan, OnlyNuma, PlanIsOfItems, SnapIsOfEntries, SnapIsPrint, TwoClosed, TwoProfiles};
 ghost use Rattle.cg_snap.specs.PlanDecoder.{PulledPlanIsClosed};
 ghost use Rattle.cg_snap.specs.RoundTrip.{EntriesGivenBack, ItemsGivenBack, PlanEncodedTwice, SnapGivenBack};
 
@@ -69,10 +69,24 @@ pub fn closed_plan_once()
     ensures { ClosedPlanOnce }
 {}
 
-/// Where a text is a snapshot of both profiles, the entries that it has in the second are those of the first, in order,
-/// each upgraded: raw lines of `memory.numa_stat` are read as nested, and every other entry is itself.
+/// Where a text is a snapshot of two profiles, the entries that it has in the later one are those of the earlier one,
+/// in order, each upgraded: raw lines are read by the kind of their file, and every other entry is itself. The same
+/// holds of the entries that bytes close, so of what decoders of the two profiles gave that consumed the same bytes.
+/// And of an entry that has a form in a profile `upgrade_to` answers this one, unless memory is wanted. For the second
+/// profile only raw lines of `memory.numa_stat` are read, as nested.
 pub fn two_profiles()
-    ensures { TwoProfiles }
+    ensures texts { TwoProfiles }
+    ensures closed { TwoClosed }
+    ensures pulled { PulledIsUpgraded }
+    ensures answered { AnswersUp }
+    ensures numa { OnlyNuma }
+{}
+
+/// Where a text is a snapshot of the second profile and of that of the kernel, the entries of the latter are those of
+/// the former, in order, each upgraded. And what is upgraded by way of a profile is upgraded at once.
+pub fn kernel_profile()
+    ensures upgraded { KernelProfile }
+    ensures at_once { ByTheWay }
 {}
 
 /// The bytes that a decoder of snapshots consumed close the entries that it gave, which are one list; some snapshot

@@ -1,16 +1,13 @@
-use Rattle.std.proofs.Common.{◌≡◌, codes, refl, sym, ◌∙◌, subst}
-use Rattle.std.proofs.lemmas.Bool.{not-false}
-use Rattle.std.proofs.lemmas.Bool.Decides.{Decides-eqb, Decides-not}
-use Rattle.std.proofs.lemmas.Slice.Eq.{slice_eq-Decides}
-use Rattle.cg_value.specs.Path.{IsNameOf}
-use Rattle.cg_line.specs.MadeLaws.{one_name}
+use Rattle.std.proofs.Common.{Some, sym, ◌∙◌}
+use Rattle.cg_value.specs.Entry.{ReadsAt}
+use Rattle.cg_line.specs.MadeLaws.{one_form, reads_once}
 use Rattle.cg_line.proofs.upgrading.raw_lines.Goals as goal
 
-pub returns-then-ne : goal.returns-then-ne
-returns-then-ne c lines raw =
-    (Decides-not _ (slice_eq-Decides Decides-eqb _ _ _ refl)).0 (sym c.ne.ensures ∙ c.if-ne.true) (one_name c.args.entry.now.path c.name.result.now (codes "memory.numa_stat") c.name.ensures raw.0)
+pub returns-in-Err : goal.returns-in-Err
+returns-in-Err c kind lines read =
+    reads_once c.args.to c.args.entry.now.path kind (record { name = c.name.result.now; name_is = c.name.ensures; form_is = c.in-Err.ensures.unreadable }) read.reads
 
-pub returns-in-Raw : goal.returns-in-Raw
-returns-in-Raw c =
-    let name : c.name.result.now ≡ codes "memory.numa_stat" = (slice_eq-Decides Decides-eqb _ _ _ refl).0 (not-false _ (sym c.ne.ensures ∙ c.if-ne.false)) in
-    (subst (IsNameOf c.args.entry.now.path) name c.name.ensures, sym c.value.ensures.value ∙ c.in-Raw.is)
+pub returns-in-Raw-form : goal.returns-in-Raw-form
+returns-in-Raw-form c kind lines read =
+    let here : ReadsAt c.args.to c.args.entry.now.path (Some c.in-Ok.kind) = record { name = c.name.result.now; name_is = c.name.ensures; form_is = c.in-Ok.ensures.readable } in
+    read.typed (sym (one_form c.args.to c.args.entry.now.path c.in-Ok.kind kind here read.reads) ∙ sym c.form.ensures.form ∙ c.in-Raw-form.is)

@@ -23,14 +23,14 @@ loop-line-preserved c =
     let count = ap length step in
     let within : i < length lines = omega (arith, inv.2, count) in
     let first = first_left lines i line c.next.new.self (sym step ∙ inv.1) within in (
-      λ h plain. next_taken lines i line within first.0 c.take_line.new.reader (c.in_ok-take_line.ensures (unlines (take i lines)) (inv.0 h plain) (next_plain lines i line within first.0 plain)),
+      λ kind h plain. next_taken kind lines i line within first.0 c.take_line.new.reader (c.in_ok-take_line.ensures kind (unlines (take i lines)) (inv.0 kind h plain) (next_plain kind lines i line within first.0 plain)),
       first.1,
       omega (arith, inv.2, count),
       inv.3,
     )
 
 pub returns-in_err-take_line : goal.returns-in_err-take_line
-returns-in_err-take_line c h plain =
+returns-in_err-take_line c kind h plain =
     let i = c.loop-line.number in
     let lines = c.args.lines.now in
     let line = c.in-Some.line.now in
@@ -41,5 +41,5 @@ returns-in_err-take_line c h plain =
     let first = first_left lines i line c.next.new.self (sym step ∙ inv.1) within in
     let e = err_from_is_err_and c.from_residual.result c.from_residual.ensures.1 in
     let same : e.0 ≡ c.in_err-take_line.field-0.0 = e.2 in
-    rw (e.1, same) (next_stopped lines i line within first.0 c.take_line.new.reader c.in_err-take_line.field-0.0
-    (c.in_err-take_line.ensures (unlines (take i lines)) (inv.0 h plain) (next_plain lines i line within first.0 plain)))
+    rw (e.1, same) (next_stopped kind lines i line within first.0 c.take_line.new.reader c.in_err-take_line.field-0.0
+    (c.in_err-take_line.ensures kind (unlines (take i lines)) (inv.0 kind h plain) (next_plain kind lines i line within first.0 plain)))
