@@ -233,6 +233,33 @@ module _ {S Part : Type 0} (stream : Stream S Part) where
     rest_did (events.Stopped stop) n h = rest_stopped stop h
     rest_did events.OutOfMemory n h = rest_starved h
 
+  -- What a piece's rest did to its end, the piece did.
+  module _ (s : S) (m : Meter) (p piece rest : List ℕ) (es : List Part) (at used : ℕ) (back : rest ≡ drop at piece) (inside : at ≤ length piece) where
+    whole_rest : (p ++ take at piece) ++ rest ≡ p ++ piece
+    whole_rest = append_assoc p (take at piece) rest ∙ ap (λ (t : List ℕ). p ++ t) (ap (λ (r : List ℕ). take at piece ++ r) back ∙ take-append-drop at piece)
+
+    pub rest_piece : (what : Event Part) → PieceDid stream s m (p ++ take at piece) es rest used what → PieceDid stream s m p es piece (at + used) what
+    rest_piece events.NeedMore h = (omega (arith, h.0, inside, ap length back, length-drop at piece), rest_along s m p piece rest es at used back es h.1)
+    rest_piece (events.Given e) h = rest_given s m p piece rest es at used back e h
+    rest_piece (events.Stopped stop) h = (
+      rest_within s m p piece rest es at used back h.0,
+      subst (λ (t : List ℕ). StreamStopOf stream.language stream.breaks stream.many m.limits t stop) whole_rest h.1,
+      rest_along s m p piece rest es at used back es h.2,
+      omega (arith, h.3, inside, length-append p (take at piece), length-take-le at piece inside),
+    )
+    rest_piece events.OutOfMemory h =
+        let more : at + (used + 1) ≡ at + used + 1 = omega arith in (
+          rest_within s m p piece rest es at used back h.0,
+          subst (IsStreamUnstopped stream.language stream.breaks stream.many m.limits) (text_on p piece rest at (used + 1) back ∙ ap (λ (n : ℕ). p ++ take n piece) more) h.1,
+          rest_along s m p piece rest es at used back es h.2,
+        )
+
+pub moved_rest : {Part : Type 0} → (whole rest at used : ℕ) (what : Event Part) → at + rest ≡ whole → IsMovedBy rest used what → IsMovedBy whole (at + used) what
+moved_rest whole rest at used events.NeedMore e h = omega (arith, e, h)
+moved_rest whole rest at used (events.Given x) e h = omega (arith, h)
+moved_rest whole rest at used (events.Stopped stop) e h = tt
+moved_rest whole rest at used events.OutOfMemory e h = tt
+
 -- Where something came, as long as the piece is.
 pub moved_by : {Part : Type 0} → (whole rest at used : ℕ) (what : Event Part) → (what ≡ events.NeedMore → ⊥) → GoesForward rest used what → IsMovedBy whole (at + used) what
 moved_by whole rest at used events.NeedMore n h = absurd (n refl)

@@ -288,7 +288,7 @@ module _ (profile : Profile) (limits : Limits) where
         }
 
     -- Nothing is left out that may go on.
-    settle_none : s.left_out ≡ None → (o : Option Present) → s.block.present ≡ o → IsReading s profile limits p told
+    pub settle_none : s.left_out ≡ None → (o : Option Present) → s.block.present ≡ o → IsReading s profile limits p told
     settle_none l None e = settle_first e
     settle_none l (Some x) e = settle_other s x e (λ z. none_some x.path.items (sym l ∙ (h.kept ∙ z))) refl refl l
 

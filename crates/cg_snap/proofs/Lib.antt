@@ -32,6 +32,7 @@ pub mod GoingOnGiven
 pub mod GoingOnMoves
 pub mod GoingOnLeft
 pub mod GoingOnTakes
+pub mod GoingOnPulls
 pub mod GoingOnEnds
 pub mod GoingOnLawsBlocks
 pub mod GoingOnLawsCarry

@@ -77,6 +77,30 @@ pub(crate) fn pull<R: Records>(
     }
 }
 
+/// Goes on with a piece of which so many bytes were taken.
+pub(crate) fn pull_rest<R: Records>(
+    records: &mut R,
+    meter: &mut Meter,
+    piece: &[u8],
+    at: usize,
+) -> Progress<R::Part>
+    requires { at ≤ length piece.now }
+    ensures pulled { (form : R.Form) (p : List ℕ) (es : List R.Part) →
+        IsAlong (R.stream form) records.old meter.old (p ++ take at piece.now) es →
+        PieceDid (R.stream form) records.new meter.new p es piece.now result.used result.what }
+    ensures used { result.used ≤ length piece.now }
+    ensures progress { IsMovedBy (length piece.now) result.used result.what }
+    ensures form { R.form_of records.new ≡ R.form_of records.old }
+    ensures limits { meter.new.limits ≡ meter.old.limits }
+{
+    let (_, rest) = piece.split_at(at);
+    let Progress { used, what } = pull(records, meter, rest);
+    Progress {
+        used: at + used,
+        what,
+    }
+}
+
 /// The bytes with which some text goes on.
 pub(crate) fn allowed<R: Records>(records: &R) -> ByteSet
     ensures { (form : R.Form) (p : List ℕ) (es : List R.Part) → (R.stream form).at records.now p es → (byte : ℕ) →

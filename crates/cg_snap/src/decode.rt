@@ -13,7 +13,7 @@ use crate::event::Event;
 use crate::going_on::Found;
 use crate::going_on_decoder::GoingOnDecoder;
 use crate::limits::Limits;
-use crate::records::Records;
+use crate::pull::Pull;
 use crate::stop::Stop;
 use cg_value::{Entry, PlanItem, Profile};
 use std::alloc::Global;
@@ -30,7 +30,7 @@ pub enum StreamFault {
 }
 
 /// Hands a piece to the decoder until all of it is consumed, and puts the parts that it gives behind the others.
-fn take_piece<R: Records>(
+fn take_piece<R: Pull>(
     decoder: &mut Decoder<R>,
     parts: &mut Vec<R::Part>,
     piece: &[u8],
@@ -59,7 +59,7 @@ fn take_piece<R: Records>(
 }
 
 /// Hands all pieces to the decoder, one after another.
-fn take_pieces<R: Records>(
+fn take_pieces<R: Pull>(
     decoder: &mut Decoder<R>,
     parts: &mut Vec<R::Part>,
     pieces: &[&[u8]],

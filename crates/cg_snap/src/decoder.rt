@@ -15,13 +15,13 @@ ghost use Rattle.cg_snap.specs.PlanState.{HasTakenItems};
 ghost use Rattle.cg_snap.specs.Pulled.{IsStuck, StandsFor, WhatCame};
 ghost use Rattle.cg_snap.specs.Streams.{plan_stream, snap_stream};
 
-use crate::course::{allowed, pull};
+use crate::course::allowed;
 use crate::entry::ended;
 use crate::event::{Event, Progress};
 use crate::limits::Limits;
 use crate::meter::Meter;
 use crate::plan_records::PlanRecords;
-use crate::records::Records;
+use crate::pull::Pull;
 use crate::snapshot_records::SnapshotRecords;
 use crate::stop::Stop;
 use cg_text::ByteSet;
@@ -55,7 +55,7 @@ pub type Pulled = Progress<Entry>;
 /// What `next` of a decoder of a plan answers.
 pub type PlanPulled = Progress<PlanItem>;
 
-impl<R: Records> Decoder<R> {
+impl<R: Pull> Decoder<R> {
     /// A decoder that consumed nothing, of these records, of which none came.
     pub(crate) fn begin(records: R, limits: Limits) -> Decoder<R>
         ensures stands { (form : R.Form) → (R.stream form).at records [] [] → StandsFor (R.stream form) result [] [] }
@@ -89,7 +89,7 @@ impl<R: Records> Decoder<R> {
                 what: Event::Stopped(stop),
             };
         }
-        let progress = pull(&mut self.records, &mut self.meter, piece);
+        let progress = self.records.pull(&mut self.meter, piece);
         if let Event::Stopped(stop) = &progress.what {
             self.stop = Some(*stop);
         }

@@ -7,6 +7,7 @@ ghost use Rattle.cg_snap.specs.GoingOn.{IsCause, Told, block_limits};
 ghost use Rattle.cg_snap.specs.GoingOnState.{FaultLeaves, HasTold, IsAgain, IsEnded, IsLeft, IsOfEntry, IsPathAt, IsReading, IsUnsettled, IsWholeStop};
 ghost use Rattle.cg_snap.specs.Streams.{snap_stream};
 ghost use Rattle.cg_snap.specs.SnapStop.{SnapStopOf};
+ghost use Rattle.cg_snap.specs.declared.event.Event.TheVariants as events;
 ghost use Rattle.cg_snap.specs.declared.limits.Limits.{Limits};
 ghost use Rattle.cg_snap.specs.declared.stop.Stop.{Stop};
 
@@ -129,6 +130,20 @@ fn end_entry(block: &mut SnapshotRecords) -> Option<Entry>
     match block.present.take() {
         Some(x) => ended(x),
         None => None,
+    }
+}
+
+/// The entry that bytes close, of which so many were taken.
+pub(crate) fn given(used: usize, entry: Entry) -> Progress<Found>
+    ensures used { result.used ≡ used }
+    ensures what { result.what ≡ events.Given (record { entry = Some entry; left_out = None }) }
+{
+    Progress {
+        used,
+        what: Event::Given(Found {
+            entry: Some(entry),
+            left_out: None,
+        }),
     }
 }
 

@@ -19,6 +19,7 @@ mod path;
 mod plan;
 mod plan_records;
 mod present;
+mod pull;
 pub mod record_place;
 mod records;
 mod refusal;

@@ -93,4 +93,15 @@ impl Meter {
             self.record_len + count
         };
     }
+
+    /// Counts bytes, behind which so much is begun of a record.
+    pub(crate) fn count_to(&mut self, bytes: usize, record_len: u64)
+        requires { self.old.offset + bytes ≤ 18446744073709551615 }
+        ensures offset { self.new.offset ≡ self.old.offset + bytes }
+        ensures record { self.new.record_len ≡ record_len }
+        ensures limits { self.new.limits ≡ self.old.limits }
+    {
+        self.offset += bytes as u64;
+        self.record_len = record_len;
+    }
 }
