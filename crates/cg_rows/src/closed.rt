@@ -1,7 +1,7 @@
 //! How much of the output the bytes that were read settle.
 use crate::asked::Asked;
 use cg_run::Command;
-use cg_snap::{Event, Found, GoingOnDecoder};
+use cg_snap::{Cause, Event, Found, GoingOnDecoder, LeftOut};
 use std::alloc::Global;
 
 /// The records and the entries of a snapshot that are closed.
@@ -37,14 +37,25 @@ fn closed_in(read: &[u8]) -> Closed {
     closed
 }
 
+/// How many lines of the output tell that a block is left out, if one is: its own, and one that explains it.
+fn left_out_lines(asked: &Asked, left_out: &Option<LeftOut>) -> usize {
+    let Some(left_out) = left_out else {
+        return 0;
+    };
+    match (&asked.command, left_out.cause) {
+        (Command::Show | Command::Check, Cause::Refused(_)) if asked.options.explain => 2,
+        _ => 1,
+    }
+}
+
 /// How many lines of the output are of what was found in a snapshot that is gone on with.
-fn found_lines(command: &Command, found: &Found) -> usize {
-    let entry = match (command, &found.entry) {
+fn found_lines(asked: &Asked, found: &Found) -> usize {
+    let entry = match (&asked.command, &found.entry) {
         (Command::Show, Some(entry)) => entry.value().line_count() as usize,
         (Command::Json, Some(_)) => 1,
         _ => 0,
     };
-    entry.saturating_add(usize::from(found.left_out.is_some()))
+    entry.saturating_add(left_out_lines(asked, &found.left_out))
 }
 
 /// How many lines of the output the bytes of one settle, as its decoder tells, which other rows judge.
@@ -58,7 +69,7 @@ fn going_on_lines(alloc: Global, asked: &Asked, read: &[u8]) -> usize {
         let Event::Given(found) = pulled.what else {
             return lines;
         };
-        lines = lines.saturating_add(found_lines(&asked.command, &found));
+        lines = lines.saturating_add(found_lines(asked, &found));
         rest = rest.get(used..).unwrap_or(b"");
     }
     lines

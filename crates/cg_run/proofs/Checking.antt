@@ -12,7 +12,7 @@ use Rattle.cg_tree.specs.RuledLaws.{told_of_ruled}
 use Rattle.cg_tree.specs.declared.finding.Finding.{Finding}
 use Rattle.cg_run.specs.Check.{IsCheckRight, control_text, finding_line, finding_lines}
 use Rattle.cg_run.specs.Checked.{AreAllLines, AreLinesRight, HasWrittenLines, IsKept}
-use Rattle.cg_run.specs.Explain.{IsInRecord, Tells}
+use Rattle.cg_run.specs.Explain.{Tells}
 use Rattle.cg_run.specs.Input.{Reading}
 use Rattle.cg_run.specs.Outcome.{checked, gone_on, last_line}
 use Rattle.cg_run.specs.Run.{Wrote, joined}
@@ -109,25 +109,25 @@ all_written before lines left_out n first now failed written o e f h =
 -- ---- The end of the input
 
 -- Lines that were written are no stop.
-lines_tell : (explain : Bool) (L : List ℕ → Type 0) (r : Reading) (before lines : List (List ℕ)) (left_out : ℕ) (o : Outcome) (parts : List (List ℕ)) → AreLinesRight before lines left_out o parts → Tells L IsInRecord explain r o []
-lines_tell explain L r before lines left_out out.Done parts h = refl
-lines_tell explain L r before lines left_out (out.Findings n) parts h = refl
-lines_tell explain L r before lines left_out (out.LeftOut n) parts h = refl
-lines_tell explain L r before lines left_out (out.Stopped s) parts h = absurd h
-lines_tell explain L r before lines left_out out.NotReadable parts h = refl
-lines_tell explain L r before lines left_out out.NotWritable parts h = refl
-lines_tell explain L r before lines left_out out.ReadFault parts h = refl
-lines_tell explain L r before lines left_out (out.WriteFault n) parts h = refl
-lines_tell explain L r before lines left_out out.OutOfMemory parts h = refl
+lines_tell : (explain : Bool) (Line : List ℕ → Option ℕ → List ℕ → Type 0) (r : Reading) (before lines : List (List ℕ)) (left_out : ℕ) (o : Outcome) (parts : List (List ℕ)) → AreLinesRight before lines left_out o parts → Tells Line explain r o []
+lines_tell explain Line r before lines left_out out.Done parts h = refl
+lines_tell explain Line r before lines left_out (out.Findings n) parts h = refl
+lines_tell explain Line r before lines left_out (out.LeftOut n) parts h = refl
+lines_tell explain Line r before lines left_out (out.Stopped s) parts h = absurd h
+lines_tell explain Line r before lines left_out out.NotReadable parts h = refl
+lines_tell explain Line r before lines left_out out.NotWritable parts h = refl
+lines_tell explain Line r before lines left_out out.ReadFault parts h = refl
+lines_tell explain Line r before lines left_out (out.WriteFault n) parts h = refl
+lines_tell explain Line r before lines left_out out.OutOfMemory parts h = refl
 
 module _ (Whole : List ℕ → List (List ℕ) → Outcome → Type 0) (Closes : List ℕ → List (List ℕ) → Type 0) (Unstopped : List ℕ → Type 0) (StopsBy : List ℕ → Stop → Type 0)
-    (explain : Bool) (L : List ℕ → Type 0) (read : List ℕ) (left : Option (List ℕ)) (failed : Bool) (first now : Option (List ℕ)) (write_failed : Bool)
+    (explain : Bool) (Line : List ℕ → Option ℕ → List ℕ → Type 0) (read : List ℕ) (left : Option (List ℕ)) (failed : Bool) (first now : Option (List ℕ)) (write_failed : Bool)
     (parts : List (List ℕ)) (unstopped : Unstopped read) (closed : Closes read parts) (ended : IsAtEnd left) (works : failed ≡ false) where
   abbrev r : Reading
   r = record { bytes = read; left = left; failed = failed }
 
   abbrev Ended : Outcome → Type 0
-  Ended = EndsSo (IsCheckRight Whole Closes Unstopped StopsBy) (Tells L IsInRecord explain) read left failed first now write_failed
+  Ended = EndsSo (IsCheckRight Whole Closes Unstopped StopsBy) (Tells Line explain) read left failed first now write_failed
 
   done : (all : List (List ℕ)) (o : Outcome) → Whole read all o → IsStreamDone Whole Closes Unstopped StopsBy r o all
   done all o h = record { ended = (ended, works); unstopped = unstopped; whole = h }
@@ -144,7 +144,7 @@ module _ (Whole : List ℕ → List (List ℕ) → Outcome → Type 0) (Closes :
         parts = w.parts;
         right = lines_checked Whole Closes Unstopped StopsBy r parts (finding_lines es) kept.left_out (done (parts ++ finding_lines es) (checked (length (finding_lines es)) kept.left_out) t) w.wanted w.parts w.right;
         more = [];
-        tells = lines_tell explain L r parts (finding_lines es) kept.left_out w.wanted w.parts w.right;
+        tells = lines_tell explain Line r parts (finding_lines es) kept.left_out w.wanted w.parts w.right;
         wrote = subst (λ (t : List ℕ). Wrote first now write_failed (joined w.parts ++ t) w.wanted o) (sym (append-nil (last_line w.wanted))) w.wrote;
       }
 
@@ -153,5 +153,5 @@ module _ (Whole : List ℕ → List (List ℕ) → Outcome → Type 0) (Closes :
   memory_end more all o t w = record { wanted = out.OutOfMemory; parts = parts; right = inr (more, all, done (parts ++ more) all t); more = []; tells = refl; wrote = w }
 
   -- A run that ends as is right for a stream.
-  pub ends_checked : (o : Outcome) → EndsSo (IsStreamRight Whole Closes Unstopped StopsBy) (Tells L IsInRecord explain) read left failed first now write_failed o → Ended o
+  pub ends_checked : (o : Outcome) → EndsSo (IsStreamRight Whole Closes Unstopped StopsBy) (Tells Line explain) read left failed first now write_failed o → Ended o
   ends_checked o e = record { wanted = e.wanted; parts = e.parts; right = stream_checked Whole Closes Unstopped StopsBy r e.wanted e.parts e.right; more = e.more; tells = e.tells; wrote = e.wrote }

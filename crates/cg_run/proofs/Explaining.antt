@@ -7,7 +7,7 @@ use Rattle.cg_line.specs.Decode.{IsStarved}
 use Rattle.cg_snap.specs.Stop.{place_of}
 use Rattle.cg_snap.specs.declared.stop.Stop.{Stop}
 use Rattle.cg_snap.specs.declared.stop.Stop.TheVariants as stop
-use Rattle.cg_run.specs.Explain.{Explains, IsInText, TellsSpot}
+use Rattle.cg_run.specs.Explain.{ExplainsNext, IsInText, TellsSpot}
 use Rattle.cg_run.specs.Explained.{IsExplained, IsExplanation, IsLine}
 use Rattle.cg_run.specs.Reading.{IsStoppedAt}
 use Rattle.cg_run.specs.Run.{IsTextStarved}
@@ -17,7 +17,7 @@ use Rattle.cg_run.specs.declared.explained.Explained.TheVariants.{Line, Whole, N
 module _ (L Took : List ℕ → Type 0) (viable : (taken : List ℕ) → Took taken → Viable L taken) (name bytes : List ℕ) where
   -- A byte stopped them.
   pub stopped : (max : ℕ) (s : Stop) (byte : Option ℕ) (line : List ℕ) → length bytes ≤ max → IsStoppedAt L Took max bytes s byte →
-      TellsSpot L (IsInText name) true (take (place_of s) bytes) byte s line → IsExplanation L name bytes line
+      TellsSpot (ExplainsNext L (IsInText name)) true (take (place_of s) bytes) byte s line → IsExplanation L name bytes line
   stopped max (stop.Refused at why) byte line few h t =
       let here : at ≡ h.stops.place = h.stops.stops.0 in
       let bad : FirstBad L bytes at = record {
@@ -25,14 +25,14 @@ module _ (L Took : List ℕ → Type 0) (viable : (taken : List ℕ) → Took ta
         before = viable (take at bytes) h.took;
         after = λ v. h.stops.stops.1 (subst (λ (k : ℕ). Viable L (take (k + 1) bytes)) here v);
       } in
-      inl (at, bad, subst (λ (b : Option ℕ). Explains L (IsInText name) (take at bytes) b line) h.byte_is t)
+      inl (at, bad, subst (λ (b : Option ℕ). ExplainsNext L (IsInText name) (take at bytes) b line) h.byte_is t)
   stopped max (stop.TooLong at) byte line few h t = absurd h.stops.stops.2
   stopped max (stop.TooMany at) byte line few h t = absurd h.stops.stops.3
   stopped max (stop.TooMuch at) byte line few h t = absurd (omega (arith, h.stops.within, h.stops.stops.4, few))
   stopped max (stop.Cut at) byte line few h t = absurd h.stops.stops
 
   -- They ended before a text did.
-  pub ended : (at : ℕ) (line : List ℕ) → Took bytes → (L bytes → ⊥) → TellsSpot L (IsInText name) true bytes None (stop.Cut at) line → IsExplanation L name bytes line
+  pub ended : (at : ℕ) (line : List ℕ) → Took bytes → (L bytes → ⊥) → TellsSpot (ExplainsNext L (IsInText name)) true bytes None (stop.Cut at) line → IsExplanation L name bytes line
   ended at line took none t = inr (record { at_end = refl; viable = viable bytes took; not_whole = none }, t)
 
 -- The line of why they are none, if there is memory for it.
@@ -57,7 +57,7 @@ module _ (L M : List ℕ → Type 0) (same : (text : List ℕ) → L text ↔ M 
   from : (front : List ℕ) → Viable M front → Viable L front
   from front h = record { rest = h.rest; whole = (same _).1 h.whole }
 
-  explains_as : (p : List ℕ) (what : Option ℕ) (line : List ℕ) → Explains L (IsInText name) p what line → Explains M (IsInText name) p what line
+  explains_as : (p : List ℕ) (what : Option ℕ) (line : List ℕ) → ExplainsNext L (IsInText name) p what line → ExplainsNext M (IsInText name) p what line
   explains_as p what line h = record {
     begun = h.begun;
     begins = h.begins;

@@ -26,6 +26,6 @@ module _ {R Form Part : Type 0} (stream : Form → Stream R Part) (form_of : R �
 
 -- Whether the bytes are a whole stream, as its decoder tells.
 pub cut_is : (L : List ℕ → Type 0) (Whole : List ℕ → List (List ℕ) → Outcome → Type 0) (p : List ℕ) (can_finish : Bool) → (IsTrue can_finish ↔ L p) → (L p ↔ HasWhole Whole p) →
-    MatchBool (not can_finish) (HasNoWhole Whole p) (true ≡ true → HasWhole Whole p)
-cut_is L Whole p true f s = λ e. s.0 (f.0 refl)
+    MatchBool (not can_finish) (HasNoWhole Whole p) (HasWhole Whole p)
+cut_is L Whole p true f s = s.0 (f.0 refl)
 cut_is L Whole p false f s = λ all o x. true≢false (sym (f.1 (s.1 (all, o, x))))

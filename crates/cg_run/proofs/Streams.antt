@@ -10,7 +10,7 @@ use Rattle.cg_snap.specs.declared.event.Event.{Event}
 use Rattle.cg_snap.specs.declared.event.Event.TheVariants as events
 use Rattle.cg_snap.specs.declared.stop.Stop.{Stop}
 use Rattle.cg_snap.specs.declared.stop.Stop.TheVariants as stops
-use Rattle.cg_run.specs.Explain.{IsInRecord, Tells, TellsSpot, TellsStop}
+use Rattle.cg_run.specs.Explain.{Tells, TellsSpot, TellsStop}
 use Rattle.cg_run.specs.Input.{Reading}
 use Rattle.cg_run.specs.Outcome.{gone_on, last_line}
 use Rattle.cg_run.specs.Output.{Holds}
@@ -35,16 +35,16 @@ some_more [] more some = some
 some_more (first ∷ parts) more some = λ e. cc
 
 -- A limit isn't explained.
-module _ (L : List ℕ → Type 0) (p : List ℕ) (what : Option ℕ) (place : ℕ) (more : List ℕ) where
-  long_tells : (explain : Bool) → TellsSpot L IsInRecord explain p what (stops.TooLong place) more → more ≡ []
+module _ (Line : List ℕ → Option ℕ → List ℕ → Type 0) (p : List ℕ) (what : Option ℕ) (place : ℕ) (more : List ℕ) where
+  long_tells : (explain : Bool) → TellsSpot Line explain p what (stops.TooLong place) more → more ≡ []
   long_tells true t = t
   long_tells false t = t
 
-  many_tells : (explain : Bool) → TellsSpot L IsInRecord explain p what (stops.TooMany place) more → more ≡ []
+  many_tells : (explain : Bool) → TellsSpot Line explain p what (stops.TooMany place) more → more ≡ []
   many_tells true t = t
   many_tells false t = t
 
-  much_tells : (explain : Bool) → TellsSpot L IsInRecord explain p what (stops.TooMuch place) more → more ≡ []
+  much_tells : (explain : Bool) → TellsSpot Line explain p what (stops.TooMuch place) more → more ≡ []
   much_tells true t = t
   much_tells false t = t
 
@@ -55,11 +55,6 @@ never_cut Whole p (stops.TooLong at) x h = h
 never_cut Whole p (stops.TooMany at) x h = h
 never_cut Whole p (stops.TooMuch at) x h = h
 never_cut Whole p (stops.Cut at) x h = h.1 (x.0) (x.1) x.2
-
--- A reader that doesn't tell where it stands explains nothing.
-pub not_explained : (explains counted : Bool) → (explains ≡ true → ⊥) → (explains && counted) ≡ false
-not_explained true counted n = absurd (n refl)
-not_explained false counted n = refl
 
 module _ (Took : List ℕ → List (List ℕ) → Type 0) (Whole : List ℕ → List (List ℕ) → Outcome → Type 0) (Closes : List ℕ → List (List ℕ) → Type 0) (Unstopped : List ℕ → Type 0) (StopsBy : List ℕ → Stop → Type 0) where
   abbrev Early : Reading → Outcome → List (List ℕ) → Type 0
@@ -124,14 +119,14 @@ module _ (Took : List ℕ → List (List ℕ) → Type 0) (Whole : List ℕ → 
   goes_on read piece used all what (inl e) h = subst (LeadsTo Closes Unstopped Took StopsBy read all piece used) e h
   goes_on read piece used all what (inr e) h = subst (LeadsTo Closes Unstopped Took StopsBy read all piece used) e.1 h
 
-  -- ---- A piece, of which so many bytes were consumed. L is the set of the streams.
+  -- ---- A piece, of which so many bytes were consumed.
 
-  module _ (explain : Bool) (L : List ℕ → Type 0) (read piece : List ℕ) (used : ℕ) (within : used ≤ length piece) (left : Option (List ℕ)) (failed : Bool) (first now : Option (List ℕ)) (write_failed : Bool) (parts : List (List ℕ)) (o : Outcome) where
+  module _ (explain : Bool) (Line : List ℕ → Option ℕ → List ℕ → Type 0) (read piece : List ℕ) (used : ℕ) (within : used ≤ length piece) (left : Option (List ℕ)) (failed : Bool) (first now : Option (List ℕ)) (write_failed : Bool) (parts : List (List ℕ)) (o : Outcome) where
     abbrev r : Reading
     r = record { bytes = read ++ piece; left = left; failed = failed }
 
     abbrev Ends : Type 0
-    Ends = EndsSo Early (Tells L IsInRecord explain) (read ++ piece) left failed first now write_failed o
+    Ends = EndsSo Early (Tells Line explain) (read ++ piece) left failed first now write_failed o
 
     front : (m : ℕ) → take (length read + m) (read ++ piece) ≡ read ++ take m piece
     front m = take-append-add read piece m
@@ -174,18 +169,18 @@ module _ (Took : List ℕ → List (List ℕ) → Type 0) (Whole : List ℕ → 
 
     -- What is told of a stop there is told of it in all bytes.
     stop_tells : (s : Stop) (what : Option ℕ) (more : List ℕ) → IsByteStop s → place_of s ≡ length read + used → what ≡ Some (get_or piece used 0) → used < length piece →
-        TellsSpot L IsInRecord explain (read ++ take used piece) what s more → TellsStop L IsInRecord explain (read ++ piece) s more
+        TellsSpot Line explain (read ++ take used piece) what s more → TellsStop Line explain (read ++ piece) s more
     stop_tells (stops.Refused place why) what more b e k some t =
         let same : take place (read ++ piece) ≡ read ++ take used piece = ap (λ (n : ℕ). take n (read ++ piece)) e ∙ front used in
         let byte : get_or (read ++ piece) place 0 ≡ get_or piece used 0 = ap (λ (n : ℕ). get_or (read ++ piece) n 0) e ∙ next_byte in
         rw (same, byte, ← k) t
-    stop_tells (stops.TooLong place) what more b e k some t = long_tells L (read ++ take used piece) what place more explain t
-    stop_tells (stops.TooMany place) what more b e k some t = many_tells L (read ++ take used piece) what place more explain t
-    stop_tells (stops.TooMuch place) what more b e k some t = much_tells L (read ++ take used piece) what place more explain t
+    stop_tells (stops.TooLong place) what more b e k some t = long_tells Line (read ++ take used piece) what place more explain t
+    stop_tells (stops.TooMany place) what more b e k some t = many_tells Line (read ++ take used piece) what place more explain t
+    stop_tells (stops.TooMuch place) what more b e k some t = much_tells Line (read ++ take used piece) what place more explain t
     stop_tells (stops.Cut place) what more b e k some t = absurd b
 
     pub stop_ends : (s : Stop) (what : Option ℕ) (more : List ℕ) → LeadsTo Closes Unstopped Took StopsBy read parts piece used (events.Stopped s) →
-        what ≡ Some (get_or piece used 0) → used < length piece → TellsSpot L IsInRecord explain (read ++ take used piece) what s more →
+        what ≡ Some (get_or piece used 0) → used < length piece → TellsSpot Line explain (read ++ take used piece) what s more →
         Wrote first now write_failed (joined parts ++ (last_line (out.Stopped s) ++ more)) (out.Stopped s) o → Ends
     stop_ends s what more h k some t w = record {
       wanted = out.Stopped s;
@@ -207,13 +202,13 @@ module _ (Took : List ℕ → List (List ℕ) → Type 0) (Whole : List ℕ → 
 
   -- ---- The end of the input
 
-  module _ (explain : Bool) (L : List ℕ → Type 0) (read : List ℕ) (left : Option (List ℕ)) (failed : Bool) (first now : Option (List ℕ)) (write_failed : Bool) (parts : List (List ℕ)) (unstopped : Unstopped read) (closed : Closes read parts) where
-    pub read_fault_ends : (o : Outcome) → failed ≡ true → Wrote first now write_failed (joined parts ++ last_line out.ReadFault) out.ReadFault o → EndsSo Early (Tells L IsInRecord explain) read left failed first now write_failed o
+  module _ (explain : Bool) (Line : List ℕ → Option ℕ → List ℕ → Type 0) (read : List ℕ) (left : Option (List ℕ)) (failed : Bool) (first now : Option (List ℕ)) (write_failed : Bool) (parts : List (List ℕ)) (unstopped : Unstopped read) (closed : Closes read parts) where
+    pub read_fault_ends : (o : Outcome) → failed ≡ true → Wrote first now write_failed (joined parts ++ last_line out.ReadFault) out.ReadFault o → EndsSo Early (Tells Line explain) read left failed first now write_failed o
     read_fault_ends o f w = record { wanted = out.ReadFault; parts = parts; right = record { unstopped = unstopped; failed = f; closed = closed }; more = []; tells = refl; wrote = w }
 
     module _ (ended : IsAtEnd left) (works : failed ≡ false) where
       abbrev Ended : Outcome → Type 0
-      Ended = EndsSo Right (Tells L IsInRecord explain) read left failed first now write_failed
+      Ended = EndsSo Right (Tells Line explain) read left failed first now write_failed
 
       -- The stream is whole, and has these parts.
       done_so : (all : List (List ℕ)) (n : ℕ) (is_none : Bool) (o : Outcome) → Whole read all (if is_none then out.Done else out.LeftOut n) →
@@ -232,29 +227,11 @@ module _ (Took : List ℕ → List (List ℕ) → Type 0) (Whole : List ℕ → 
       cut_right (stops.TooMuch place) h = absurd h
       cut_right (stops.Cut place) h = record { ended = (ended, works); unstopped = unstopped; not_whole = h.1; at_end = h.0; closed = closed }
 
-      pub cut_ends : (at : ℕ) (o : Outcome) (more : List ℕ) → IsCutAt Whole read (stops.Cut at) → TellsSpot L IsInRecord explain read None (stops.Cut at) more →
+      pub cut_ends : (at : ℕ) (o : Outcome) (more : List ℕ) → IsCutAt Whole read (stops.Cut at) → TellsSpot Line explain read None (stops.Cut at) more →
           Wrote first now write_failed (joined parts ++ (last_line (out.Stopped (stops.Cut at)) ++ more)) (out.Stopped (stops.Cut at)) o → Ended o
       cut_ends at o more h t w =
           let all : take at read ≡ read = ap (λ (n : ℕ). take n read) h.0 ∙ take-length read in
           record { wanted = out.Stopped (stops.Cut at); parts = parts; right = cut_right (stops.Cut at) h; more = more; tells = rw all t; wrote = w }
-
-      -- It isn't, and that isn't explained.
-      unexplained : (s : Stop) → explain ≡ false → IsCutAt Whole read s → TellsStop L IsInRecord explain read s []
-      unexplained (stops.Refused place why) e h = absurd h
-      unexplained (stops.TooLong place) e h = absurd h
-      unexplained (stops.TooMany place) e h = absurd h
-      unexplained (stops.TooMuch place) e h = absurd h
-      unexplained (stops.Cut place) e h = rw e refl
-
-      pub stopped_ends : (s : Stop) (o : Outcome) → explain ≡ false → IsCutAt Whole read s → Wrote first now write_failed (joined parts ++ last_line (out.Stopped s)) (out.Stopped s) o → Ended o
-      stopped_ends s o e h w = record {
-        wanted = out.Stopped s;
-        parts = parts;
-        right = cut_right s h;
-        more = [];
-        tells = unexplained s e h;
-        wrote = subst (λ (t : List ℕ). Wrote first now write_failed (joined parts ++ t) (out.Stopped s) o) (sym (append-nil (last_line (out.Stopped s)))) w;
-      }
 
       pub last_memory_ends : (more : List (List ℕ)) (all : Outcome) (o : Outcome) → more ≢ [] → Whole read (parts ++ more) all →
           Wrote first now write_failed (joined parts ++ last_line out.OutOfMemory) out.OutOfMemory o → Ended o

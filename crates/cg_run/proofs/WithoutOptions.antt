@@ -7,8 +7,10 @@ use Rattle.cg_value.specs.Table.{read_form_of, write_form_of}
 use Rattle.cg_value.specs.declared.profile.Profile.{Profile}
 use Rattle.cg_snap.specs.Plan.{Plan}
 use Rattle.cg_snap.specs.Snap.{Snap}
+use Rattle.cg_snap.specs.declared.limits.Limits.{Limits}
 use Rattle.cg_snap.specs.declared.stop.Stop.TheVariants as stop
-use Rattle.cg_run.specs.Explain.{IsInRecord, IsInText, Tells}
+use Rattle.cg_run.specs.Explain.{ExplainsNext, IsInRecord, IsInText, Tells}
+use Rattle.cg_run.specs.GoneOn.{ExplainsOn}
 use Rattle.cg_run.specs.Input.{Reading}
 use Rattle.cg_run.specs.Outcome.{last_line}
 use Rattle.cg_run.specs.Run.{DidRun, DidRunWith, TellsOf, TellsOfFile, TellsOfForm, TellsOfSnapshot, TellsOfWrite, Wrote, joined}
@@ -35,39 +37,39 @@ plain_ran Right Tells none coming left read_failed taken now write_failed o h =
     }
 
 -- Without the option nothing is written behind the last line.
-pub tells_none : (L : List ℕ → Type 0) (IsIn : List ℕ → Bool → List ℕ → ℕ → Type 0) (r : Reading) (o : Outcome) (more : List ℕ) → Tells L IsIn false r o more → more ≡ []
-tells_none L IsIn r out.Done more t = t
-tells_none L IsIn r (out.Findings n) more t = t
-tells_none L IsIn r (out.LeftOut n) more t = t
-tells_none L IsIn r (out.Stopped (stop.Refused at why)) more t = t
-tells_none L IsIn r (out.Stopped (stop.TooLong at)) more t = t
-tells_none L IsIn r (out.Stopped (stop.TooMany at)) more t = t
-tells_none L IsIn r (out.Stopped (stop.TooMuch at)) more t = t
-tells_none L IsIn r (out.Stopped (stop.Cut at)) more t = t
-tells_none L IsIn r out.NotReadable more t = t
-tells_none L IsIn r out.NotWritable more t = t
-tells_none L IsIn r out.ReadFault more t = t
-tells_none L IsIn r (out.WriteFault n) more t = t
-tells_none L IsIn r out.OutOfMemory more t = t
+pub tells_none : (Line : List ℕ → Option ℕ → List ℕ → Type 0) (r : Reading) (o : Outcome) (more : List ℕ) → Tells Line false r o more → more ≡ []
+tells_none Line r out.Done more t = t
+tells_none Line r (out.Findings n) more t = t
+tells_none Line r (out.LeftOut n) more t = t
+tells_none Line r (out.Stopped (stop.Refused at why)) more t = t
+tells_none Line r (out.Stopped (stop.TooLong at)) more t = t
+tells_none Line r (out.Stopped (stop.TooMany at)) more t = t
+tells_none Line r (out.Stopped (stop.TooMuch at)) more t = t
+tells_none Line r (out.Stopped (stop.Cut at)) more t = t
+tells_none Line r out.NotReadable more t = t
+tells_none Line r out.NotWritable more t = t
+tells_none Line r out.ReadFault more t = t
+tells_none Line r (out.WriteFault n) more t = t
+tells_none Line r out.OutOfMemory more t = t
 
 form_tells : {F : Type 0} (Told : F → Reading → Outcome → List ℕ → Type 0) → ((form : F) (r : Reading) (o : Outcome) (more : List ℕ) → Told form r o more → more ≡ []) →
     (form : Option F) (r : Reading) (o : Outcome) (more : List ℕ) → TellsOfForm Told form r o more → more ≡ []
 form_tells Told none None r o more t = t
 form_tells Told none (Some form) r o more t = none form r o more t
 
-pub snapshot_tells : (keep_going : Bool) (profile : Profile) (explain : Bool) → explain ≡ false → (r : Reading) (o : Outcome) (more : List ℕ) → TellsOfSnapshot keep_going profile explain r o more → more ≡ []
-snapshot_tells true profile explain e r o more t = t
-snapshot_tells false profile explain e r o more t = tells_none (Snap profile) IsInRecord r o more (subst (λ (b : Bool). Tells (Snap profile) IsInRecord b r o more) e t)
+pub snapshot_tells : (keep_going : Bool) (profile : Profile) (limits : Limits) (explain : Bool) → explain ≡ false → (r : Reading) (o : Outcome) (more : List ℕ) → TellsOfSnapshot keep_going profile limits explain r o more → more ≡ []
+snapshot_tells true profile limits explain e r o more t = tells_none (ExplainsOn profile limits) r o more (subst (λ (b : Bool). Tells (ExplainsOn profile limits) b r o more) e t)
+snapshot_tells false profile limits explain e r o more t = tells_none (ExplainsNext (Snap profile) IsInRecord) r o more (subst (λ (b : Bool). Tells (ExplainsNext (Snap profile) IsInRecord) b r o more) e t)
 
-pub command_tells : (profile : Profile) (c : Command) (options : Options) → options.explain ≡ false → (r : Reading) (o : Outcome) (more : List ℕ) → TellsOf profile c options r o more → more ≡ []
-command_tells profile (command.File name) options e r o more t =
-    form_tells (λ kind. Tells (TextOf (λ text v. KindText kind v text)) (IsInText name.items) false) (λ kind s p m u. tells_none (TextOf (λ text v. KindText kind v text)) (IsInText name.items) s p m u) (read_form_of profile name.items) r o more
+pub command_tells : (profile : Profile) (c : Command) (limits : Limits) (options : Options) → options.explain ≡ false → (r : Reading) (o : Outcome) (more : List ℕ) → TellsOf profile c limits options r o more → more ≡ []
+command_tells profile (command.File name) limits options e r o more t =
+    form_tells (λ kind. Tells (ExplainsNext (TextOf (λ text v. KindText kind v text)) (IsInText name.items)) false) (λ kind s p m u. tells_none (ExplainsNext (TextOf (λ text v. KindText kind v text)) (IsInText name.items)) s p m u) (read_form_of profile name.items) r o more
     (subst (λ (b : Bool). TellsOfFile b name.items (read_form_of profile name.items) r o more) e t)
-command_tells profile (command.Setting name) options e r o more t =
-    form_tells (λ kind. Tells (TextOf (λ text v. WriteText kind v text)) (IsInText name.items) false) (λ kind s p m u. tells_none (TextOf (λ text v. WriteText kind v text)) (IsInText name.items) s p m u) (write_form_of profile name.items) r o more
+command_tells profile (command.Setting name) limits options e r o more t =
+    form_tells (λ kind. Tells (ExplainsNext (TextOf (λ text v. WriteText kind v text)) (IsInText name.items)) false) (λ kind s p m u. tells_none (ExplainsNext (TextOf (λ text v. WriteText kind v text)) (IsInText name.items)) s p m u) (write_form_of profile name.items) r o more
     (subst (λ (b : Bool). TellsOfWrite b name.items (write_form_of profile name.items) r o more) e t)
-command_tells profile command.Kinds options e r o more t = t
-command_tells profile command.Show options e r o more t = snapshot_tells options.keep_going profile options.explain e r o more t
-command_tells profile command.Json options e r o more t = snapshot_tells options.keep_going profile options.explain e r o more t
-command_tells profile command.Check options e r o more t = snapshot_tells options.keep_going profile options.explain e r o more t
-command_tells profile command.Plan options e r o more t = tells_none (Plan profile) IsInRecord r o more (subst (λ (b : Bool). Tells (Plan profile) IsInRecord b r o more) e t)
+command_tells profile command.Kinds limits options e r o more t = t
+command_tells profile command.Show limits options e r o more t = snapshot_tells options.keep_going profile limits options.explain e r o more t
+command_tells profile command.Json limits options e r o more t = snapshot_tells options.keep_going profile limits options.explain e r o more t
+command_tells profile command.Check limits options e r o more t = snapshot_tells options.keep_going profile limits options.explain e r o more t
+command_tells profile command.Plan limits options e r o more t = tells_none (ExplainsNext (Plan profile) IsInRecord) r o more (subst (λ (b : Bool). Tells (ExplainsNext (Plan profile) IsInRecord) b r o more) e t)

@@ -2,7 +2,7 @@
 use Rattle.std.specs.Prelude.{◌≡◌, ℕ, Bool, List, [], ◌∷◌, ◌++◌, length, Option}
 use Rattle.cg_text.specs.Texts.{TextOf}
 use Rattle.cg_snap.specs.declared.stop.Stop.TheVariants as stop
-use Rattle.cg_run.specs.Explain.{Tells}
+use Rattle.cg_run.specs.Explain.{ExplainsNext, Tells}
 use Rattle.cg_run.specs.Input.{Reading}
 use Rattle.cg_run.specs.Outcome.{last_line}
 use Rattle.cg_run.specs.Run.{Wrote, joined}
@@ -23,5 +23,5 @@ module _ {V : Type 0} (Text : List ℕ → V → Type 0) (print : V → List ℕ
     pub parts : List (List ℕ)
     pub right : IsEndRight bytes wanted parts
     pub more : List ℕ
-    pub tells : (r : Reading) → r.bytes ≡ bytes → Tells (TextOf Text) IsIn explain r wanted more
+    pub tells : (r : Reading) → r.bytes ≡ bytes → Tells (ExplainsNext (TextOf Text) IsIn) explain r wanted more
     pub wrote : Wrote taken now failed (joined parts ++ (last_line wanted ++ more)) wanted o

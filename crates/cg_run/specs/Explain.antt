@@ -40,9 +40,13 @@ IsInRecord begun false path before = (line : List ℕ) × Lacks 0 path × (begun
 abbrev pub IsInText : (name : List ℕ) (begun : List ℕ) (in_path : Bool) (path : List ℕ) (before : ℕ) → Type 0
 IsInText name begun in_path path before = (in_path ≡ false) × (path ≡ name) × (before ≡ length begun)
 
--- L is the set of the texts, and IsIn says where the next byte stands behind what is begun of a line.
-module _ (L : List ℕ → Type 0) (IsIn : List ℕ → Bool → List ℕ → ℕ → Type 0) where
-  -- The line behind these bytes, where this came. The bytes that may come are those with which some text goes on.
+-- The set of the bytes with which some text of L goes on behind these.
+abbrev pub AreNext : (L : List ℕ → Type 0) → List ℕ → List Bool → Type 0
+AreNext L p set = (byte : ℕ) → HasByte set byte ↔ Next L p byte
+
+-- Wanted says which set of bytes may come behind some bytes, and IsIn where the next byte stands behind what is begun of a line.
+module _ (Wanted : List ℕ → List Bool → Type 0) (IsIn : List ℕ → Bool → List ℕ → ℕ → Type 0) where
+  -- The line behind these bytes, where this came.
   pub record Explains (p : List ℕ) (what : Option ℕ) (text : List ℕ) : Type 0 where
     pub begun : List ℕ
     pub begins : IsBegun p begun
@@ -51,15 +55,21 @@ module _ (L : List ℕ → Type 0) (IsIn : List ℕ → Bool → List ℕ → �
     pub before : ℕ
     pub place : IsIn begun in_path path before
     pub wanted : List Bool
-    pub may_come : (byte : ℕ) → HasByte wanted byte ↔ Next L p byte
+    pub may_come : Wanted p wanted
     pub text_is : text ≡ explanation (newlines p + 1) in_path path (before + 1) what wanted
 
+-- The same, where the bytes may come with which some text of L goes on.
+abbrev pub ExplainsNext : (L : List ℕ → Type 0) (IsIn : List ℕ → Bool → List ℕ → ℕ → Type 0) → List ℕ → Option ℕ → List ℕ → Type 0
+ExplainsNext L IsIn = Explains (AreNext L) IsIn
+
+-- Line says which line explains what came behind some bytes.
+module _ (Line : List ℕ → Option ℕ → List ℕ → Type 0) where
   -- What is written of a stop behind these bytes, where this came: with the option, the line that explains it, if the grammar
   -- refused a byte, or the input ended too early; a limit isn't explained.
   abbrev pub TellsSpot : (explain : Bool) → List ℕ → Option ℕ → Stop → List ℕ → Type 0
   TellsSpot false p what s text = text ≡ []
-  TellsSpot true p what (stop.Refused at why) text = Explains p what text
-  TellsSpot true p what (stop.Cut at) text = Explains p what text
+  TellsSpot true p what (stop.Refused at why) text = Line p what text
+  TellsSpot true p what (stop.Cut at) text = Line p what text
   TellsSpot true p what (stop.TooLong at) text = text ≡ []
   TellsSpot true p what (stop.TooMany at) text = text ≡ []
   TellsSpot true p what (stop.TooMuch at) text = text ≡ []

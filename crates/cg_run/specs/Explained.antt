@@ -3,7 +3,7 @@ use Rattle.std.specs.Prelude.{◌≡◌, ◌⊎◌, ℕ, List, length, take, sli
 use Rattle.cg_text.specs.Texts.{FirstBad}
 use Rattle.cg_text.specs.declared.memory.OutOfMemory.{OutOfMemory}
 use Rattle.cg_line.specs.Decode.{IsCut, IsStarved}
-use Rattle.cg_run.specs.Explain.{Explains, IsInText}
+use Rattle.cg_run.specs.Explain.{ExplainsNext, IsInText}
 use Rattle.cg_run.specs.declared.explained.Explained.{Explained}
 use Rattle.cg_run.specs.declared.explained.Explained.TheVariants.{Line, Whole, NoForm}
 
@@ -12,8 +12,8 @@ module _ (L : List ℕ → Type 0) (name bytes : List ℕ) where
   -- The line that explains why the bytes are none: it tells their first bad byte; or their end, where they end before a text does.
   abbrev pub IsExplanation : List ℕ → Type 0
   IsExplanation line =
-      ((at : ℕ) × FirstBad L bytes at × Explains L (IsInText name) (take at bytes) (Some (slice_index_or bytes at 0)) line)
-      ⊎ (IsCut L bytes (length bytes) × Explains L (IsInText name) bytes None line)
+      ((at : ℕ) × FirstBad L bytes at × ExplainsNext L (IsInText name) (take at bytes) (Some (slice_index_or bytes at 0)) line)
+      ⊎ (IsCut L bytes (length bytes) × ExplainsNext L (IsInText name) bytes None line)
 
 -- The line; or that the bytes are a text; or that the name has no form, which IsNone says; or that memory was refused: for a byte
 -- with which a text goes on, or for the line.

@@ -76,4 +76,4 @@ GoingOnRows = (names : Lent)
     × IsGoneOnWith names (codes "--keep-going" ∷ codes "kinds" ∷ []) true false
     × IsGoneOnWith names (codes "--keep-going" ∷ codes "file" ∷ codes "cpu.weight" ∷ []) true false
     × IsGoneOnWith names (codes "setting" ∷ codes "--keep-going" ∷ codes "cpu.max" ∷ []) true false
-    × IsGoneOnWith names (codes "--explain" ∷ codes "show" ∷ codes "--keep-going" ∷ []) true false
+    × IsGoneOnWith names (codes "--explain" ∷ codes "show" ∷ codes "--keep-going" ∷ []) true true

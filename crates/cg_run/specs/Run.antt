@@ -21,8 +21,8 @@ use Rattle.cg_snap.specs.declared.limits.Limits.{Limits}
 use Rattle.cg_snap.specs.declared.stop.Stop.{Stop}
 use Rattle.cg_snap.specs.declared.stop.Stop.TheVariants as stop
 use Rattle.cg_run.specs.Check.{HasNoParts, IsCheckRight, finding_lines, found_outcome}
-use Rattle.cg_run.specs.Explain.{IsInRecord, IsInText, Tells}
-use Rattle.cg_run.specs.GoneOn.{IsGoneOnChecked, IsGoneOnRight, json_told, shown_told}
+use Rattle.cg_run.specs.Explain.{ExplainsNext, IsInRecord, IsInText, Tells}
+use Rattle.cg_run.specs.GoneOn.{ExplainsOn, IsGoneOnChecked, IsGoneOnRight, json_told, shown_told}
 use Rattle.cg_run.specs.Input.{Reading, IsEnded}
 use Rattle.cg_run.specs.Kinds.{kinds_lines}
 use Rattle.cg_run.specs.Outcome.{last_line}
@@ -128,18 +128,19 @@ abbrev pub IsFoundRight : Profile → Limits → Reading → Outcome → List (L
 IsFoundRight profile limits = IsCheckRight
     (WholeOf finding_lines found_outcome (λ bytes es. SnapText profile es bytes)) HasNoParts (IsSnapUnstopped profile limits) (SnapStopOf profile limits)
 
--- By whether what is at fault is left out, and the rest is gone on with.
-abbrev pub IsShowRight : (keep_going : Bool) → Profile → Limits → Reading → Outcome → List (List ℕ) → Type 0
-IsShowRight false = IsSnapshotRight shown_part
-IsShowRight true = IsGoneOnRight shown_told
+-- By whether what is at fault is left out, and the rest is gone on with; and then by whether what is at fault is explained, behind
+-- the line of what is left out, but no line of JSON.
+abbrev pub IsShowRight : (keep_going explain : Bool) → Profile → Limits → Reading → Outcome → List (List ℕ) → Type 0
+IsShowRight false explain = IsSnapshotRight shown_part
+IsShowRight true explain = IsGoneOnRight shown_told explain
 
 abbrev pub IsJsonRight : (keep_going : Bool) → Profile → Limits → Reading → Outcome → List (List ℕ) → Type 0
 IsJsonRight false = IsSnapshotRight json_part
-IsJsonRight true = IsGoneOnRight json_told
+IsJsonRight true = IsGoneOnRight json_told false
 
-abbrev pub IsCheckedRight : (keep_going : Bool) → Profile → Limits → Reading → Outcome → List (List ℕ) → Type 0
-IsCheckedRight false = IsFoundRight
-IsCheckedRight true = IsGoneOnChecked
+abbrev pub IsCheckedRight : (keep_going explain : Bool) → Profile → Limits → Reading → Outcome → List (List ℕ) → Type 0
+IsCheckedRight false explain = IsFoundRight
+IsCheckedRight true explain = IsGoneOnChecked explain
 
 -- A plan: a part for each item, once its record has ended.
 abbrev pub IsPlanRight : (ItemData → List ℕ) → Profile → Limits → Reading → Outcome → List (List ℕ) → Type 0
@@ -148,18 +149,18 @@ IsPlanRight part profile limits = IsStreamRight
     (IsPlanUnstopped profile limits) (PlanStopOf profile limits)
 
 -- The outcome that is right for what was read, with the parts that are written before the last line.
-abbrev pub IsRightOf : (keep_going : Bool) → Profile → Command → Limits → Reading → Outcome → List (List ℕ) → Type 0
-IsRightOf keep_going profile (command.File name) limits r o parts = IsFileRight (read_form_of profile name.items) limits.max_stream r o parts
-IsRightOf keep_going profile (command.Setting name) limits r o parts = IsWriteRight (write_form_of profile name.items) limits.max_stream r o parts
-IsRightOf keep_going profile command.Kinds limits r o parts = IsListRight profile r o parts
-IsRightOf keep_going profile command.Show limits r o parts = IsShowRight keep_going profile limits r o parts
-IsRightOf keep_going profile command.Json limits r o parts = IsJsonRight keep_going profile limits r o parts
-IsRightOf keep_going profile command.Check limits r o parts = IsCheckedRight keep_going profile limits r o parts
-IsRightOf keep_going profile command.Plan limits r o parts = IsPlanRight item_part profile limits r o parts
+abbrev pub IsRightOf : Options → Profile → Command → Limits → Reading → Outcome → List (List ℕ) → Type 0
+IsRightOf options profile (command.File name) limits r o parts = IsFileRight (read_form_of profile name.items) limits.max_stream r o parts
+IsRightOf options profile (command.Setting name) limits r o parts = IsWriteRight (write_form_of profile name.items) limits.max_stream r o parts
+IsRightOf options profile command.Kinds limits r o parts = IsListRight profile r o parts
+IsRightOf options profile command.Show limits r o parts = IsShowRight options.keep_going options.explain profile limits r o parts
+IsRightOf options profile command.Json limits r o parts = IsJsonRight options.keep_going profile limits r o parts
+IsRightOf options profile command.Check limits r o parts = IsCheckedRight options.keep_going options.explain profile limits r o parts
+IsRightOf options profile command.Plan limits r o parts = IsPlanRight item_part profile limits r o parts
 
 -- ... without an option.
 abbrev pub IsRight : Profile → Command → Limits → Reading → Outcome → List (List ℕ) → Type 0
-IsRight = IsRightOf false
+IsRight = IsRightOf (record { explain = false; keep_going = false })
 
 abbrev pub joined : List (List ℕ) → List ℕ
 joined [] = []
@@ -204,24 +205,24 @@ TellsOfForm Tells None r o more = more ≡ []
 TellsOfForm Tells (Some form) r o more = Tells form r o more
 
 abbrev pub TellsOfFile : (explain : Bool) (name : List ℕ) → Option ReadForm → Reading → Outcome → List ℕ → Type 0
-TellsOfFile explain name = TellsOfForm (λ kind. Tells (TextOf (λ text v. KindText kind v text)) (IsInText name) explain)
+TellsOfFile explain name = TellsOfForm (λ kind. Tells (ExplainsNext (TextOf (λ text v. KindText kind v text)) (IsInText name)) explain)
 
 abbrev pub TellsOfWrite : (explain : Bool) (name : List ℕ) → Option WriteForm → Reading → Outcome → List ℕ → Type 0
-TellsOfWrite explain name = TellsOfForm (λ kind. Tells (TextOf (λ text s. WriteText kind s text)) (IsInText name) explain)
+TellsOfWrite explain name = TellsOfForm (λ kind. Tells (ExplainsNext (TextOf (λ text s. WriteText kind s text)) (IsInText name)) explain)
 
--- ... and of a snapshot: nothing where it is gone on with.
-abbrev pub TellsOfSnapshot : (keep_going : Bool) → Profile → (explain : Bool) → Reading → Outcome → List ℕ → Type 0
-TellsOfSnapshot false profile explain r o more = Tells (Snap profile) IsInRecord explain r o more
-TellsOfSnapshot true profile explain r o more = more ≡ []
+-- ... and of a snapshot.
+abbrev pub TellsOfSnapshot : (keep_going : Bool) → Profile → Limits → (explain : Bool) → Reading → Outcome → List ℕ → Type 0
+TellsOfSnapshot false profile limits = Tells (ExplainsNext (Snap profile) IsInRecord)
+TellsOfSnapshot true profile limits = Tells (ExplainsOn profile limits)
 
-abbrev pub TellsOf : Profile → Command → Options → Reading → Outcome → List ℕ → Type 0
-TellsOf profile (command.File name) options r o more = TellsOfFile options.explain name.items (read_form_of profile name.items) r o more
-TellsOf profile (command.Setting name) options r o more = TellsOfWrite options.explain name.items (write_form_of profile name.items) r o more
-TellsOf profile command.Kinds options r o more = more ≡ []
-TellsOf profile command.Show options r o more = TellsOfSnapshot options.keep_going profile options.explain r o more
-TellsOf profile command.Json options r o more = TellsOfSnapshot options.keep_going profile options.explain r o more
-TellsOf profile command.Check options r o more = TellsOfSnapshot options.keep_going profile options.explain r o more
-TellsOf profile command.Plan options r o more = Tells (Plan profile) IsInRecord options.explain r o more
+abbrev pub TellsOf : Profile → Command → Limits → Options → Reading → Outcome → List ℕ → Type 0
+TellsOf profile (command.File name) limits options r o more = TellsOfFile options.explain name.items (read_form_of profile name.items) r o more
+TellsOf profile (command.Setting name) limits options r o more = TellsOfWrite options.explain name.items (write_form_of profile name.items) r o more
+TellsOf profile command.Kinds limits options r o more = more ≡ []
+TellsOf profile command.Show limits options r o more = TellsOfSnapshot options.keep_going profile limits options.explain r o more
+TellsOf profile command.Json limits options r o more = TellsOfSnapshot options.keep_going profile limits options.explain r o more
+TellsOf profile command.Check limits options r o more = TellsOfSnapshot options.keep_going profile limits options.explain r o more
+TellsOf profile command.Plan limits options r o more = Tells (ExplainsNext (Plan profile) IsInRecord) options.explain r o more
 
 -- A whole run of a command.
 abbrev pub Ran : Profile → Command → Limits → Option (List ℕ) → Option (List ℕ) → Bool → Option (List ℕ) → Option (List ℕ) → Bool → Outcome → Type 0
@@ -229,7 +230,7 @@ Ran profile c limits = DidRun (IsRight profile c limits)
 
 -- ... with the options.
 abbrev pub RanWith : Profile → Command → Limits → Options → Option (List ℕ) → Option (List ℕ) → Bool → Option (List ℕ) → Option (List ℕ) → Bool → Outcome → Type 0
-RanWith profile c limits options = DidRunWith (IsRightOf options.keep_going profile c limits) (TellsOf profile c options)
+RanWith profile c limits options = DidRunWith (IsRightOf options profile c limits) (TellsOf profile c limits options)
 
 -- A command that reads nothing and takes no memory: the list of the kinds, and one that names a file without the form.
 abbrev pub IsIdle : Profile → Command → Type 0

@@ -75,9 +75,9 @@ uses_any options = options.explain || options.keep_going
 abbrev pub goes_on : (name : Text) → Bool
 goes_on name = bytes_eq name (codes "show") || (bytes_eq name (codes "json") || bytes_eq name (codes "check"))
 
--- the options go with the command of this word, and with one another: what is gone on with isn't explained
+-- the options go with the command of this word
 abbrev pub is_fit : (name : Text) → Options → Bool
-is_fit name options = not options.keep_going || (goes_on name && not options.explain)
+is_fit name options = not options.keep_going || goes_on name
 
 -- ---- the command
 

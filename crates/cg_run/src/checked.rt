@@ -1,9 +1,9 @@
 //! A run that checks a snapshot: a line for each finding, after the end of input.
-ghost use Rattle.std.specs.Prelude.{◌≡◌, ◌≤◌, ◌+◌, ◌&&◌, ℕ, Bool, false, List, [], ◌∷◌, ◌++◌, Option, IfOk, OnOk, is_some, map};
+ghost use Rattle.std.specs.Prelude.{◌≡◌, ◌≤◌, ◌+◌, ℕ, Bool, false, List, [], ◌∷◌, ◌++◌, Option, IfOk, OnOk, is_some, map};
 ghost use Rattle.std.specs.Io.KnownBytes.{IsAtEnd};
 ghost use Rattle.cg_run.specs.Check.{IsCheckRight, finding_line, word_at};
 ghost use Rattle.cg_run.specs.Checked.{HasWrittenLines};
-ghost use Rattle.cg_run.specs.Explain.{IsInRecord, Tells};
+ghost use Rattle.cg_run.specs.Explain.{Tells};
 ghost use Rattle.cg_run.specs.Lines.{AreBehind};
 ghost use Rattle.cg_run.specs.Run.{DidRunWith, IsRealFault};
 ghost use Rattle.cg_run.specs.Streaming.{Before, EndsSo, HasWritten};
@@ -111,7 +111,7 @@ fn write_findings<K: KeptEntries, W: Sink>(
         AreBehind lines read → Before (K.took kept form) first (W.taken writer.old) written read →
         (left : Option (List ℕ)) (failed : Bool) → IsAtEnd left → failed ≡ false →
         EndsSo (IsCheckRight (K.whole form) (K.closes form) (K.unstopped form) (K.stops form))
-        (Tells (K.language form) IsInRecord (K.explains form && is_some lines))
+        (Tells (K.explained form) (is_some lines))
         read left failed first (W.taken writer.new) (W.has_failed writer.new)
         result }
     ensures real { IsRealFault result (W.has_failed writer.new) }
@@ -159,7 +159,7 @@ pub(crate) fn run_check<K: KeptEntries, R: Source, W: Sink>(
     ensures ran { (form : K.Form) → K.limit form ≡ max → K.took kept form [] [] → R.has_failed reader.old ≡ false →
         AreBehind lines [] →
         DidRunWith (IsCheckRight (K.whole form) (K.closes form) (K.unstopped form) (K.stops form))
-        (Tells (K.language form) IsInRecord (K.explains form && is_some lines))
+        (Tells (K.explained form) (is_some lines))
         (R.coming reader.old) (R.coming reader.new) (R.has_failed reader.new)
         (W.taken writer.old) (W.taken writer.new) (W.has_failed writer.new) result }
     ensures real { IsRealFault result (W.has_failed writer.new) }

@@ -60,7 +60,7 @@ fn append_found(out: &mut Vec<u8>, line: &mut Vec<u8>, what: What) -> Event<()>
 impl StreamReader for EntryReader {
     type Form = (Profile, Limits);
 
-    ghost use Rattle.std.specs.Prelude.{true};
+    ghost use Rattle.cg_run.specs.Explain.{AreNext, ExplainsNext, IsInRecord};
     ghost use Rattle.cg_run.specs.Stood.{HasSnapStood, snap_stood, snap_within};
     ghost use Rattle.cg_run.specs.Entries.{HasTold, told_closed, told_counted, told_offset, told_passed};
     ghost use Rattle.cg_run.specs.Stream.{DoneOf, PartsOf, json_part};
@@ -78,9 +78,11 @@ impl StreamReader for EntryReader {
 
     ghost limit = { λ form. form.1.max_stream };
 
-    ghost language = { λ form. Snap (form.0) };
+    ghost wanted = { λ form. AreNext (Snap (form.0)) };
 
-    ghost explains = { λ form. true };
+    ghost explained = { λ form. ExplainsNext (Snap (form.0)) IsInRecord };
+
+    ghost explains = { λ form p what text h. h };
 
     ghost stood = { λ s form. HasSnapStood s.decoder (form.0) (form.1) };
 

@@ -7,46 +7,17 @@ ghost use Rattle.cg_value.specs.Table.{read_form_of, write_form_of};
 ghost use Rattle.cg_run.specs.Explained.{IsExplained, IsLine};
 ghost use Rattle.cg_run.specs.Spot.{more_words};
 
-use crate::explain::tell_spot;
 use crate::file_reader::FileReader;
 use crate::lines::Lines;
 use crate::reading::{Ending, take_piece};
 use crate::spot::{Spot, text_spot};
+use crate::spot_text::append_spot;
 use crate::text_reader::TextReader;
 use cg_line::SettingReader;
-use cg_print::{Failed, Sink};
 use cg_snap::Stop;
 use cg_text::OutOfMemory;
 use cg_value::{Profile, read_kind, write_kind};
 use std::alloc::Global;
-
-/// A sink that keeps what it takes, and fails where no memory is left.
-#[derive(Drop)]
-struct KeptText {
-    text: Vec<u8>,
-    failed: bool,
-}
-
-impl Sink for KeptText {
-    ghost use Rattle.std.specs.Prelude.{Some};
-
-    ghost taken = { λ s. Some s.text.items };
-
-    ghost has_failed = { λ s. s.failed };
-
-    fn put(&mut self, bytes: &[u8]) -> Result<usize, Failed> {
-        if bytes.is_empty() {
-            return Ok(0);
-        }
-        match self.text.extend_from_slice(bytes) {
-            Ok(()) => Ok(bytes.len()),
-            Err(_) => {
-                self.failed = true;
-                Err(Failed)
-            }
-        }
-    }
-}
 
 /// What is told of bytes, where memory is left for it.
 #[derive(Drop)]
@@ -63,16 +34,12 @@ pub enum Explained {
 fn line_of(alloc: Global, spot: Option<Spot<'_>>) -> Result<Explained, OutOfMemory>
     ensures { IsLine (more_words spot.entry) result }
 {
-    let mut sink = KeptText {
-        text: Vec::new(alloc),
-        failed: false,
-    };
+    let mut text = Vec::new(alloc);
     let Some(spot) = spot else {
-        return Ok(Explained::Line(sink.text));
+        return Ok(Explained::Line(text));
     };
-    let mut written = 0;
-    match tell_spot(&mut sink, &spot, &mut written) {
-        Ok(()) => Ok(Explained::Line(sink.text)),
+    match append_spot(&mut text, &spot) {
+        Ok(()) => Ok(Explained::Line(text)),
         Err(_) => Err(OutOfMemory),
     }
 }

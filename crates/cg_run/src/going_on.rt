@@ -1,21 +1,32 @@
 //! A snapshot of which what is at fault is left out: what is told of its blocks, each as soon as it is known.
-ghost use Rattle.std.specs.Prelude.{◌≡◌, ◌<◌, ◌++◌, [], List, ℕ, true, MatchResult, OnErr, OnOk, is_some, length};
+ghost use Rattle.std.specs.Prelude.{◌≡◌, ◌<◌, ◌∷◌, ◌++◌, [], List, ℕ, Bool, Some, true, MatchResult, OnErr, OnOk, is_some, length};
 ghost use Rattle.std.specs.List.{flat_map};
 ghost use Rattle.cg_value.specs.declared.profile.Profile.{Profile};
+ghost use Rattle.cg_snap.specs.Begun.{IsRecordEnd};
 ghost use Rattle.cg_snap.specs.GoingOn.{Told, told_entry, told_out};
+ghost use Rattle.cg_snap.specs.GoingOnState.{IsBefore};
+ghost use Rattle.cg_snap.specs.Snap.{Snap};
 ghost use Rattle.cg_snap.specs.declared.limits.Limits.{Limits};
+ghost use Rattle.cg_run.specs.Explain.{AreNext, Explains, IsInRecord};
 ghost use Rattle.cg_run.specs.GoneOn.{left_out_of, told_found};
+ghost use Rattle.cg_run.specs.GoneOnReader.{ExplainsOut, IsFaultAt};
+ghost use Rattle.cg_run.specs.Lines.{AreBehind, AreCounted};
 ghost use Rattle.cg_run.specs.Run.{joined};
 
 use crate::kept::Kept;
+use crate::lines::{Lines, lines_behind, lines_of};
+use crate::spot::spot_in;
+use crate::spot_text::append_spot;
 use crate::stream_reader::{KeptEntries, LastPart, StreamReader};
 use crate::teller::{KeepsRuled, Teller, TellsAll};
-use cg_snap::{Event, Found, GoingOnDecoder, LeftOut, Limits, Progress, RecordPlace, StreamFault};
+use cg_snap::{
+    Cause, Event, Fault, Found, GoingOnDecoder, LeftOut, Limits, Progress, RecordPlace, StreamFault,
+};
 use cg_text::{ByteSet, OutOfMemory};
 use cg_value::{Entry, Profile};
 use std::alloc::Global;
 
-/// A reader of a snapshot of which what is at fault is left out. It tells no places.
+/// A reader of a snapshot of which what is at fault is left out.
 #[derive(Drop)]
 pub(crate) struct GoingOnReader<T> {
     decoder: GoingOnDecoder,
@@ -24,6 +35,8 @@ pub(crate) struct GoingOnReader<T> {
     text: Vec<u8>,
     /// How many blocks were left out.
     left_out: u64,
+    /// The lines of what was consumed, if what is left out is explained.
+    lines: Option<Lines>,
 }
 
 /// What the end of the input leaves.
@@ -69,6 +82,51 @@ fn tell_left_out<T: Teller>(
     }
 }
 
+/// Appends the line that explains the byte at fault, which has this place, behind bytes whose lines are counted.
+fn explain_fault(
+    text: &mut Vec<u8>,
+    fault: &Fault,
+    counted: Lines,
+    byte: u8,
+    at: u64,
+) -> Result<(), OutOfMemory>
+    ensures { (profile : Profile) (front block : List ℕ) → IsRecordEnd front → IsBefore fault.now profile block →
+        AreCounted counted (front ++ block) → at ≡ length (front ++ block) → OnOk result
+        ((line : List ℕ) × (text.new.items ≡ text.old.items ++ line)
+        × Explains (λ p set. AreNext (Snap profile) block set) IsInRecord (front ++ block) (Some byte) line) }
+{
+    let spot = spot_in(fault.record_place(), counted, Some(byte), fault.allowed());
+    append_spot(text, &spot)
+}
+
+/// Appends the line that explains what is left out with the byte, if something is, and the lines before it are counted.
+fn explain_left_out(
+    text: &mut Vec<u8>,
+    left_out: &Option<LeftOut>,
+    fault: &Option<Fault>,
+    lines: Option<Lines>,
+    byte: u8,
+) -> Result<(), OutOfMemory>
+    ensures { (profile : Profile) (limits : Limits) (q : List ℕ) → AreBehind lines q →
+        IsFaultAt profile limits q byte left_out.now fault.now → OnOk result
+        ((more : List (List ℕ)) × (text.new.items ≡ text.old.items ++ joined more)
+        × ExplainsOut (is_some lines) profile limits (q ++ byte ∷ []) left_out.now more) }
+{
+    let Some(counted) = lines else {
+        return Ok(());
+    };
+    let Some(left_out) = left_out else {
+        return Ok(());
+    };
+    let Some(fault) = fault else {
+        return Ok(());
+    };
+    let Cause::Refused(_) = left_out.cause else {
+        return Ok(());
+    };
+    explain_fault(text, fault, counted, byte, left_out.at)
+}
+
 /// How many blocks were left out, with this one, if there is one.
 fn counted(before: u64, left_out: &Option<LeftOut>) -> u64
     ensures { (told : List Told) → before ≡ left_out_of told → result ≡ left_out_of (told ++ told_out left_out.now) }
@@ -94,37 +152,52 @@ fn append(out: &mut Vec<u8>, text: &[u8]) -> Result<(), OutOfMemory>
 impl<T: Teller> GoingOnReader<T> {
     ghost use Rattle.cg_run.specs.GoneOnReader.{EndsOnBy, HasEndedOn, HasGoneOn};
 
-    /// A reader that consumed nothing.
+    /// A reader that consumed nothing. It may explain what is left out.
     pub(crate) fn new(
         alloc: Global,
         profile: Profile,
         limits: Limits,
+        explain: bool,
         teller: T,
     ) -> GoingOnReader<T>
         requires { T.keeps teller [] }
-        ensures { HasGoneOn T.parts T.keeps result (profile, limits) [] [] }
+        ensures { HasGoneOn T.parts T.keeps result (profile, limits) explain [] [] }
     {
         GoingOnReader {
             decoder: GoingOnDecoder::new(alloc, profile, limits),
             teller,
             text: Vec::new(alloc),
             left_out: 0,
+            lines: lines_of(explain),
         }
     }
 
-    /// Tells what was found, and appends its text to `out`. After `OutOfMemory` `out` is as before.
-    fn give(&mut self, out: &mut Vec<u8>, found: Found) -> Result<(), OutOfMemory>
-        ensures given { (told : List Told) → T.keeps self.old.teller told → self.old.left_out ≡ left_out_of told →
-            OnOk result ((out.new.items ≡ out.old.items ++ joined (flat_map T.parts (told_found found)))
+    /// Tells what was found with the byte, and appends its text to `out`. The lines before the byte are counted, where
+    /// what is left out is explained. After `OutOfMemory` `out` is as before.
+    fn give(
+        &mut self,
+        out: &mut Vec<u8>,
+        found: Found,
+        lines: Option<Lines>,
+        byte: u8,
+    ) -> Result<(), OutOfMemory>
+        ensures given { (profile : Profile) (limits : Limits) (q : List ℕ) (told : List Told) →
+            T.keeps self.old.teller told → self.old.left_out ≡ left_out_of told → AreBehind lines q →
+            IsFaultAt profile limits q byte found.left_out found.fault → OnOk result
+            ((more : List (List ℕ))
+            × (out.new.items ≡ out.old.items ++ joined (flat_map T.parts (told_found found) ++ more))
+            × ExplainsOut (is_some lines) profile limits (q ++ byte ∷ []) found.left_out more
             × T.keeps self.new.teller (told ++ told_found found)
             × (self.new.left_out ≡ left_out_of (told ++ told_found found))) }
         ensures kept { OnErr result (out.new.items ≡ out.old.items) }
         ensures decoder { self.new.decoder ≡ self.old.decoder }
+        ensures lines { self.new.lines ≡ self.old.lines }
     {
         self.text.clear();
         let left_out = counted(self.left_out, &found.left_out);
         tell_entry(&mut self.teller, &mut self.text, found.entry)?;
         tell_left_out(&mut self.teller, &mut self.text, &found.left_out)?;
+        explain_left_out(&mut self.text, &found.left_out, &found.fault, lines, byte)?;
         append(out, self.text.as_slice())?;
         self.left_out = left_out;
         Ok(())
@@ -132,15 +205,17 @@ impl<T: Teller> GoingOnReader<T> {
 
     /// Tells the entry that the end of the input closes, if it closes one.
     fn end(self) -> Result<Ended<T>, StreamFault>
-        ensures { (form : Profile × Limits) (p : List ℕ) (parts : List (List ℕ)) →
-            HasGoneOn T.parts T.keeps self form p parts → MatchResult result
-            (λ ended. HasEndedOn T.parts T.keeps ended form p parts) (EndsOnBy T.parts T.keeps form p parts) }
+        ensures { (form : Profile × Limits) (explain : Bool) (p : List ℕ) (parts : List (List ℕ)) →
+            HasGoneOn T.parts T.keeps self form explain p parts → MatchResult result
+            (λ ended. HasEndedOn T.parts T.keeps ended form explain p parts)
+            (EndsOnBy T.parts T.keeps form explain p parts) }
     {
         let GoingOnReader {
             decoder,
             mut teller,
             mut text,
             left_out,
+            lines: _,
         } = self;
         let last = match decoder.finish() {
             Ok(last) => last,
@@ -159,62 +234,75 @@ impl<T: Teller> GoingOnReader<T> {
 }
 
 impl<T: Teller> StreamReader for GoingOnReader<T> {
-    type Form = (Profile, Limits);
+    type Form = ((Profile, Limits), bool);
 
-    ghost use Rattle.std.specs.Prelude.{false};
-    ghost use Rattle.cg_snap.specs.GoingOnState.{AreLines};
-    ghost use Rattle.cg_run.specs.GoneOn.{AllOf, GoingStopOf, IsGoingUnstopped, TellsParts};
+    ghost use Rattle.std.proofs.Common.{inl};
+    ghost use Rattle.cg_snap.specs.GoingOn.{IsWanted};
+    ghost use Rattle.cg_run.specs.GoneOn.{AllOf, ExplainsOn, GoingStopOf, IsGoingUnstopped, TellsParts};
     ghost use Rattle.cg_run.specs.GoneOnReader.{HasGoneOn, HasStoodOn, going_closed, going_counted, going_offset, going_passed, going_stands, going_within};
 
-    ghost whole = { λ form. AllOf T.all T.outcome (form.0) (form.1) };
+    ghost whole = { λ form. AllOf T.all T.outcome (form.1) (form.0.0) (form.0.1) };
 
-    ghost closes = { λ form. TellsParts T.parts (form.0) (form.1) };
+    ghost closes = { λ form. TellsParts T.parts (form.1) (form.0.0) (form.0.1) };
 
-    ghost unstopped = { λ form. IsGoingUnstopped (form.1) };
+    ghost unstopped = { λ form. IsGoingUnstopped (form.0.1) };
 
-    ghost stops = { λ form. GoingStopOf (form.1) };
+    ghost stops = { λ form. GoingStopOf (form.0.1) };
 
-    ghost limit = { λ form. form.1.max_stream };
+    ghost limit = { λ form. form.0.1.max_stream };
 
-    ghost language = { λ form. AreLines };
+    ghost wanted = { λ form. IsWanted (form.0.0) (form.0.1) };
 
-    ghost explains = { λ form. false };
+    ghost explained = { λ form. ExplainsOn (form.0.0) (form.0.1) };
+
+    ghost explains = { λ form p what text h. inl h };
 
     ghost offset = { λ s. going_offset s };
 
-    ghost took = { HasGoneOn T.parts T.keeps };
+    ghost took = { λ s form. HasGoneOn T.parts T.keeps s (form.0) (form.1) };
 
-    ghost stood = { λ s form. HasStoodOn s.decoder form };
+    ghost stood = { λ s form. HasStoodOn s.decoder (form.0) };
 
-    ghost stands = { going_stands T.parts T.keeps };
+    ghost stands = { λ s form. going_stands T.parts T.keeps s (form.0) (form.1) };
 
-    ghost within = { λ s form p h. going_within s.decoder form p h };
+    ghost within = { λ s form p h. going_within s.decoder (form.0) p h };
 
-    ghost closed = { going_closed T.parts T.keeps };
+    ghost closed = { λ s form. going_closed T.parts T.keeps s (form.0) (form.1) };
 
-    ghost passed = { going_passed T.parts T.keeps };
+    ghost passed = { λ s form. going_passed T.parts T.keeps s (form.0) (form.1) };
 
-    ghost counted = { going_counted T.parts T.keeps };
+    ghost counted = { λ s form. going_counted T.parts T.keeps s (form.0) (form.1) };
 
     fn next(&mut self, piece: &[u8], out: &mut Vec<u8>) -> Progress<()> {
         let pulled = self.decoder.next(piece);
         let used = pulled.used;
         match pulled.what {
-            Event::NeedMore => Progress {
-                used,
-                what: Event::NeedMore,
-            },
-            Event::Given(found) => match self.give(out, found) {
-                Ok(()) => Progress {
+            Event::NeedMore => {
+                self.lines = lines_behind(self.lines, piece);
+                Progress {
                     used,
-                    what: Event::Given(()),
-                },
-                // The byte that tells it wants the memory.
-                Err(_) => Progress {
-                    used: used - 1,
-                    what: Event::OutOfMemory,
-                },
-            },
+                    what: Event::NeedMore,
+                }
+            }
+            Event::Given(found) => {
+                let (front, _) = piece.split_at(used - 1);
+                let byte = piece[used - 1];
+                let lines = lines_behind(self.lines, front);
+                match self.give(out, found, lines, byte) {
+                    Ok(()) => {
+                        self.lines = lines_behind(lines, &[byte]);
+                        Progress {
+                            used,
+                            what: Event::Given(()),
+                        }
+                    }
+                    // The byte that tells it wants the memory.
+                    Err(_) => Progress {
+                        used: used - 1,
+                        what: Event::OutOfMemory,
+                    },
+                }
+            }
             Event::Stopped(stop) => Progress {
                 used,
                 what: Event::Stopped(stop),
@@ -227,15 +315,15 @@ impl<T: Teller> StreamReader for GoingOnReader<T> {
     }
 
     fn record_place(&self) -> Option<RecordPlace<'_>> {
-        None
+        self.decoder.record_place()
     }
 
     fn allowed(&self) -> ByteSet {
-        self.decoder.allowed()
+        self.decoder.wanted()
     }
 
     fn is_cut(&self) -> bool {
-        false
+        !self.decoder.can_finish()
     }
 
     fn consumed(&self) -> u64 {

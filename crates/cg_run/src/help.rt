@@ -153,6 +153,6 @@ where that is, what came there, and which bytes may come";
 
 pub(crate) const KEEP_GOING: &str = "\
 Of show, json and check: leave out each file with a line that is refused or too
-long, tell it in place, and go on; not with --explain";
+long, tell it in place, and go on";
 
 pub(crate) const NAME: &str = "The file's name alone, without a folder, as `cgfile kinds` lists it";

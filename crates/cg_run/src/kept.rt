@@ -65,7 +65,7 @@ pub(crate) fn keep(entries: &mut Vec<Entry>, entry: Entry) -> Result<(), OutOfMe
 impl StreamReader for KeptReader {
     type Form = (Profile, Limits);
 
-    ghost use Rattle.std.specs.Prelude.{true};
+    ghost use Rattle.cg_run.specs.Explain.{AreNext, ExplainsNext, IsInRecord};
     ghost use Rattle.cg_run.specs.Stood.{HasSnapStood, snap_stood, snap_within};
     ghost use Rattle.cg_run.specs.Check.{HasNoParts, finding_lines, found_outcome};
     ghost use Rattle.cg_run.specs.Stream.{WholeOf};
@@ -83,9 +83,11 @@ impl StreamReader for KeptReader {
 
     ghost limit = { λ form. form.1.max_stream };
 
-    ghost language = { λ form. Snap (form.0) };
+    ghost wanted = { λ form. AreNext (Snap (form.0)) };
 
-    ghost explains = { λ form. true };
+    ghost explained = { λ form. ExplainsNext (Snap (form.0)) IsInRecord };
+
+    ghost explains = { λ form p what text h. h };
 
     ghost stood = { λ s form. HasSnapStood s.decoder (form.0) (form.1) };
 

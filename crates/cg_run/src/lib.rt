@@ -31,6 +31,7 @@ mod shown;
 mod shown_text;
 pub mod source;
 mod spot;
+mod spot_text;
 mod stream_reader;
 mod streaming;
 mod teller;

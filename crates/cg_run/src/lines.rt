@@ -36,6 +36,14 @@ impl Lines {
     }
 }
 
+/// Lines are counted where something is to be explained. No byte came.
+pub(crate) fn lines_of(explain: bool) -> Option<Lines>
+    ensures behind { AreBehind result [] }
+    ensures same { is_some result ≡ explain }
+{
+    if explain { Some(Lines::new()) } else { None }
+}
+
 /// The lines behind more bytes, if they are counted.
 pub(crate) fn lines_behind(lines: Option<Lines>, bytes: &[u8]) -> Option<Lines>
     ensures counted { (p : List ℕ) → AreBehind lines p → AreBehind result (p ++ bytes.now) }

@@ -47,7 +47,7 @@ fn append_found(out: &mut Vec<u8>, what: PlanWhat) -> Event<()>
 impl StreamReader for PlannedReader {
     type Form = (Profile, Limits);
 
-    ghost use Rattle.std.specs.Prelude.{true};
+    ghost use Rattle.cg_run.specs.Explain.{AreNext, ExplainsNext, IsInRecord};
     ghost use Rattle.cg_run.specs.Stood.{HasPlanStood, plan_stood, plan_within};
     ghost use Rattle.cg_run.specs.Planned.{HasPlanned, planned_closed, planned_counted, planned_offset, planned_passed};
     ghost use Rattle.cg_run.specs.Stream.{DoneOf, PartsOf};
@@ -64,9 +64,11 @@ impl StreamReader for PlannedReader {
 
     ghost limit = { λ form. form.1.max_stream };
 
-    ghost language = { λ form. Plan (form.0) };
+    ghost wanted = { λ form. AreNext (Plan (form.0)) };
 
-    ghost explains = { λ form. true };
+    ghost explained = { λ form. ExplainsNext (Plan (form.0)) IsInRecord };
+
+    ghost explains = { λ form p what text h. h };
 
     ghost stood = { λ s form. HasPlanStood s.decoder (form.0) (form.1) };
 

@@ -2,7 +2,7 @@
 ghost use Rattle.std.specs.Prelude.{◌≡◌, ◌≢◌, ◌≤◌, ◌+◌, ℕ, List, [], false, None, is_some, length};
 ghost use Rattle.cg_value.specs.Table.{read_form_of, write_form_of};
 ghost use Rattle.cg_text.specs.Texts.{TextOf};
-ghost use Rattle.cg_run.specs.Explain.{IsInText, Tells};
+ghost use Rattle.cg_run.specs.Explain.{ExplainsNext, IsInText, Tells};
 ghost use Rattle.cg_run.specs.Lines.{AreBehind};
 ghost use Rattle.cg_run.specs.Run.{DidRunWith, Ran, RanWith, IsIdle, IsTextRight, IsFileRight, IsShowRight, IsJsonRight, IsCheckedRight, IsWriteRight, IsRealFault, TellsOfFile, TellsOfSnapshot, TellsOfWrite};
 ghost use Rattle.cg_run.specs.Ended.{HasEnded};
@@ -14,7 +14,7 @@ use crate::file_reader::FileReader;
 use crate::going_on::GoingOnReader;
 use crate::kept::KeptReader;
 use crate::kinds::told_kinds;
-use crate::lines::Lines;
+use crate::lines::{Lines, lines_of};
 use crate::options::Options;
 use crate::outcome::Outcome;
 use crate::planned::PlannedReader;
@@ -75,7 +75,7 @@ fn run_text<T: TextReader, R: Source, W: Sink>(
 ) -> Outcome
     ensures ran { (form : T.Form) → T.took text form [] → R.has_failed reader.old ≡ false → AreBehind lines [] →
         DidRunWith (IsTextRight (T.text form) T.printed max)
-        (Tells (TextOf (T.text form)) (IsInText name.now) (is_some lines))
+        (Tells (ExplainsNext (TextOf (T.text form)) (IsInText name.now)) (is_some lines))
         (R.coming reader.old) (R.coming reader.new) (R.has_failed reader.new)
         (W.taken writer.old) (W.taken writer.new) (W.has_failed writer.new) result }
     ensures real { IsRealFault result (W.has_failed writer.new) }
@@ -176,7 +176,8 @@ fn run_show<R: Source, W: Sink>(
     lines: Option<Lines>,
 ) -> Outcome
     ensures ran { R.has_failed reader.old ≡ false → AreBehind lines [] →
-        DidRunWith (IsShowRight keep_going profile limits) (TellsOfSnapshot keep_going profile (is_some lines))
+        DidRunWith (IsShowRight keep_going (is_some lines) profile limits)
+        (TellsOfSnapshot keep_going profile limits (is_some lines))
         (R.coming reader.old) (R.coming reader.new) (R.has_failed reader.new)
         (W.taken writer.old) (W.taken writer.new) (W.has_failed writer.new) result }
     ensures real { IsRealFault result (W.has_failed writer.new) }
@@ -184,8 +185,8 @@ fn run_show<R: Source, W: Sink>(
 {
     let max = limits.max_stream;
     if keep_going {
-        let entries = GoingOnReader::new(alloc, profile, limits, ShownTeller);
-        return run_stream(alloc, entries, reader, writer, None, max);
+        let entries = GoingOnReader::new(alloc, profile, limits, lines.is_some(), ShownTeller);
+        return run_stream(alloc, entries, reader, writer, lines, max);
     }
     let entries = ShownReader::new(alloc, profile, limits);
     run_stream(alloc, entries, reader, writer, lines, max)
@@ -203,7 +204,8 @@ fn run_json<R: Source, W: Sink>(
     lines: Option<Lines>,
 ) -> Outcome
     ensures ran { R.has_failed reader.old ≡ false → AreBehind lines [] →
-        DidRunWith (IsJsonRight keep_going profile limits) (TellsOfSnapshot keep_going profile (is_some lines))
+        DidRunWith (IsJsonRight keep_going profile limits)
+        (TellsOfSnapshot keep_going profile limits (is_some lines))
         (R.coming reader.old) (R.coming reader.new) (R.has_failed reader.new)
         (W.taken writer.old) (W.taken writer.new) (W.has_failed writer.new) result }
     ensures real { IsRealFault result (W.has_failed writer.new) }
@@ -211,8 +213,8 @@ fn run_json<R: Source, W: Sink>(
 {
     let max = limits.max_stream;
     if keep_going {
-        let entries = GoingOnReader::new(alloc, profile, limits, JsonTeller);
-        return run_stream(alloc, entries, reader, writer, None, max);
+        let entries = GoingOnReader::new(alloc, profile, limits, false, JsonTeller);
+        return run_stream(alloc, entries, reader, writer, lines, max);
     }
     let entries = EntryReader::new(alloc, profile, limits);
     run_stream(alloc, entries, reader, writer, lines, max)
@@ -230,7 +232,8 @@ fn run_checked<R: Source, W: Sink>(
     lines: Option<Lines>,
 ) -> Outcome
     ensures ran { R.has_failed reader.old ≡ false → AreBehind lines [] →
-        DidRunWith (IsCheckedRight keep_going profile limits) (TellsOfSnapshot keep_going profile (is_some lines))
+        DidRunWith (IsCheckedRight keep_going (is_some lines) profile limits)
+        (TellsOfSnapshot keep_going profile limits (is_some lines))
         (R.coming reader.old) (R.coming reader.new) (R.has_failed reader.new)
         (W.taken writer.old) (W.taken writer.new) (W.has_failed writer.new) result }
     ensures real { IsRealFault result (W.has_failed writer.new) }
@@ -238,28 +241,17 @@ fn run_checked<R: Source, W: Sink>(
 {
     let max = limits.max_stream;
     if keep_going {
-        let kept = GoingOnReader::new(alloc, profile, limits, KeptTeller::new(alloc));
-        return run_check(alloc, kept, reader, writer, None, max);
+        let teller = KeptTeller::new(alloc);
+        let kept = GoingOnReader::new(alloc, profile, limits, lines.is_some(), teller);
+        return run_check(alloc, kept, reader, writer, lines, max);
     }
     let kept = KeptReader::new(alloc, profile, limits);
     run_check(alloc, kept, reader, writer, lines, max)
 }
 
-/// Lines are counted where a stop is to be explained.
-fn lines_of(options: Options) -> Option<Lines>
-    ensures behind { AreBehind result [] }
-    ensures same { is_some result ≡ options.explain }
-{
-    if options.explain {
-        Some(Lines::new())
-    } else {
-        None
-    }
-}
-
 /// Runs a command with the options: reads from the source by pieces, and writes to the sink.
 ///
-/// Only of a snapshot something is left out, and then no stop is explained.
+/// Only of a snapshot something is left out. Each block that is left out is explained too, but not in JSON.
 #[tactic(auto, using(crate::proofs::RunLemmas::wrote_real))]
 pub fn run_with<R: Source, W: Sink>(
     alloc: Global,
@@ -279,7 +271,7 @@ pub fn run_with<R: Source, W: Sink>(
     ensures no_memory { IsIdle profile command.now → result ≢ Outcome.OutOfMemory }
 {
     let max = limits.max_stream;
-    let lines = lines_of(options);
+    let lines = lines_of(options.explain);
     let keep_going = options.keep_going;
     match command {
         Command::File { name } => run_file(

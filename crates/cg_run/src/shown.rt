@@ -81,7 +81,7 @@ impl ShownReader {
 impl StreamReader for ShownReader {
     type Form = (Profile, Limits);
 
-    ghost use Rattle.std.specs.Prelude.{true};
+    ghost use Rattle.cg_run.specs.Explain.{AreNext, ExplainsNext, IsInRecord};
     ghost use Rattle.cg_run.specs.Stood.{HasSnapStood, snap_stood, snap_within};
     ghost use Rattle.cg_run.specs.Shown.{HasShown, shown_closed, shown_counted, shown_offset, shown_passed};
     ghost use Rattle.cg_run.specs.Stream.{DoneOf, PartsOf, shown_part};
@@ -99,9 +99,11 @@ impl StreamReader for ShownReader {
 
     ghost limit = { λ form. form.1.max_stream };
 
-    ghost language = { λ form. Snap (form.0) };
+    ghost wanted = { λ form. AreNext (Snap (form.0)) };
 
-    ghost explains = { λ form. true };
+    ghost explained = { λ form. ExplainsNext (Snap (form.0)) IsInRecord };
+
+    ghost explains = { λ form p what text h. h };
 
     ghost stood = { λ s form. HasSnapStood s.decoder (form.0) (form.1) };
 

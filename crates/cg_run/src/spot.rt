@@ -1,9 +1,10 @@
 //! Where a stop is, what came there, and what may come.
-ghost use Rattle.std.specs.Prelude.{◌≡◌, ◌≤◌, ◌<◌, ◌&&◌, ℕ, List, Some, is_some, length, slice_index_or};
+ghost use Rattle.std.specs.Prelude.{◌≡◌, ◌≤◌, ◌<◌, ℕ, List, Some, is_some, length, slice_index_or};
 ghost use Rattle.cg_text.specs.Texts.{TextOf};
-ghost use Rattle.cg_run.specs.Explain.{IsInRecord, IsInText, TellsSpot};
-ghost use Rattle.cg_run.specs.Lines.{AreBehind};
-ghost use Rattle.cg_run.specs.Spot.{before_in, is_explained, more_words};
+ghost use Rattle.cg_snap.specs.RecordPlace.{IsRecordPlace};
+ghost use Rattle.cg_run.specs.Explain.{Explains, ExplainsNext, IsInRecord, IsInText, TellsSpot};
+ghost use Rattle.cg_run.specs.Lines.{AreBehind, AreCounted};
+ghost use Rattle.cg_run.specs.Spot.{before_in, is_explained, more_words, spot_words};
 
 use crate::lines::Lines;
 use crate::stream_reader::StreamReader;
@@ -52,6 +53,27 @@ fn before_in(place: RecordPlace<'_>, begun: u64) -> u64
     }
 }
 
+/// Where the byte stands of a record that is at this place, behind bytes whose lines are counted.
+pub(crate) fn spot_in(
+    place: RecordPlace<'_>,
+    counted: Lines,
+    byte: Option<u8>,
+    wanted: ByteSet,
+) -> Spot<'_>
+    ensures { (p : List ℕ) → AreCounted counted p → length p ≤ 18446744073709551615 →
+        IsRecordPlace p place.entry.path.now place.entry.in_line →
+        Explains (λ q set. set ≡ wanted) IsInRecord p byte (spot_words result) }
+{
+    Spot {
+        ended: counted.ended,
+        path: place.path,
+        in_path: !place.in_line,
+        before: before_in(place, counted.begun),
+        byte,
+        wanted,
+    }
+}
+
 /// Where a stream stops, if lines are counted and the stop is explained.
 pub(crate) fn stream_spot<S: StreamReader>(
     stream: &S,
@@ -61,7 +83,7 @@ pub(crate) fn stream_spot<S: StreamReader>(
 ) -> Option<Spot<'_>>
     ensures { (form : S.Form) (p : List ℕ) → S.stood stream.now form p → length p ≤ 18446744073709551615 →
         AreBehind lines p →
-        TellsSpot (S.language form) IsInRecord (S.explains form && is_some lines) p byte stop (more_words result) }
+        TellsSpot (S.explained form) (is_some lines) p byte stop (more_words result) }
 {
     let Some(counted) = lines else {
         return None;
@@ -72,14 +94,7 @@ pub(crate) fn stream_spot<S: StreamReader>(
     let Some(place) = stream.record_place() else {
         return None;
     };
-    Some(Spot {
-        ended: counted.ended,
-        path: place.path,
-        in_path: !place.in_line,
-        before: before_in(place, counted.begun),
-        byte,
-        wanted: stream.allowed(),
-    })
+    Some(spot_in(place, counted, byte, stream.allowed()))
 }
 
 /// Where the text of a file of this name stops, if lines are counted and the stop is explained.
@@ -92,7 +107,8 @@ pub(crate) fn text_spot<'a, T: TextReader>(
 ) -> Option<Spot<'a>>
     ensures { (form : T.Form) (p : List ℕ) → T.took text.now form p → length p ≤ 18446744073709551615 →
         AreBehind lines p →
-        TellsSpot (TextOf (T.text form)) (IsInText name.now) (is_some lines) p byte stop (more_words result) }
+        TellsSpot (ExplainsNext (TextOf (T.text form)) (IsInText name.now)) (is_some lines) p byte stop
+        (more_words result) }
 {
     let Some(counted) = lines else {
         return None;

@@ -1,10 +1,9 @@
 //! What reads a stream, and appends the text of each of its parts.
-ghost use Rattle.std.specs.Prelude.{◌≡◌, ◌≤◌, ◌↔◌, ℕ, Bool, true, false, List, MatchBool, MatchOption, MatchResult, length};
-ghost use Rattle.cg_text.specs.Bytes.{HasByte};
-ghost use Rattle.cg_text.specs.Texts.{Next};
+ghost use Rattle.std.specs.Prelude.{◌≡◌, ◌≤◌, ℕ, Bool, List, [], Option, MatchBool, MatchOption, MatchResult, length};
 ghost use Rattle.cg_snap.specs.RecordPlace.{IsRecordPlace};
 ghost use Rattle.cg_snap.specs.declared.stop.Stop.{Stop};
 ghost use Rattle.cg_run.specs.Checked.{IsKept};
+ghost use Rattle.cg_run.specs.Explain.{Explains, IsInRecord};
 ghost use Rattle.cg_run.specs.Streaming.{EndIs, FoundIs, HasNoWhole, HasWhole, IsEndFault, IsFoundBy, StandsBehind};
 ghost use Rattle.cg_run.specs.declared.outcome.Outcome.{Outcome};
 
@@ -32,11 +31,11 @@ pub(crate) trait StreamReader: Drop {
     // How many bytes a stream may have.
     ghost limit: { Self.Form → ℕ };
 
-    // The texts of whole streams.
-    ghost language: { Self.Form → List ℕ → Type 0 };
+    // Which set of bytes may come behind some bytes.
+    ghost wanted: { Self.Form → List ℕ → List Bool → Type 0 };
 
-    // Whether the reader tells where the record stands that comes.
-    ghost explains: { Self.Form → Bool };
+    // Which line explains what came behind some bytes.
+    ghost explained: { Self.Form → List ℕ → Option ℕ → List ℕ → Type 0 };
 
     // How many bytes were consumed.
     ghost offset: { Self → ℕ };
@@ -59,24 +58,27 @@ pub(crate) trait StreamReader: Drop {
         ensures used { result.used ≤ length piece.now }
         ensures progress { IsFoundBy (length piece.now) result.used result.what };
 
-    /// The path of the record that comes, and whether its NUL came; none of a reader that doesn't tell it.
+    /// The path of the record that comes, and whether its NUL came; none where it isn't held, and nothing is explained.
     fn record_place(&self) -> Option<RecordPlace<'_>>
         ensures { (form : Self.Form) (p : List ℕ) → stood self.now form p → MatchOption result
-            (explains form ≡ false) (λ place. (explains form ≡ true) × IsRecordPlace p place.path.now place.in_line) };
+            ((what : Option ℕ) → explained form p what []) (λ place. IsRecordPlace p place.path.now place.in_line) };
 
-    /// The bytes with which some stream goes on.
+    /// The bytes that may come.
     fn allowed(&self) -> ByteSet
-        ensures { (form : Self.Form) (p : List ℕ) → stood self.now form p →
-            (byte : ℕ) → HasByte result byte ↔ Next (language form) p byte };
+        ensures { (form : Self.Form) (p : List ℕ) → stood self.now form p → wanted form p result };
 
-    /// Whether what was consumed ends within a record. A reader that doesn't tell where that stands leaves it to the end.
+    /// Whether what was consumed ends within a record.
     fn is_cut(&self) -> bool
-        ensures { (form : Self.Form) (p : List ℕ) → stood self.now form p → MatchBool result (HasNoWhole (whole form) p)
-            (explains form ≡ true → HasWhole (whole form) p) };
+        ensures { (form : Self.Form) (p : List ℕ) (parts : List (List ℕ)) → took self.now form p parts →
+            MatchBool result (HasNoWhole (whole form) p) (HasWhole (whole form) p) };
 
     /// How many bytes were consumed.
     fn consumed(&self) -> u64
         ensures { (form : Self.Form) (p : List ℕ) → stood self.now form p → result ≡ length p };
+
+    /// Where the record stands, and the bytes that may come, are told by the line.
+    ghost explains: { (form : Self.Form) (p : List ℕ) (what : Option ℕ) (text : List ℕ) →
+        Explains (wanted form) IsInRecord p what text → explained form p what text };
 
     /// A reader stands behind what it consumed.
     ghost stands: { (s : Self) (form : Self.Form) (p : List ℕ) (parts : List (List ℕ)) → took s form p parts →

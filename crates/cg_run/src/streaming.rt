@@ -1,8 +1,8 @@
 //! A run over a stream: the parts that a piece of the input gives are written before the next piece is asked for, and
 //! nothing is held but these and the present part.
-ghost use Rattle.std.specs.Prelude.{◌≡◌, ◌≤◌, ◌+◌, ◌&&◌, ℕ, Bool, false, List, [], ◌++◌, Option, MatchResult, IfErr, OnOk, is_some};
+ghost use Rattle.std.specs.Prelude.{◌≡◌, ◌≤◌, ◌+◌, ℕ, Bool, false, List, [], ◌++◌, Option, MatchResult, IfErr, OnOk, is_some};
 ghost use Rattle.std.specs.Io.KnownBytes.{IsAtEnd};
-ghost use Rattle.cg_run.specs.Explain.{IsInRecord, Tells};
+ghost use Rattle.cg_run.specs.Explain.{Tells};
 ghost use Rattle.cg_run.specs.Lines.{AreBehind};
 ghost use Rattle.cg_run.specs.Run.{DidRunWith, IsRealFault};
 ghost use Rattle.cg_run.specs.Stream.{IsEarlyRight, IsStreamRight};
@@ -36,7 +36,7 @@ fn take_parts<S: StreamReader, W: Sink>(
         (λ _. Before (S.took stream.new form) first (W.taken writer.new) output.new.written (read ++ piece.now))
         (λ o. AreBehind lines read → (left : Option (List ℕ)) (failed : Bool) →
         EndsSo (IsEarlyRight (S.whole form) (S.closes form) (S.unstopped form) (S.stops form))
-        (Tells (S.language form) IsInRecord (S.explains form && is_some lines))
+        (Tells (S.explained form) (is_some lines))
         (read ++ piece.now) left failed first (W.taken writer.new) (W.has_failed writer.new) o) }
     ensures none { OnOk result (output.new.text.items ≡ []) }
     ensures real { IfErr result (λ o. IsRealFault o (W.has_failed writer.new)) }
@@ -72,7 +72,7 @@ fn write_end<S: LastPart, W: Sink>(
         AreBehind lines read → BeforeNext (S.took stream form) first (W.taken writer.old) output.old read →
         (left : Option (List ℕ)) (failed : Bool) → IsAtEnd left → failed ≡ false →
         EndsSo (IsStreamRight (S.whole form) (S.closes form) (S.unstopped form) (S.stops form))
-        (Tells (S.language form) IsInRecord (S.explains form && is_some lines))
+        (Tells (S.explained form) (is_some lines))
         read left failed first (W.taken writer.new) (W.has_failed writer.new) result }
     ensures real { IsRealFault result (W.has_failed writer.new) }
 {
@@ -104,7 +104,7 @@ pub(crate) fn read_stream<S: StreamReader, R: Source, W: Sink>(
     ensures read { (form : S.Form) → S.limit form ≡ max → S.took stream.old form [] [] →
         R.has_failed reader.old ≡ false → AreBehind lines.old [] →
         StreamedIs (S.took stream.new form) (IsEarlyRight (S.whole form) (S.closes form) (S.unstopped form)
-        (S.stops form)) (Tells (S.language form) IsInRecord (S.explains form && is_some lines.old))
+        (S.stops form)) (Tells (S.explained form) (is_some lines.old))
         (R.coming reader.old) (R.coming reader.new) (R.has_failed reader.new)
         (W.taken writer.old) (W.taken writer.new) (W.has_failed writer.new) lines.new result }
     ensures same { is_some lines.new ≡ is_some lines.old }
@@ -140,7 +140,7 @@ pub(crate) fn run_stream<S: LastPart, R: Source, W: Sink>(
     ensures ran { (form : S.Form) → S.limit form ≡ max → S.took stream form [] [] → R.has_failed reader.old ≡ false →
         AreBehind lines [] →
         DidRunWith (IsStreamRight (S.whole form) (S.closes form) (S.unstopped form) (S.stops form))
-        (Tells (S.language form) IsInRecord (S.explains form && is_some lines))
+        (Tells (S.explained form) (is_some lines))
         (R.coming reader.old) (R.coming reader.new) (R.has_failed reader.new)
         (W.taken writer.old) (W.taken writer.new) (W.has_failed writer.new) result }
     ensures real { IsRealFault result (W.has_failed writer.new) }

@@ -6,7 +6,7 @@ ghost use Rattle.cg_value.specs.Entry.{EntryData};
 ghost use Rattle.cg_snap.specs.GoingOn.{Told};
 ghost use Rattle.cg_tree.specs.Ruled.{ruled};
 ghost use Rattle.cg_run.specs.Check.{finding_lines};
-ghost use Rattle.cg_run.specs.GoneOn.{checked_outcome, entries_of, told_outcome};
+ghost use Rattle.cg_run.specs.GoneOn.{Telling, checked_outcome, entries_of, explained_part, told_of, told_outcome};
 ghost use Rattle.cg_run.specs.Run.{joined};
 ghost use Rattle.cg_run.specs.declared.outcome.Outcome.{Outcome};
 
@@ -24,7 +24,7 @@ pub(crate) trait Teller: Drop {
     ghost parts: { Told → List (List ℕ) };
 
     // The parts of a whole stream of which this is told, and how a run over it ends.
-    ghost all: { List Told → List (List ℕ) };
+    ghost all: { List Telling → List (List ℕ) };
 
     ghost outcome: { List Told → Outcome };
 
@@ -46,7 +46,7 @@ pub(crate) trait Teller: Drop {
 
 /// What makes the text of all that is told, and keeps nothing for the end.
 pub(crate) trait TellsAll: Teller {
-    ghost no_more: { (told : List Told) → Self.all told ≡ flat_map Self.parts told };
+    ghost no_more: { (ts : List Telling) → Self.all ts ≡ flat_map (explained_part Self.parts) ts };
 
     ghost some: { (e : EntryData) → Self.parts (inl e) ≢ [] };
 
@@ -59,8 +59,8 @@ pub(crate) trait KeepsRuled: Teller {
     fn into_entries(self) -> Vec<Entry>
         ensures { (told : List Told) → Self.keeps self told → result.items ≡ ruled (entries_of told) };
 
-    ghost lines: { (told : List Told) →
-        Self.all told ≡ flat_map Self.parts told ++ finding_lines (entries_of told) };
+    ghost lines: { (ts : List Telling) →
+        Self.all ts ≡ flat_map (explained_part Self.parts) ts ++ finding_lines (entries_of (told_of ts)) };
 
     ghost ends: { (told : List Told) → Self.outcome told ≡ checked_outcome told };
 
@@ -76,7 +76,7 @@ impl Teller for ShownTeller {
 
     ghost parts = { shown_told };
 
-    ghost all = { λ told. flat_map shown_told told };
+    ghost all = { λ ts. flat_map (explained_part shown_told) ts };
 
     ghost outcome = { told_outcome };
 
@@ -113,7 +113,7 @@ impl Teller for JsonTeller {
 
     ghost parts = { json_told };
 
-    ghost all = { λ told. flat_map json_told told };
+    ghost all = { λ ts. flat_map (explained_part json_told) ts };
 
     ghost outcome = { told_outcome };
 

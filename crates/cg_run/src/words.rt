@@ -211,11 +211,11 @@ fn goes_on(name: &str) -> bool
     name == "show" || name == "json" || name == "check"
 }
 
-/// Whether the options go with the command of this word, and with one another.
+/// Whether the options go with the command of this word.
 fn is_fit(name: &str, options: Options) -> bool
     ensures { result ≡ is_fit name.now options }
 {
-    !options.keep_going || (goes_on(name) && !options.explain)
+    !options.keep_going || goes_on(name)
 }
 
 /// The text that `clap` has for the user. `clap` doesn't promise that it isn't empty: where it is, what the program is

@@ -10,7 +10,7 @@ use Rattle.cg_value.specs.Records.{records}
 use Rattle.cg_value.specs.declared.profile.Profile.{Profile}
 use Rattle.cg_snap.specs.Closed.{Closed, EndsOther}
 use Rattle.cg_snap.specs.Begun.{IsBegun, IsRecordEnd}
-use Rattle.cg_snap.specs.DecoderState.{AtLine, AtPath, AtStart}
+use Rattle.cg_snap.specs.DecoderState.{HasConsumedInLine, HasConsumedInPath, HasConsumedAPath}
 use Rattle.cg_snap.specs.Snap.{SnapText}
 use Rattle.cg_snap.specs.declared.present.Present.{Present}
 use Rattle.cg_snap.proofs.Refusals.{line_start, records_start}
@@ -28,7 +28,7 @@ end_text g r t s e = rw e (append_assoc g r t)
 pub nul_plain : (q l : List ℕ) → IsPath q → Lacks 10 l → Lacks 10 (q ++ 0 ∷ l)
 nul_plain q l g n = lacks_both 10 q (0 ∷ l) (path_lacks_newline q g) ((λ e. absurd (cc)), n)
 
-pub start_begun : (begun p : List ℕ) (es : List EntryData) → AtStart begun p es → IsBegun p begun
+pub start_begun : (begun p : List ℕ) (es : List EntryData) → HasConsumedAPath begun p es → IsBegun p begun
 start_begun begun p es h = record { front = []; split = h.bytes; ended = inl refl; plain = bytes_no_newline begun h.begun_path }
 
 module _ (profile : Profile) where
@@ -45,15 +45,15 @@ module _ (profile : Profile) where
     plain = n;
   }
 
-  pub path_begun : (begun : List ℕ) (x : Present) (p : List ℕ) (es : List EntryData) → AtPath profile begun x p es → IsBegun p begun
+  pub path_begun : (begun : List ℕ) (x : Present) (p : List ℕ) (es : List EntryData) → HasConsumedInPath profile begun x p es → IsBegun p begun
   path_begun begun x p es h = begun_after es h.given x.path.items h.lines p begun h.entries h.split (bytes_no_newline begun h.begun_path)
 
-  pub line_begun : (begun : List ℕ) (x : Present) (p : List ℕ) (es : List EntryData) (h : AtLine profile begun x p es) → IsBegun p (x.path.items ++ 0 ∷ h.line)
+  pub line_begun : (begun : List ℕ) (x : Present) (p : List ℕ) (es : List EntryData) (h : HasConsumedInLine profile begun x p es) → IsBegun p (x.path.items ++ 0 ∷ h.line)
   line_begun begun x p es h = begun_after es h.given x.path.items h.lines p (x.path.items ++ 0 ∷ h.line) h.entries h.split (nul_plain x.path.items h.line h.good h.plain_line)
 
   -- ---- Closed
 
-  abbrev pub start_closed : (begun p : List ℕ) (es : List EntryData) → AtStart begun p es → Closed profile p es
+  abbrev pub start_closed : (begun p : List ℕ) (es : List EntryData) → HasConsumedAPath begun p es → Closed profile p es
   start_closed begun p es h =
       let o = other_path profile [] [] tt in
       record {
@@ -68,7 +68,7 @@ module _ (profile : Profile) where
         other = rw h.none tt;
       }
 
-  abbrev pub path_closed : (begun : List ℕ) (x : Present) (p : List ℕ) (es : List EntryData) → AtPath profile begun x p es → Closed profile p es
+  abbrev pub path_closed : (begun : List ℕ) (x : Present) (p : List ℕ) (es : List EntryData) → HasConsumedInPath profile begun x p es → Closed profile p es
   path_closed begun x p es h = record {
     given = h.given;
     present = records x.path.items h.lines ++ begun;
@@ -97,5 +97,5 @@ module _ (profile : Profile) where
     other = o;
   }
 
-  abbrev pub line_closed : (begun : List ℕ) (x : Present) (p : List ℕ) (es : List EntryData) → AtLine profile begun x p es → Closed profile p es
+  abbrev pub line_closed : (begun : List ℕ) (x : Present) (p : List ℕ) (es : List EntryData) → HasConsumedInLine profile begun x p es → Closed profile p es
   line_closed begun x p es h = nul_closed es h.given x.path.items h.lines h.line p h.entries h.other h.good h.plain h.plain_line h.split

@@ -2,7 +2,7 @@
 use Rattle.std.proofs.Common.{◌≡◌, ℕ, ◌+◌, ◌<◌, ◌≤◌, ◌-◌, List, [], ◌∷◌, ◌++◌, length, take, drop, get_or, refl, sym, ap, subst, ◌∙◌, append_assoc, arith, Bool, true, false, Some, inl, inr}
 use Rattle.std.proofs.lemmas.List.{append-nil, drop-take, get_or-drop, get_or-take, length-append, length-drop, length-take, length-take-le, take_more, take-take, take-append-drop}
 use Rattle.cg_text.specs.Texts.{Lacks, Next, Viable}
-use Rattle.cg_snap.specs.Course.{Advances, AreFew, AreOfRecord, FullIs, GoesForward, HoldsBack, IsAlong, IsMovedBy, Leaves, PieceDid, RefusedBy, Stream}
+use Rattle.cg_snap.specs.Course.{Advances, AreFew, AreOfRecord, FullIs, GoesForward, HoldsBack, HasProgressed, IsMovedBy, Leaves, PieceDid, RefusedBy, Stream}
 use Rattle.cg_snap.specs.Meter.{IsCounted, LimitIs}
 use Rattle.cg_snap.specs.Stop.{place_of}
 use Rattle.cg_snap.specs.StreamStop.{IsFree, IsStreamUnstopped, StreamStopOf}
@@ -89,16 +89,16 @@ module _ (L : List ℕ → Type 0) (Breaks : List ℕ → ℕ → Why → Type 0
 
 module _ {S Part : Type 0} (stream : Stream S Part) (closed : (s : S) (p : List ℕ) (es : List Part) → stream.at s p es → stream.closes p es)
     (goes_on : (s : S) (p : List ℕ) (es : List Part) → stream.at s p es → Viable stream.language p) where
-  abbrev Along : S → Meter → List ℕ → List Part → Type 0
-  Along = IsAlong stream
+  abbrev Progressed : S → Meter → List ℕ → List Part → Type 0
+  Progressed = HasProgressed stream
 
   -- Before any byte.
-  pub fresh : (s : S) (m : Meter) → stream.at s [] [] → IsCounted m [] → Along s m [] []
+  pub fresh : (s : S) (m : Meter) → stream.at s [] [] → IsCounted m [] → Progressed s m [] []
   fresh s m a n = record { state = a; counted = n; unstopped = λ k within. absurd (omega (arith, within)); closed = closed s [] [] a }
 
   -- After a run.
   pub ran : (s : S) (old new : Meter) (p q : List ℕ) (es : List Part) → stream.at s (p ++ q) es → IsCounted old p → IsCounted new (p ++ q) → new.limits ≡ old.limits → IsStreamUnstopped stream.language stream.breaks stream.many old.limits p → Lacks 10 q → AreFew (stream.many old.limits.max_lines) p q →
-      length q ≤ old.limits.max_record - old.record_len → length q ≤ old.limits.max_stream - old.offset → Along s new (p ++ q) es
+      length q ≤ old.limits.max_record - old.record_len → length q ≤ old.limits.max_stream - old.offset → Progressed s new (p ++ q) es
   ran s old new p [] es a h n li u plain few long far = record { state = a; counted = n; unstopped = rw (li, append-nil p) u; closed = closed s (p ++ []) es a }
   ran s old new p (b ∷ q) es a h n li u plain few long far = record {
     state = a;
@@ -109,7 +109,7 @@ module _ {S Part : Type 0} (stream : Stream S Part) (closed : (s : S) (p : List 
 
   -- After what comes of a line, with its newline.
   pub ran_line : (s : S) (old new : Meter) (p q line : List ℕ) (es : List Part) → q ≡ line ++ 10 ∷ [] → stream.at s (p ++ q) es → IsCounted old p → IsCounted new (p ++ q) → new.limits ≡ old.limits → IsStreamUnstopped stream.language stream.breaks stream.many old.limits p →
-      Lacks 10 line → AreFew (stream.many old.limits.max_lines) p q → length q ≤ old.limits.max_record - old.record_len → length q ≤ old.limits.max_stream - old.offset → Along s new (p ++ q) es
+      Lacks 10 line → AreFew (stream.many old.limits.max_lines) p q → length q ≤ old.limits.max_record - old.record_len → length q ≤ old.limits.max_stream - old.offset → Progressed s new (p ++ q) es
   ran_line s old new p q line es e a h n li u plain few long far =
       let size : length q ≡ length line + 1 = ap length e ∙ length-append line (10 ∷ []) in
       record {
@@ -122,7 +122,7 @@ module _ {S Part : Type 0} (stream : Stream S Part) (closed : (s : S) (p : List 
   -- After bytes of a record.
   ran_part : (s : S) (old new : Meter) (p q : List ℕ) (es : List Part) → AreOfRecord q → stream.at s (p ++ q) es → IsCounted old p → IsCounted new (p ++ q) → new.limits ≡ old.limits →
       IsStreamUnstopped stream.language stream.breaks stream.many old.limits p → AreFew (stream.many old.limits.max_lines) p q →
-      length q ≤ old.limits.max_record - old.record_len → length q ≤ old.limits.max_stream - old.offset → Along s new (p ++ q) es
+      length q ≤ old.limits.max_record - old.record_len → length q ≤ old.limits.max_stream - old.offset → Progressed s new (p ++ q) es
   ran_part s old new p q es (inl plain) a h n li u few long far = ran s old new p q es a h n li u plain few long far
   ran_part s old new p q es (inr l) a h n li u few long far = ran_line s old new p q l.0 es l.1 a h n li u l.2 few long far
 
@@ -143,7 +143,7 @@ module _ {S Part : Type 0} (stream : Stream S Part) (closed : (s : S) (p : List 
     size : length (take used front) ≡ used
     size = length-take-le used front within
 
-    taken_along : (fs : List Part) → stream.at s (p ++ take used front) fs → Along s new (p ++ take used front) fs
+    taken_along : (fs : List Part) → stream.at s (p ++ take used front) fs → Progressed s new (p ++ take used front) fs
     taken_along fs a = ran_part s old new p (take used front) fs part a h n li u few (omega (arith, size, within, long)) (omega (arith, size, within, far))
 
     room_left : used < length front → new.record_len < new.limits.max_record
@@ -169,8 +169,8 @@ module _ {S Part : Type 0} (stream : Stream S Part) (closed : (s : S) (p : List 
 
 module _ {S Part : Type 0} (stream : Stream S Part) where
   -- What stands after a text stands after it in other words.
-  pub along_of : (s : S) (m : Meter) (t u : List ℕ) (es : List Part) → t ≡ u → IsAlong stream s m t es → IsAlong stream s m u es
-  along_of s m t u es e h = subst (λ (w : List ℕ). IsAlong stream s m w es) e h
+  pub along_of : (s : S) (m : Meter) (t u : List ℕ) (es : List Part) → t ≡ u → HasProgressed stream s m t es → HasProgressed stream s m u es
+  along_of s m t u es e h = subst (λ (w : List ℕ). HasProgressed stream s m w es) e h
 
   -- What the front of a piece did, the piece did.
   pub front_advances : (s : S) (m : Meter) (p piece front : List ℕ) (es : List Part) (count used : ℕ) (what : Event Part) → front ≡ take count piece → used ≤ length front →
@@ -197,7 +197,7 @@ module _ {S Part : Type 0} (stream : Stream S Part) where
     rest_byte : get_or rest used 0 ≡ get_or piece (at + used) 0
     rest_byte = ap (λ (t : List ℕ). get_or t used 0) back ∙ get_or-drop at piece used 0
 
-    pub rest_along : (fs : List Part) → IsAlong stream s m ((p ++ take at piece) ++ take used rest) fs → IsAlong stream s m (p ++ take (at + used) piece) fs
+    pub rest_along : (fs : List Part) → HasProgressed stream s m ((p ++ take at piece) ++ take used rest) fs → HasProgressed stream s m (p ++ take (at + used) piece) fs
     rest_along fs h = along_of s m ((p ++ take at piece) ++ take used rest) (p ++ take (at + used) piece) fs (text_on p piece rest at used back) h
 
     rest_within : used < length rest → at + used < length piece

@@ -14,7 +14,7 @@ use Rattle.cg_value.specs.Lines.{unlines}
 use Rattle.cg_value.specs.declared.kind.ReadForm.{ReadForm}
 use Rattle.cg_value.specs.declared.profile.Profile.{Profile}
 use Rattle.cg_snap.specs.Course.{IsLineEvent, Leaves}
-use Rattle.cg_snap.specs.DecoderState.{At}
+use Rattle.cg_snap.specs.DecoderState.{HasConsumed}
 use Rattle.cg_snap.specs.Streams.{snap_stream}
 use Rattle.cg_snap.specs.declared.event.Event.{Event}
 use Rattle.cg_snap.specs.declared.event.Event.TheVariants as events
@@ -23,12 +23,12 @@ use Rattle.cg_snap.proofs.Allowed.{line_next_on, line_refused_on}
 use Rattle.cg_snap.proofs.Runs.{line_byte_few}
 use Rattle.cg_snap.proofs.States.{line_state, line_taken}
 
-module _ (profile : Profile) (begun : List ℕ) (x x' : Present) (p : List ℕ) (es : List EntryData) (bytes : List ℕ) (used max at : ℕ) (h : At profile begun (Some x) p es) (t : x.in_line ≡ true)
+module _ (profile : Profile) (begun : List ℕ) (x x' : Present) (p : List ℕ) (es : List EntryData) (bytes : List ℕ) (used max at : ℕ) (h : HasConsumed profile begun (Some x) p es) (t : x.in_line ≡ true)
     (within : used ≤ length bytes) (e : x'.path.items ≡ x.path.items) (c : x'.lines ≡ x.lines) (i : x'.in_line ≡ true)
     (reads : (k : ReadForm) (s : List ℕ) → Reads x.reader k s → Reads x'.reader k (s ++ take used bytes)) where
   -- They don't end the line.
   pub part_leaves : (fault : Option PushFault) (what : Event EntryData) → at ≡ length p → Lacks 10 (take used bytes) → ((k : ReadForm) (s : List ℕ) → Reads x.reader k s → StopsAt (KindFile k) s bytes used fault) →
-      IsLineEvent fault (at + used) what → Leaves (snap_stream profile) (At profile begun (Some x')) max p es bytes used what
+      IsLineEvent fault (at + used) what → Leaves (snap_stream profile) (HasConsumed profile begun (Some x')) max p es bytes used what
   part_leaves None what place plain stops is = rw is (line_taken profile begun x x' p es (take used bytes) t h plain e c i reads)
   part_leaves (Some Refused) what place plain stops is =
       let l = line_state profile begun x p es t h in

@@ -1,5 +1,5 @@
 -- What the end of a stream makes of records that go on, and how much they hold.
-use Rattle.std.proofs.Common.{◌≡◌, ◌≢◌, ℕ, ◌+◌, ◌≤◌, List, [], ◌∷◌, ◌++◌, length, refl, sym, ap, subst, ◌∙◌, append-nil, arith, Option, Some, None, Result, Ok, Err, inl, inr, ◌⊎◌}
+use Rattle.std.proofs.Common.{◌≡◌, ◌≢◌, ℕ, ◌+◌, ◌≤◌, List, [], ◌∷◌, ◌++◌, length, refl, sym, ap, subst, ◌∙◌, append-nil, arith, Option, Some, None, Result, Ok, Err, inl, inr, ◌⊎◌, option_to_list}
 use Rattle.cg_text.specs.ListFacts.{not_nil}
 use Rattle.cg_text.specs.Texts.{Lacks}
 use Rattle.cg_text.specs.TextsLaws.{lacks_inside}
@@ -13,11 +13,11 @@ use Rattle.cg_snap.specs.Begun.{IsBegun, IsRecordEnd}
 use Rattle.cg_snap.specs.ClosedLaws.{begun_once}
 use Rattle.cg_snap.specs.Closed.{IsHeldFor}
 use Rattle.cg_snap.specs.Decoder.{FinishIs, held_by_records}
-use Rattle.cg_snap.specs.DecoderState.{At, AtLine, AtPath, HasTakenRecords}
+use Rattle.cg_snap.specs.DecoderState.{HasConsumed, HasConsumedInLine, HasConsumedInPath, HasTakenRecords}
 use Rattle.cg_snap.specs.GoingOn.{AreAllTold, AreTold, Follows, Told, block_limits, stream_limits, told_by, told_entry}
 use Rattle.cg_snap.specs.GoingOn.AreTold.{more}
 use Rattle.cg_snap.specs.GoingOnDecoder.{GoingFinishIs, GoingOnDecoder, IsGoingFault, IsGoneOn, IsHeldOn, held_by_path}
-use Rattle.cg_snap.specs.GoingOnState.{AreLines, HasTold, IsPassingOver, IsReading, IsFirst, HasOther, breaks_none, form_of, going_stream, many_of_none}
+use Rattle.cg_snap.specs.GoingOnState.{AreLines, HasTold, HaveFaults, IsPassingOver, IsReading, IsFirst, HasOther, breaks_none, form_of, going_stream, many_of_none}
 use Rattle.cg_snap.specs.Pulled.{HasPulled}
 use Rattle.cg_snap.specs.Snap.{Snap, SnapText}
 use Rattle.cg_snap.specs.SnapLaws.{lines_plain}
@@ -30,11 +30,11 @@ use Rattle.cg_snap.specs.declared.limits.Limits.{Limits}
 use Rattle.cg_snap.specs.declared.present.Present.{Present}
 use Rattle.cg_snap.specs.declared.stop.Stop.{Stop}
 use Rattle.cg_snap.specs.declared.stop.Stop.TheVariants as stops
-use Rattle.cg_snap.proofs.Closes.{line_begun, path_begun, records_end}
+use Rattle.cg_snap.proofs.Closes.{line_begun, path_begun, records_end, snap_end}
 use Rattle.cg_snap.proofs.GoingOnLines.{ends_in_line}
 use Rattle.cg_snap.proofs.GoingOnMoves.{record_end_both, record_end_right}
 use Rattle.cg_snap.proofs.GoingOnStates.{along_unstopped, own_room, passing_blocks, passing_left}
-use Rattle.cg_snap.proofs.GoingOnTakes.{told_by_push}
+use Rattle.cg_snap.proofs.GoingOnTakes.{faults_entry, told_by_push}
 use Rattle.cg_snap.proofs.Piecewise.{unstopped_of}
 use Rattle.cg_snap.proofs.Refusals.{records_start}
 use Rattle.cg_snap.proofs.States.{by_flag}
@@ -44,22 +44,25 @@ begun_nothing : (bytes begun : List ℕ) → IsBegun bytes begun → IsRecordEnd
 begun_nothing bytes begun h e = begun_once bytes begun [] h (record { front = bytes; split = sym (append-nil bytes); ended = e; plain = tt })
 
 module _ (profile : Profile) where
-  -- Whole lines that are read as one block are a snapshot.
-  line_ended : (begun : List ℕ) (x : Present) (w : List ℕ) → IsRecordEnd w → AtLine profile begun x w [] → Snap profile w
+  -- Whole lines that are read as one block are a snapshot of one entry, or of none.
+  abbrev Ended : List ℕ → Type 0
+  Ended w = (last : Option EntryData) × SnapText profile (option_to_list last) w
+
+  line_ended : (begun : List ℕ) (x : Present) (w : List ℕ) → IsRecordEnd w → HasConsumedInLine profile begun x w [] → Ended w
   line_ended begun x w e h = let z = begun_nothing w (x.path.items ++ 0 ∷ h.line) (line_begun profile begun x w [] h) e in absurd (not_nil x.path.items 0 h.line (sym z))
 
-  path_ended : (begun : List ℕ) (x : Present) (w : List ℕ) → IsRecordEnd w → AtPath profile begun x w [] → Snap profile w
+  path_ended : (begun : List ℕ) (x : Present) (w : List ℕ) → IsRecordEnd w → HasConsumedInPath profile begun x w [] → Ended w
   path_ended begun x w e h =
       let path = x.path.items in
       let none : begun ≡ [] = begun_nothing w begun (path_begun profile begun x w [] h) e in
       let d = present_entry profile begun x w [] h in
       let split : w ≡ records path h.lines = h.split ∙ (ap (λ (u : List ℕ). u ++ (records path h.lines ++ begun)) h.entries ∙ (ap (λ (u : List ℕ). records path h.lines ++ u) none ∙ append-nil (records path h.lines))) in
-      (d.0 ∷ [], (h.lines, [], d.2, tt, split ∙ (ap (λ (q : List ℕ). records q h.lines) (sym d.1) ∙ sym (append-nil (records d.0.path h.lines))), refl))
+      (Some d.0, (h.lines, [], d.2, tt, split ∙ (ap (λ (q : List ℕ). records q h.lines) (sym d.1) ∙ sym (append-nil (records d.0.path h.lines))), refl))
 
-  pub ended_snap : (begun : List ℕ) (o : Option Present) (w : List ℕ) → At profile begun o w [] → IsRecordEnd w → Snap profile w
-  ended_snap begun None w h (inl e) = ([], e)
-  ended_snap begun None w h (inr s) = absurd (lacks_inside 10 s.0 [] (subst (Lacks 10) (sym h.bytes ∙ s.1) (bytes_no_newline begun h.begun_path)))
-  ended_snap begun (Some x) w h e = by_flag (AtLine profile begun x w []) (AtPath profile begun x w []) (Snap profile w) x.in_line h (line_ended begun x w e) (path_ended begun x w e)
+  ended_last : (begun : List ℕ) (o : Option Present) (w : List ℕ) → HasConsumed profile begun o w [] → IsRecordEnd w → Ended w
+  ended_last begun None w h (inl e) = (None, e)
+  ended_last begun None w h (inr s) = absurd (lacks_inside 10 s.0 [] (subst (Lacks 10) (sym h.bytes ∙ s.1) (bytes_no_newline begun h.begun_path)))
+  ended_last begun (Some x) w h e = by_flag (HasConsumedInLine profile begun x w []) (HasConsumedInPath profile begun x w []) (Ended w) x.in_line h (line_ended begun x w e) (path_ended begun x w e)
 
 module _ (profile : Profile) (limits : Limits) (s : GoingOnRecords) (p : List ℕ) (told : List Told) where
   -- ---- Where the rest of a line is passed over
@@ -71,8 +74,8 @@ module _ (profile : Profile) (limits : Limits) (s : GoingOnRecords) (p : List �
 
   -- ---- Where a block is read
 
-  pub reading_cut : (h : IsReading s profile limits p told) → (Snap profile h.block → ⊥) → IsRecordEnd p → ⊥
-  reading_cut h n e = n (ended_snap profile s.block.begun.items s.block.present h.block h.along.state.at (by e))
+  reading_ended : (h : IsReading s profile limits p told) → IsRecordEnd p → Ended profile h.block
+  reading_ended h e = ended_last profile s.block.begun.items s.block.present h.block h.along.state.at (by e)
     where
       nil : (b : List ℕ) → (b ≡ []) ⊎ (b ≢ [])
       nil [] = inl refl
@@ -80,6 +83,12 @@ module _ (profile : Profile) (limits : Limits) (s : GoingOnRecords) (p : List �
 
       by : IsRecordEnd p → IsRecordEnd h.block
       by e = elim (nil h.block) [ inl z ↦ inl z | inr some ↦ record_end_right h.front h.block some (subst IsRecordEnd h.split e) ]
+
+  pub reading_snap : (h : IsReading s profile limits p told) → IsRecordEnd p → Snap profile h.block
+  reading_snap h e = let l = reading_ended h e in (option_to_list l.0, l.1)
+
+  pub reading_cut : (h : IsReading s profile limits p told) → (Snap profile h.block → ⊥) → IsRecordEnd p → ⊥
+  reading_cut h n e = n (reading_snap h e)
 
   -- No line of the block came.
   pub reading_none : (h : IsReading s profile limits p told) → SnapText profile [] h.block → AreAllTold profile limits p (told ++ told_entry None)
@@ -161,6 +170,12 @@ module _ (profile : Profile) (limits : Limits) (s : GoingOnRecords) (p : List �
   reading_last h m None f = reading_none profile limits s p told h f
   reading_last h m (Some e) f = reading_some profile limits s p told h e m f
 
+  pub reading_all : (h : IsReading s profile limits p told) → s.meter.limits ≡ block_limits limits → Snap profile h.block → (last : Option EntryData) × AreAllTold profile limits p (told ++ told_entry last)
+  reading_all h m x =
+      let ended : IsRecordEnd p = subst IsRecordEnd (sym h.split) (record_end_both h.front h.block h.ended (snap_end profile x.0 [] h.block (inl refl) x.1)) in
+      let l = reading_ended profile limits s p told h ended in
+      (l.0, reading_last h m l.0 l.1)
+
   pub reading_err : (h : IsReading s profile limits p told) (stop : Stop) → FinishIs profile h.block [] (Err stop) → IsRecordEnd p → ⊥
   reading_err h (stops.Refused at why) f = absurd f
   reading_err h (stops.TooLong at) f = absurd f
@@ -186,11 +201,18 @@ module _ (profile : Profile) (limits : Limits) (d : GoingOnDecoder) (bytes : Lis
   short : length bytes ≤ limits.max_stream
   short = omega (arith, h.stands.counted.within, ap (λ (l : Limits). l.max_stream) h.limits_is)
 
-  pub going_none : GoingFinishIs (d.records.block.profile) (d.records.limits) bytes found (Ok None) → IsGoneOn profile limits bytes found
-  going_none f = record { all = subst (AreAllTold profile limits bytes) (append-nil (told_by found)) (here (Ok None) f); short = short }
+  faults : HaveFaults profile limits bytes [] found
+  faults = subst (λ (q : Profile × Limits). HaveFaults (q.0) (q.1) bytes [] found) h.form_is h.stands.state.faults
 
-  pub going_some : (e : EntryData) → GoingFinishIs (d.records.block.profile) (d.records.limits) bytes found (Ok (Some e)) → IsGoneOn profile limits bytes (found ++ record { entry = Some e; left_out = None } ∷ [])
-  going_some e f = record { all = subst (AreAllTold profile limits bytes) (sym (told_by_push found (record { entry = Some e; left_out = None }))) (here (Ok (Some e)) f); short = short }
+  pub going_none : GoingFinishIs (d.records.block.profile) (d.records.limits) bytes found (Ok None) → IsGoneOn profile limits bytes found
+  going_none f = record { all = subst (AreAllTold profile limits bytes) (append-nil (told_by found)) (here (Ok None) f); faults = faults; short = short }
+
+  pub going_some : (e : EntryData) → GoingFinishIs (d.records.block.profile) (d.records.limits) bytes found (Ok (Some e)) → IsGoneOn profile limits bytes (found ++ record { entry = Some e; left_out = None; fault = None } ∷ [])
+  going_some e f = record {
+    all = subst (AreAllTold profile limits bytes) (sym (told_by_push found (record { entry = Some e; left_out = None; fault = None }))) (here (Ok (Some e)) f);
+    faults = faults_entry profile limits bytes found e faults;
+    short = short;
+  }
 
   pub going_err : (stop : Stop) → GoingFinishIs (d.records.block.profile) (d.records.limits) bytes found (Err stop) → IsGoingFault limits bytes (Stopped stop)
   going_err (stops.Refused at why) f = absurd f

@@ -13,8 +13,8 @@ use Rattle.cg_value.specs.declared.profile.Profile.{Profile}
 use Rattle.cg_snap.specs.Begun.{IsBegun}
 use Rattle.cg_snap.specs.Closed.{Closed, EndsOther}
 use Rattle.cg_snap.specs.ClosedLaws.{begun_once, closed_once}
-use Rattle.cg_snap.specs.Course.{IsAlong}
-use Rattle.cg_snap.specs.DecoderState.{At, AtLine, AtPath}
+use Rattle.cg_snap.specs.Course.{HasProgressed}
+use Rattle.cg_snap.specs.DecoderState.{HasConsumed, HasConsumedInLine, HasConsumedInPath}
 use Rattle.cg_snap.specs.Meter.{IsCounted}
 use Rattle.cg_snap.specs.PathBytes.{ArePathBytes}
 use Rattle.cg_snap.specs.Snap.{Snap, SnapText}
@@ -62,7 +62,7 @@ module _ (profile : Profile) where
     pub entries : SnapText profile (e ∷ []) given
     pub other : e.path ≢ x.path.items
     pub good : IsPath x.path.items
-    pub alone : AtLine profile begun x (x.path.items ++ 0 ∷ []) []
+    pub alone : HasConsumedInLine profile begun x (x.path.items ++ 0 ∷ []) []
 
   -- The bytes before don't close the entry.
   not_before : (q : List ℕ) (e : EntryData) → Closed profile q [] → Closed profile q (e ∷ []) → ⊥
@@ -71,7 +71,7 @@ module _ (profile : Profile) where
   pushed : (q given back : List ℕ) (c d : ℕ) → q ++ c ∷ [] ≡ given ++ (back ++ d ∷ []) → (q ≡ given ++ back) × (c ≡ d)
   pushed q given back c d e = push_one q (given ++ back) c d (e ∙ sym (append_assoc given back (d ∷ [])))
 
-  line_earlier : (begun : List ℕ) (x : Present) (q : List ℕ) (c : ℕ) (e : EntryData) (h : AtLine profile begun x (q ++ c ∷ []) (e ∷ [])) → Closed profile q [] → (front : List ℕ) (d : ℕ) → h.line ≡ front ++ d ∷ [] → ⊥
+  line_earlier : (begun : List ℕ) (x : Present) (q : List ℕ) (c : ℕ) (e : EntryData) (h : HasConsumedInLine profile begun x (q ++ c ∷ []) (e ∷ [])) → Closed profile q [] → (front : List ℕ) (d : ℕ) → h.line ≡ front ++ d ∷ [] → ⊥
   line_earlier begun x q c e h none front d f =
       let path = x.path.items in
       let text : q ++ c ∷ [] ≡ h.given ++ ((records path h.lines ++ (path ++ 0 ∷ front)) ++ d ∷ []) = h.split ∙ rw f (simp append_assoc) in
@@ -105,7 +105,7 @@ module _ (profile : Profile) where
         other = other;
       })
 
-  line_given : (begun : List ℕ) (x : Present) (q : List ℕ) (c : ℕ) (e : EntryData) → x.in_line ≡ true → Closed profile q [] → (h : AtLine profile begun x (q ++ c ∷ []) (e ∷ [])) →
+  line_given : (begun : List ℕ) (x : Present) (q : List ℕ) (c : ℕ) (e : EntryData) → x.in_line ≡ true → Closed profile q [] → (h : HasConsumedInLine profile begun x (q ++ c ∷ []) (e ∷ [])) →
       (lines : List (List ℕ)) → h.lines ≡ lines → h.line ≡ [] → GivenParts begun (Some x) q c e
   line_given begun x q c e flag none h [] a b =
       let path = x.path.items in
@@ -145,7 +145,7 @@ module _ (profile : Profile) where
       let s = pushed q h.given (records path (l ∷ ls) ++ path) c 0 text in
       absurd (path_earlier begun x q c e h.given [] path (l ∷ ls) s.0 h.entries h.good (λ z. absurd (cc)) (subst (AllByRecursion (Lacks 10)) a h.plain) (path_lacks_nul path h.good) (path_lacks_newline path h.good) h.other none)
 
-  path_given : (begun : List ℕ) (x : Present) (q : List ℕ) (c : ℕ) (e : EntryData) → Closed profile q [] → AtPath profile begun x (q ++ c ∷ []) (e ∷ []) → ⊥
+  path_given : (begun : List ℕ) (x : Present) (q : List ℕ) (c : ℕ) (e : EntryData) → Closed profile q [] → HasConsumedInPath profile begun x (q ++ c ∷ []) (e ∷ []) → ⊥
   path_given begun x q c e none h =
       let path = x.path.items in
       elim (snoc begun) [
@@ -177,24 +177,24 @@ module _ (profile : Profile) where
             })
       ]
 
-  pub given_parts : (begun : List ℕ) (o : Option Present) (q : List ℕ) (c : ℕ) (e : EntryData) → Closed profile q [] → At profile begun o (q ++ c ∷ []) (e ∷ []) → GivenParts begun o q c e
+  pub given_parts : (begun : List ℕ) (o : Option Present) (q : List ℕ) (c : ℕ) (e : EntryData) → Closed profile q [] → HasConsumed profile begun o (q ++ c ∷ []) (e ∷ []) → GivenParts begun o q c e
   given_parts begun None q c e none h = let z = h.none in absurd (cc)
   given_parts begun (Some x) q c e none h = by x.in_line refl h
     where
-      by_line : x.in_line ≡ true → AtLine profile begun x (q ++ c ∷ []) (e ∷ []) → GivenParts begun (Some x) q c e
+      by_line : x.in_line ≡ true → HasConsumedInLine profile begun x (q ++ c ∷ []) (e ∷ []) → GivenParts begun (Some x) q c e
       by_line flag a =
           elim (snoc a.line) [
             | inl z ↦ line_given begun x q c e flag none a a.lines refl z
             | inr t ↦ absurd (line_earlier begun x q c e a none t.0 t.1 t.2)
           ]
 
-      by : (b : Bool) → x.in_line ≡ b → MatchBool x.in_line (AtLine profile begun x (q ++ c ∷ []) (e ∷ [])) (AtPath profile begun x (q ++ c ∷ []) (e ∷ [])) → GivenParts begun (Some x) q c e
+      by : (b : Bool) → x.in_line ≡ b → MatchBool x.in_line (HasConsumedInLine profile begun x (q ++ c ∷ []) (e ∷ [])) (HasConsumedInPath profile begun x (q ++ c ∷ []) (e ∷ [])) → GivenParts begun (Some x) q c e
       by true flag m = by_line flag (MatchBool-at_true _ _ flag m)
       by false flag m = absurd (path_given begun x q c e none (MatchBool-at_false _ _ flag m))
 
   -- ---- The block that the NUL begins is read as though no other came.
 
-  module _ (limits : Limits) (s : SnapshotRecords) (old new : Meter) (q : List ℕ) (c : ℕ) (e : EntryData) (g : GivenParts s.begun.items s.present q c e) (h : IsAlong (snap_stream profile) s old (q ++ c ∷ []) (e ∷ []))
+  module _ (limits : Limits) (s : SnapshotRecords) (old new : Meter) (q : List ℕ) (c : ℕ) (e : EntryData) (g : GivenParts s.begun.items s.present q c e) (h : HasProgressed (snap_stream profile) s old (q ++ c ∷ []) (e ∷ []))
       (is : old.limits ≡ limits) (same : new.limits ≡ old.limits) (offset : new.offset ≡ old.record_len) (len : new.record_len ≡ old.record_len) where
     abbrev path : List ℕ
     path = g.x.path.items
@@ -217,11 +217,11 @@ module _ (profile : Profile) where
     pub path_room : length path < limits.max_record
     path_room = room_before (Snap profile) (IsRecordWhy profile) (IsManyRecords profile) limits (g.given ++ path) path 0 begins unstopped
 
-    at : At profile s.begun.items (Some g.x) whole []
-    at = at_true (AtLine profile s.begun.items g.x whole []) (AtPath profile s.begun.items g.x whole []) g.x.in_line g.in_line g.alone
+    at : HasConsumed profile s.begun.items (Some g.x) whole []
+    at = at_true (HasConsumedInLine profile s.begun.items g.x whole []) (HasConsumedInPath profile s.begun.items g.x whole []) g.x.in_line g.in_line g.alone
 
-    at_present : At profile s.begun.items s.present whole []
-    at_present = subst (λ (o : Option Present). At profile s.begun.items o whole []) (sym g.present) at
+    at_present : HasConsumed profile s.begun.items s.present whole []
+    at_present = subst (λ (o : Option Present). HasConsumed profile s.begun.items o whole []) (sym g.present) at
 
     far : length whole ≤ limits.max_stream
     far = omega (arith, ap (λ (l : Limits). l.max_stream) is, h.counted.within, ap length text, length-append (g.given ++ path) (0 ∷ []), length-append g.given path, length-append path (0 ∷ []))
@@ -259,7 +259,7 @@ module _ (profile : Profile) where
           length_is = len ∙ size;
         }
 
-    pub begun_along : IsAlong (snap_stream profile) s new whole []
+    pub begun_along : HasProgressed (snap_stream profile) s new whole []
     begun_along = record {
       state = taken_records s profile whole [] h.state.profile_is at_present;
       counted = counted;

@@ -16,7 +16,7 @@ use Rattle.cg_file.specs.WeightFileLaws.{not_empty}
 use Rattle.cg_snap.specs.Begun.{IsBegun, IsLongRecord}
 use Rattle.cg_snap.specs.Closed.{Closed, EndsOther}
 use Rattle.cg_snap.specs.ClosedLaws.{begun_once}
-use Rattle.cg_snap.specs.DecoderState.{AtStart, IsWhyAfter}
+use Rattle.cg_snap.specs.DecoderState.{HasConsumedAPath, IsWhyAfter}
 use Rattle.cg_snap.specs.GoingOn.{AreOfOnePath, AreToldBy, IsBlockOf, IsCause, IsWithoutPath, Told, block_limits, more}
 use Rattle.cg_snap.specs.GoingOnLaws.{AreToldOf, EndsEntry, IsFirstFault, only}
 use Rattle.cg_snap.specs.PathBytes.{ArePathBytes}
@@ -198,7 +198,7 @@ module _ (profile : Profile) (limits : Limits) where
           prefix_bytes begun r.1.path r.0 r.1.rest no_nul r.1.text_is r.1.good.bytes
     ]
 
-    start : AtStart begun begun []
+    start : HasConsumedAPath begun begun []
     start = record { none = refl; bytes = refl; begun_path = bytes }
 
     behind : IsBegun (front ++ begun) begun

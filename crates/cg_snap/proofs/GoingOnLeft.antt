@@ -12,9 +12,9 @@ use Rattle.cg_value.specs.declared.profile.Profile.{Profile}
 use Rattle.cg_line.specs.SplitLaws.{cut}
 use Rattle.cg_snap.specs.Begun.{IsBegun, IsRecordEnd}
 use Rattle.cg_snap.specs.ClosedLaws.{begun_once}
-use Rattle.cg_snap.specs.Course.{IsAlong}
-use Rattle.cg_snap.specs.DecoderState.{At, AtLine, AtPath}
-use Rattle.cg_snap.specs.GoingOn.{AreTold, Block, Follows, HasPath, IsBlockOf, IsCause, IsLeftOut, IsOpen, IsWithoutPath, Told, block_limits, told_entry}
+use Rattle.cg_snap.specs.Course.{HasProgressed}
+use Rattle.cg_snap.specs.DecoderState.{HasConsumed, HasConsumedInLine, HasConsumedInPath, HasTakenRecords}
+use Rattle.cg_snap.specs.GoingOn.{AreTold, Block, Follows, HasPath, IsAtFault, IsBlockOf, IsCause, IsLeftOut, IsOpen, IsWithoutPath, Told, block_limits, block_with, told_entry}
 use Rattle.cg_snap.specs.GoingOn.AreTold.{more}
 use Rattle.cg_snap.specs.GoingOnState.{EndsInLine, HasTold, IsEnded, IsFirst, HasOther, IsOfPresent, IsPassingOver, IsPathAt, IsPathBegun, IsReading}
 use Rattle.cg_snap.specs.PathBytes.{ArePathBytes}
@@ -28,6 +28,7 @@ use Rattle.cg_snap.specs.declared.going_on.LeftOut.{LeftOut}
 use Rattle.cg_snap.specs.declared.going_on_records.GoingOnRecords.{GoingOnRecords}
 use Rattle.cg_snap.specs.declared.limits.Limits.{Limits}
 use Rattle.cg_snap.specs.declared.present.Present.{Present}
+use Rattle.cg_snap.specs.declared.snapshot_records.SnapshotRecords.{SnapshotRecords}
 use Rattle.cg_snap.specs.declared.stop.Stop.{Stop}
 use Rattle.cg_snap.proofs.Begins.{long_is}
 use Rattle.cg_snap.proofs.Closes.{records_end, start_begun}
@@ -39,6 +40,7 @@ use Rattle.cg_snap.proofs.Places.{not_many}
 use Rattle.cg_snap.proofs.States.{at_true, named_path, path_byte_allowed, path_named, paths_begun}
 use Rattle.cg_snap.proofs.Steps.{bytes_no_newline, bytes_no_nul}
 use Rattle.cg_snap.proofs.Stops.{all_of, stop_place}
+use Rattle.cg_snap.proofs.Taken.{taken_records}
 
 pub some_none : (x : Present) → Some x ≡ None → ⊥
 some_none x e = absurd (cc)
@@ -46,6 +48,11 @@ some_none x e = absurd (cc)
 is_zero : (b : ℕ) → (b ≡ 0) ⊎ (b ≢ 0)
 is_zero zero = inl refl
 is_zero (suc b) = inr (λ e. absurd (cc))
+
+-- The records of which only this part of a path came.
+pub begun_alone : (r : SnapshotRecords) (profile : Profile) (begun : List ℕ) → r.profile ≡ profile → r.begun.items ≡ begun → r.present ≡ None → ArePathBytes begun → HasTakenRecords r profile begun []
+begun_alone r profile begun e b n a =
+    taken_records r profile begun [] e (subst (λ (o : Option Present). HasConsumed profile r.begun.items o begun []) (sym n) (record { none = refl; bytes = sym b; begun_path = subst ArePathBytes (sym b) a }))
 
 module _ (profile : Profile) (limits : Limits) where
   -- ---- A line of another path, at whose byte something is at fault
@@ -130,7 +137,7 @@ module _ (profile : Profile) (limits : Limits) where
     pub ended : flag ≡ false → IsRecordEnd bytes
 
   module _ (begun : List ℕ) (x : Present) (w : List ℕ) (b : ℕ) (flag : Bool) (yes : flag ≡ true → b ≢ 10) (no : flag ≡ false → b ≡ 10) (good : IsPath x.path.items) (room : length x.path.items < limits.max_record) where
-    in_line : AtLine profile begun x w [] → OwnLine x.path.items (w ++ b ∷ []) flag
+    in_line : HasConsumedInLine profile begun x w [] → OwnLine x.path.items (w ++ b ∷ []) flag
     in_line h = by flag refl
       where
         split : w ≡ records x.path.items h.lines ++ (x.path.items ++ 0 ∷ h.line)
@@ -154,7 +161,7 @@ module _ (profile : Profile) (limits : Limits) where
               ended = λ z. inr (w, sym text);
             }
 
-    at_nul : b ≡ 0 → x.path.items ≡ begun → AtPath profile begun x w [] → OwnLine x.path.items (w ++ b ∷ []) flag
+    at_nul : b ≡ 0 → x.path.items ≡ begun → HasConsumedInPath profile begun x w [] → OwnLine x.path.items (w ++ b ∷ []) flag
     at_nul z same h =
         let path = x.path.items in
         let split : w ++ b ∷ [] ≡ records path h.lines ++ (path ++ 0 ∷ []) = rw (h.split, h.entries, z, same) (append_assoc (records begun h.lines) begun (0 ∷ [])) in
@@ -164,7 +171,7 @@ module _ (profile : Profile) (limits : Limits) where
           ended = λ e. absurd (omega (arith, no e, z));
         }
 
-    pub own_line : (f : Bool) → x.in_line ≡ f → At profile begun (Some x) w [] → IsOfPresent begun b (Some x) → OwnLine x.path.items (w ++ b ∷ []) flag
+    pub own_line : (f : Bool) → x.in_line ≡ f → HasConsumed profile begun (Some x) w [] → IsOfPresent begun b (Some x) → OwnLine x.path.items (w ++ b ∷ []) flag
     own_line true e h o = in_line (MatchBool-at_true _ _ e h)
     own_line false e h (inl t) = absurd (cc)
     own_line false e h (inr n) = at_nul n.0 n.1 (MatchBool-at_false _ _ e h)
@@ -172,11 +179,11 @@ module _ (profile : Profile) (limits : Limits) where
   -- ---- The byte at fault
 
   module _ (s t : GoingOnRecords) (p : List ℕ) (told : List Told) (h : IsReading s profile limits p told) (meter_is : s.meter.limits ≡ block_limits limits) (b : ℕ) (small : b < 256) (flag : Bool) (yes : flag ≡ true → b ≢ 10) (no : flag ≡ false → b ≡ 10)
-      (is_passing : t.is_passing ≡ flag) (same_profile : t.block.profile ≡ profile) (same_limits : t.limits ≡ limits) (new_meter : t.meter.limits ≡ block_limits limits) (along : IsAlong (snap_stream profile) t.block t.meter [] []) where
+      (is_passing : t.is_passing ≡ flag) (same_profile : t.block.profile ≡ profile) (same_limits : t.limits ≡ limits) (new_meter : t.meter.limits ≡ block_limits limits) (along : HasProgressed (snap_stream profile) t.block t.meter [] []) where
     abbrev begun_of : List ℕ
     begun_of = s.block.begun.items
 
-    at : At profile begun_of s.block.present h.block []
+    at : HasConsumed profile begun_of s.block.present h.block []
     at = h.along.state.at
 
     unstopped : IsSnapUnstopped profile (block_limits limits) h.block
@@ -218,6 +225,12 @@ module _ (profile : Profile) (limits : Limits) where
       at_fault : (front : List ℕ) (block : Block) (alone : Stop) → SnapStopOf profile (block_limits limits) block.bytes alone → length p ≡ length front + place_of alone → IsCause cause alone → out.path ≡ block.path → IsLeftOut profile limits (length front) block out
       at_fault front block alone s e c q = record { stop = alone; stops = s; at = out_at ∙ e; path = q; cause = subst (λ (k : Cause). IsCause k alone) (sym out_cause) c }
 
+      -- What came of it before the byte at fault.
+      fault_behind : (front block : List ℕ) (last : Option (List ℕ)) (before : List Told) → AreTold profile limits front last before → Follows limits.max_record front last (block_with out.path block b) → IsLeftOut profile limits (length front) (block_with out.path block b) out →
+          length p ≡ length front + length block → front ++ (block ++ b ∷ []) ≡ p ++ b ∷ [] → IsAtFault profile limits (p ++ b ∷ []) before out block b
+      fault_behind front block last before blocks follows left size whole =
+          record { front = front; path = last; blocks = blocks; follows = follows; left_out = left; at = out_at ∙ size; rest = []; split = sym whole }
+
       place : place_of stop ≡ length h.block
       place = stop_place (Snap profile) (IsRecordWhy profile) (IsManyRecords profile) (block_limits limits) h.block b stop unstopped stops
 
@@ -225,11 +238,14 @@ module _ (profile : Profile) (limits : Limits) where
       size = ap length h.split ∙ length-append h.front h.block
 
       -- It is of the present entry.
-      own : (x : Present) → s.block.present ≡ Some x → out.path ≡ Some x.path.items → IsOfPresent begun_of b (Some x) → HasTold t profile limits (p ++ b ∷ []) (told ++ inr out ∷ [])
+      abbrev Own : Type 0
+      Own = HasTold t profile limits (p ++ b ∷ []) (told ++ inr out ∷ []) × IsAtFault profile limits (p ++ b ∷ []) told out h.block b
+
+      own : (x : Present) → s.block.present ≡ Some x → out.path ≡ Some x.path.items → IsOfPresent begun_of b (Some x) → Own
       own x e q i = by h.state
         where
-          at_x : At profile begun_of (Some x) h.block []
-          at_x = subst (λ (o : Option Present). At profile begun_of o h.block []) e at
+          at_x : HasConsumed profile begun_of (Some x) h.block []
+          at_x = subst (λ (o : Option Present). HasConsumed profile begun_of o h.block []) e at
 
           starts : IsOf profile x h.block
           starts = present_of profile begun_of x h.block at_x
@@ -237,41 +253,48 @@ module _ (profile : Profile) (limits : Limits) where
           line : OwnLine x.path.items (h.block ++ b ∷ []) flag
           line = own_line begun_of x h.block b flag yes no starts.good (own_room profile limits x.path.items starts.rest starts.good (subst (IsSnapUnstopped profile (block_limits limits)) starts.starts unstopped)) x.in_line refl at_x i
 
-          by : IsFirst s profile limits p told h.path h.block ⊎ HasOther s profile limits p told h.path h.block → HasTold t profile limits (p ++ b ∷ []) (told ++ inr out ∷ [])
+          by : IsFirst s profile limits p told h.path h.block ⊎ HasOther s profile limits p told h.path h.block → Own
           by (inl f) = absurd (some_none x (sym e ∙ (no_nul profile begun_of s.block.present h.block [] f.no_nul at).none))
           by (inr o) =
               let same : x.path.items ≡ o.own = same_own profile begun_of x h.block o.own o.rest at_x o.good o.split in
-              let block : Block = record { path = Some x.path.items; bytes = h.block ++ b ∷ [] } in
-              subst (λ (u : List ℕ). HasTold t profile limits u (told ++ inr out ∷ [])) text
-              (fault_left profile limits t h.front h.path told h.blocks block
-              (record { ended = h.ended; is_block = line.is_block; other = λ r a c. o.other (a ∙ sym c ∙ ap Some same) })
-              out (at_fault h.front block stop stops (omega (arith, size, place)) is q) (kept ∙ q) along flag is_passing line.passing line.ended same_profile same_limits new_meter)
+              let block : Block = block_with (Some x.path.items) h.block b in
+              let follows : Follows limits.max_record h.front h.path block = record { ended = h.ended; is_block = line.is_block; other = λ r a c. o.other (a ∙ sym c ∙ ap Some same) } in (
+                subst (λ (u : List ℕ). HasTold t profile limits u (told ++ inr out ∷ [])) text
+                    (fault_left profile limits t h.front h.path told h.blocks block follows
+                    out (at_fault h.front block stop stops (omega (arith, size, place)) is q) (kept ∙ q) along flag is_passing line.passing line.ended same_profile same_limits new_meter),
+                fault_behind h.front h.block h.path told h.blocks (subst (λ (r : Option (List ℕ)). Follows limits.max_record h.front h.path (block_with r h.block b)) (sym q) follows)
+                    (at_fault h.front (block_with out.path h.block b) stop stops (omega (arith, size, place)) is refl) size text,
+              )
 
       -- It is of a line that begins a block of its own behind these.
+      abbrev Alone : (before all : List Told) → Type 0
+      Alone before all = HasTold t profile limits (p ++ b ∷ []) all × IsAtFault profile limits (p ++ b ∷ []) before out begun_of b × ArePathBytes begun_of
+
       line : (front : List ℕ) (last : Option (List ℕ)) (before : List Told) (blocks : AreTold profile limits front last before) (room : Bool) (alone : Stop) → IsRecordEnd front → (a : ArePathBytes begun_of) → p ≡ front ++ begun_of →
           MatchBool room (length begun_of < limits.max_record) (limits.max_record ≤ length begun_of) → IsPathBegun begun_of b room out.path → ((r : List ℕ) → last ≡ Some r → out.path ≡ Some r → ⊥) →
-          IsSnapUnstopped profile (block_limits limits) begun_of → SnapStopOf profile (block_limits limits) (begun_of ++ b ∷ []) alone → place_of alone ≡ length begun_of → IsCause cause alone →
-          HasTold t profile limits (p ++ b ∷ []) (before ++ inr out ∷ [])
+          IsSnapUnstopped profile (block_limits limits) begun_of → SnapStopOf profile (block_limits limits) (begun_of ++ b ∷ []) alone → place_of alone ≡ length begun_of → IsCause cause alone → Alone before (before ++ inr out ∷ [])
       line front last before blocks room alone ended a split m path other u s e c =
-          let block : Block = record { path = out.path; bytes = begun_of ++ b ∷ [] } in
+          let block : Block = block_with out.path begun_of b in
           let whole : front ++ (begun_of ++ b ∷ []) ≡ p ++ b ∷ [] = sym (ap (λ (w : List ℕ). w ++ b ∷ []) split ∙ append_assoc front begun_of (b ∷ [])) in
-          subst (λ (w : List ℕ). HasTold t profile limits w (before ++ inr out ∷ [])) whole
-          (fault_left profile limits t front last before blocks block
-          (record { ended = ended; is_block = line_block begun_of a b small room m alone cause s c u out.path path; other = other })
-          out (at_fault front block alone s (omega (arith, ap length split, length-append front begun_of, e)) c refl) kept along flag is_passing
-          (λ f. line_passing begun_of a b small room m alone cause s c u out.path path (yes f))
-          (λ f. inr (begun_of, ap (λ (z : ℕ). begun_of ++ z ∷ []) (no f)))
-          same_profile same_limits new_meter)
+          let follows : Follows limits.max_record front last block = record { ended = ended; is_block = line_block begun_of a b small room m alone cause s c u out.path path; other = other } in
+          let left : IsLeftOut profile limits (length front) block out = at_fault front block alone s (omega (arith, ap length split, length-append front begun_of, e)) c refl in (
+            subst (λ (w : List ℕ). HasTold t profile limits w (before ++ inr out ∷ [])) whole
+                (fault_left profile limits t front last before blocks block follows out left kept along flag is_passing
+                (λ f. line_passing begun_of a b small room m alone cause s c u out.path path (yes f))
+                (λ f. inr (begun_of, ap (λ (z : ℕ). begun_of ++ z ∷ []) (no f)))
+                same_profile same_limits new_meter),
+            fault_behind front begun_of last before blocks follows left (ap length split ∙ length-append front begun_of) whole,
+            a,
+          )
 
       -- No line came before it in its block.
-      first : (room : Bool) → s.block.present ≡ None → MatchBool room (length begun_of < limits.max_record) (limits.max_record ≤ length begun_of) → IsPathBegun begun_of b room out.path → ((r : List ℕ) → s.left_out ≡ Some r → out.path ≡ Some r → ⊥) →
-          HasTold t profile limits (p ++ b ∷ []) (told ++ inr out ∷ [])
+      first : (room : Bool) → s.block.present ≡ None → MatchBool room (length begun_of < limits.max_record) (limits.max_record ≤ length begun_of) → IsPathBegun begun_of b room out.path → ((r : List ℕ) → s.left_out ≡ Some r → out.path ≡ Some r → ⊥) → Alone told (told ++ inr out ∷ [])
       first room e m path other = by h.state
         where
-          at_none : At profile begun_of None h.block []
-          at_none = subst (λ (o : Option Present). At profile begun_of o h.block []) e at
+          at_none : HasConsumed profile begun_of None h.block []
+          at_none = subst (λ (o : Option Present). HasConsumed profile begun_of o h.block []) e at
 
-          by : IsFirst s profile limits p told h.path h.block ⊎ HasOther s profile limits p told h.path h.block → HasTold t profile limits (p ++ b ∷ []) (told ++ inr out ∷ [])
+          by : IsFirst s profile limits p told h.path h.block ⊎ HasOther s profile limits p told h.path h.block → Alone told (told ++ inr out ∷ [])
           by (inl f) =
               let same : h.block ≡ begun_of = at_none.bytes in
               line h.front h.path told h.blocks room stop h.ended at_none.begun_path (h.split ∙ ap (λ (u : List ℕ). h.front ++ u) same) m path (λ r a c. other r (f.kept ∙ a) c)
@@ -280,14 +303,14 @@ module _ (profile : Profile) (limits : Limits) where
 
       -- Lines of another path came before it.
       next : (x : Present) (room : Bool) (e : EntryData) → s.block.present ≡ Some x → (IsOfPresent begun_of b (Some x) → ⊥) → MatchBool room (length begun_of < limits.max_record) (limits.max_record ≤ length begun_of) → IsPathBegun begun_of b room out.path →
-          ((begun q : List ℕ) (es : List EntryData) (a : AtPath profile begun x q es) → (e.path ≡ x.path.items) × AreEntryLines profile e a.lines) → HasTold t profile limits (p ++ b ∷ []) (told ++ (inl e ∷ inr out ∷ []))
+          ((begun q : List ℕ) (es : List EntryData) (a : HasConsumedInPath profile begun x q es) → (e.path ≡ x.path.items) × AreEntryLines profile e a.lines) → Alone (told ++ inl e ∷ []) (told ++ (inl e ∷ inr out ∷ []))
       next x room e is_x not m path ends = by x.in_line refl
         where
           own_path : List ℕ
           own_path = x.path.items
 
-          at_x : At profile begun_of (Some x) h.block []
-          at_x = subst (λ (o : Option Present). At profile begun_of o h.block []) is_x at
+          at_x : HasConsumed profile begun_of (Some x) h.block []
+          at_x = subst (λ (o : Option Present). HasConsumed profile begun_of o h.block []) is_x at
 
           starts : IsOf profile x h.block
           starts = present_of profile begun_of x h.block at_x
@@ -296,9 +319,9 @@ module _ (profile : Profile) (limits : Limits) where
           other_nul z q = not (inr (z, q))
 
           result : Type 0
-          result = HasTold t profile limits (p ++ b ∷ []) (told ++ (inl e ∷ inr out ∷ []))
+          result = Alone (told ++ inl e ∷ []) (told ++ (inl e ∷ inr out ∷ []))
 
-          with_path : AtPath profile begun_of x h.block [] → HasOther s profile limits p told h.path h.block → result
+          with_path : HasConsumedInPath profile begun_of x h.block [] → HasOther s profile limits p told h.path h.block → result
           with_path d o =
               let whole : List ℕ = records own_path d.lines in
               let split : h.block ≡ whole ++ begun_of = d.split ∙ ap (λ (u : List ℕ). u ++ (whole ++ begun_of)) d.entries in
@@ -320,9 +343,9 @@ module _ (profile : Profile) (limits : Limits) where
               let short = begun_room profile (block_limits limits) h.block begun_of begins.0 unstopped in
               let size : length begun_of ≤ length h.block = omega (arith, ap length split, length-append whole begun_of) in
               let u = start_unstopped profile (block_limits limits) begun_of d.begun_path short (omega (arith, far, size)) in
-              subst (λ (xs : List Told). HasTold t profile limits (p ++ b ∷ []) xs) (append_assoc told (inl e ∷ []) (inr out ∷ []))
-              (line (h.front ++ whole) (Some own_path) (told ++ inl e ∷ []) blocks room alone.0 ended d.begun_path (h.split ∙ ap (λ (v : List ℕ). h.front ++ v) split ∙ sym (append_assoc h.front whole begun_of)) m path
-              (λ r a c. same_line r a c out.path refl) u alone.1 alone.2 alone.3)
+              let l = line (h.front ++ whole) (Some own_path) (told ++ inl e ∷ []) blocks room alone.0 ended d.begun_path (h.split ∙ ap (λ (v : List ℕ). h.front ++ v) split ∙ sym (append_assoc h.front whole begun_of)) m path
+              (λ r a c. same_line r a c out.path refl) u alone.1 alone.2 alone.3 in
+              (subst (λ (xs : List Told). HasTold t profile limits (p ++ b ∷ []) xs) (append_assoc told (inl e ∷ []) (inr out ∷ [])) l.0, l.1, l.2)
             where
               same_line : (r : List ℕ) → Some own_path ≡ Some r → out.path ≡ Some r → (o : Option (List ℕ)) → out.path ≡ o → ⊥
               same_line r a c None z = none_some r (sym z ∙ c)
@@ -330,7 +353,7 @@ module _ (profile : Profile) (limits : Limits) where
                   let i : IsPathBegun begun_of b room (Some q) = subst (IsPathBegun begun_of b room) z path in
                   other_nul i.1 (some_inj own_path r a ∙ some_inj r q (sym c ∙ z) ∙ i.0)
 
-          by_state : AtPath profile begun_of x h.block [] → IsFirst s profile limits p told h.path h.block ⊎ HasOther s profile limits p told h.path h.block → result
+          by_state : HasConsumedInPath profile begun_of x h.block [] → IsFirst s profile limits p told h.path h.block ⊎ HasOther s profile limits p told h.path h.block → result
           by_state d (inl f) = absurd (some_none x (sym is_x ∙ (no_nul profile begun_of s.block.present h.block [] f.no_nul at).none))
           by_state d (inr o) = with_path d o
 
@@ -338,7 +361,7 @@ module _ (profile : Profile) (limits : Limits) where
           by true i = absurd (not (inl i))
           by false i = by_state (MatchBool-at_false _ _ i at_x) h.state
 
-      begun_is : (o : Option Present) → (IsOfPresent begun_of b o → ⊥) → At profile begun_of o h.block [] → IsBegun h.block begun_of
+      begun_is : (o : Option Present) → (IsOfPresent begun_of b o → ⊥) → HasConsumed profile begun_of o h.block [] → IsBegun h.block begun_of
       begun_is None n a = start_begun begun_of h.block [] a
       begun_is (Some x) n a = by x.in_line refl
         where
@@ -350,7 +373,7 @@ module _ (profile : Profile) (limits : Limits) where
       pub room_is : (o : Option Present) (room : Bool) → s.block.present ≡ o → (IsOfPresent begun_of b o → ⊥) → MatchBool room (s.meter.record_len < s.meter.limits.max_record) (s.meter.limits.max_record ≤ s.meter.record_len) →
           MatchBool room (length begun_of < limits.max_record) (limits.max_record ≤ length begun_of)
       room_is o room e n m =
-          let a = subst (λ (q : Option Present). At profile begun_of q h.block []) e at in
+          let a = subst (λ (q : Option Present). HasConsumed profile begun_of q h.block []) e at in
           let same : s.meter.record_len ≡ length begun_of = h.along.counted.length_is ∙ ap length (begun_once h.block h.along.counted.begun begun_of h.along.counted.begins (begun_is o n a)) in
           let max : s.meter.limits.max_record ≡ limits.max_record = ap (λ (l : Limits). l.max_record) meter_is in
           by room m same max
@@ -360,17 +383,20 @@ module _ (profile : Profile) (limits : Limits) where
           by true m x y = omega (arith, m, x, y)
           by false m x y = omega (arith, m, x, y)
 
-      pub left_own : (o : Option Present) → s.block.present ≡ o → (room : Bool) → IsOfPresent begun_of b o → IsPathAt begun_of b room o true out.path → HasTold t profile limits (p ++ b ∷ []) (told ++ inr out ∷ [])
+      pub left_own : (o : Option Present) → s.block.present ≡ o → (room : Bool) → IsOfPresent begun_of b o → IsPathAt begun_of b room o true out.path → Own
       left_own None e room i path = absurd i
       left_own (Some x) e room i path = own x e path i
 
       pub left_other : (o : Option Present) (entry : Option EntryData) → s.block.present ≡ o → (room : Bool) → (IsOfPresent begun_of b o → ⊥) → MatchBool room (length begun_of < limits.max_record) (limits.max_record ≤ length begun_of) →
-          IsPathAt begun_of b room o false out.path → ((r : List ℕ) → s.left_out ≡ Some r → out.path ≡ Some r → ⊥) → IsEnded o entry → HasTold t profile limits (p ++ b ∷ []) (told ++ (told_entry entry ++ inr out ∷ []))
-      left_other None entry e room n m path other i = subst (λ (d : Option EntryData). HasTold t profile limits (p ++ b ∷ []) (told ++ (told_entry d ++ inr out ∷ []))) (sym i) (first room e m path other)
+          IsPathAt begun_of b room o false out.path → ((r : List ℕ) → s.left_out ≡ Some r → out.path ≡ Some r → ⊥) → IsEnded o entry → Alone (told ++ told_entry entry) (told ++ (told_entry entry ++ inr out ∷ []))
+      left_other None entry e room n m path other i =
+          let l = first room e m path other in
+          subst (λ (d : Option EntryData). Alone (told ++ told_entry d) (told ++ (told_entry d ++ inr out ∷ []))) (sym i)
+          (l.0, subst (λ (u : List Told). IsAtFault profile limits (p ++ b ∷ []) u out begun_of b) (sym (append-nil told)) l.1, l.2)
       left_other (Some x) None e room n m path other i = absurd (no_entry x.in_line refl)
         where
-          at_x : At profile begun_of (Some x) h.block []
-          at_x = subst (λ (o : Option Present). At profile begun_of o h.block []) e at
+          at_x : HasConsumed profile begun_of (Some x) h.block []
+          at_x = subst (λ (o : Option Present). HasConsumed profile begun_of o h.block []) e at
 
           no_entry : (f : Bool) → x.in_line ≡ f → ⊥
           no_entry true z = n (inl z)

@@ -8,8 +8,8 @@ use Rattle.cg_value.specs.Entry.{EntryData}
 use Rattle.cg_value.specs.Records.{records}
 use Rattle.cg_value.specs.declared.profile.Profile.{Profile}
 use Rattle.cg_snap.specs.Begun.{IsRecordEnd}
-use Rattle.cg_snap.specs.Course.{IsAlong}
-use Rattle.cg_snap.specs.DecoderState.{At}
+use Rattle.cg_snap.specs.Course.{HasProgressed}
+use Rattle.cg_snap.specs.DecoderState.{HasConsumed}
 use Rattle.cg_snap.specs.GoingOn.{AreTold, Block, EndsLeftOut, Follows, IsBlockOf, IsLeftOut, Told, block_limits}
 use Rattle.cg_snap.specs.GoingOn.AreTold.{more, none}
 use Rattle.cg_snap.specs.GoingOnState.{EndsInLine, HasTold, IsPassingOver, IsReading, IsUnsettled}
@@ -120,7 +120,7 @@ module _ (profile : Profile) (limits : Limits) where
 
   -- ---- The rest of a line is passed over
 
-  module _ (s t : GoingOnRecords) (p : List ℕ) (told : List Told) (kept : t.left_out ≡ s.left_out) (along : IsAlong (snap_stream profile) t.block t.meter [] []) where
+  module _ (s t : GoingOnRecords) (p : List ℕ) (told : List Told) (kept : t.left_out ≡ s.left_out) (along : HasProgressed (snap_stream profile) t.block t.meter [] []) where
     pub pass_on : (bytes : List ℕ) → Lacks 10 bytes → IsPassingOver s profile limits p told → IsPassingOver t profile limits (p ++ bytes) told
     pass_on bytes n h =
         let m = block_more limits.max_record h.block.path h.block.bytes bytes n h.in_line h.follows.is_block in
@@ -160,7 +160,7 @@ module _ (profile : Profile) (limits : Limits) where
 
   -- A block at fault has come so far: what is left of its line is passed over, or a line begins.
   module _ (t : GoingOnRecords) (front : List ℕ) (last : Option (List ℕ)) (before : List Told) (blocks : AreTold profile limits front last before) (block : Block) (follows : Follows limits.max_record front last block) (out : LeftOut)
-      (at_fault : IsLeftOut profile limits (length front) block out) (kept : t.left_out ≡ block.path) (along : IsAlong (snap_stream profile) t.block t.meter [] []) where
+      (at_fault : IsLeftOut profile limits (length front) block out) (kept : t.left_out ≡ block.path) (along : HasProgressed (snap_stream profile) t.block t.meter [] []) where
     fault_passing : EndsInLine block.path block.bytes → IsPassingOver t profile limits (front ++ block.bytes) (before ++ inr out ∷ [])
     fault_passing e = record {
       front = front;
@@ -217,7 +217,7 @@ module _ (profile : Profile) (limits : Limits) where
 
   -- The path and the NUL of such a line.
   module _ (t : GoingOnRecords) (front : List ℕ) (path : Option (List ℕ)) (told : List Told) (q : List ℕ) (blocks : AreTold profile limits front path told) (ended : IsRecordEnd front) (left : EndsLeftOut profile limits told)
-      (is : path ≡ Some q) (kept : t.left_out ≡ path) (along : IsAlong (snap_stream profile) t.block t.meter [] []) where
+      (is : path ≡ Some q) (kept : t.left_out ≡ path) (along : HasProgressed (snap_stream profile) t.block t.meter [] []) where
     pub again_passing : IsPassingOver t profile limits (front ++ (q ++ 0 ∷ [])) told
     again_passing =
         let o = last_out front path told q is left blocks in
@@ -259,7 +259,7 @@ module _ (profile : Profile) (limits : Limits) where
     -- No NUL came.
     settle_first : s.block.present ≡ None → IsReading s profile limits p told
     settle_first e =
-        let at = subst (λ (o : Option Present). At profile s.block.begun.items o h.block []) e h.along.state.at in
+        let at = subst (λ (o : Option Present). HasConsumed profile s.block.begun.items o h.block []) e h.along.state.at in
         record {
           front = h.front;
           path = h.path;
@@ -274,7 +274,7 @@ module _ (profile : Profile) (limits : Limits) where
     -- The line has another path.
     pub settle_other : (t : GoingOnRecords) (x : Present) → s.block.present ≡ Some x → (h.path ≡ Some x.path.items → ⊥) → t.block ≡ s.block → t.meter ≡ s.meter → t.left_out ≡ None → IsReading t profile limits p told
     settle_other t x e n b m l =
-        let at = subst (λ (o : Option Present). At profile s.block.begun.items o h.block []) e h.along.state.at in
+        let at = subst (λ (o : Option Present). HasConsumed profile s.block.begun.items o h.block []) e h.along.state.at in
         let o = present_of profile s.block.begun.items x h.block at in
         record {
           front = h.front;
@@ -283,7 +283,7 @@ module _ (profile : Profile) (limits : Limits) where
           ended = h.ended;
           block = h.block;
           split = h.split;
-          along = subst (λ (r : SnapshotRecords). IsAlong (snap_stream profile) r t.meter h.block []) (sym b) (subst (λ (k : Meter). IsAlong (snap_stream profile) s.block k h.block []) (sym m) h.along);
+          along = subst (λ (r : SnapshotRecords). HasProgressed (snap_stream profile) r t.meter h.block []) (sym b) (subst (λ (k : Meter). HasProgressed (snap_stream profile) s.block k h.block []) (sym m) h.along);
           state = inr (record { own = x.path.items; good = o.good; rest = o.rest; split = o.starts; other = n; none = l });
         }
 
@@ -297,11 +297,11 @@ module _ (profile : Profile) (limits : Limits) where
     settle_same (inr e) = settle_first e
 
     -- The line is one more of the block that was left out.
-    pub settle_again : (t : GoingOnRecords) (q : List ℕ) (x : Present) → s.left_out ≡ Some q → s.block.present ≡ Some x → q ≡ x.path.items → t.left_out ≡ s.left_out → IsAlong (snap_stream profile) t.block t.meter [] [] → IsPassingOver t profile limits p told
+    pub settle_again : (t : GoingOnRecords) (q : List ℕ) (x : Present) → s.left_out ≡ Some q → s.block.present ≡ Some x → q ≡ x.path.items → t.left_out ≡ s.left_out → HasProgressed (snap_stream profile) t.block t.meter [] [] → IsPassingOver t profile limits p told
     settle_again t q x l e same kept along = by h.byte
       where
-        at : At profile s.block.begun.items (Some x) h.block []
-        at = subst (λ (o : Option Present). At profile s.block.begun.items o h.block []) e h.along.state.at
+        at : HasConsumed profile s.block.begun.items (Some x) h.block []
+        at = subst (λ (o : Option Present). HasConsumed profile s.block.begun.items o h.block []) e h.along.state.at
 
         path_is : h.path ≡ Some q
         path_is = sym h.kept ∙ l

@@ -7,7 +7,7 @@ use Rattle.cg_text.specs.Texts.{Next}
 use Rattle.cg_value.specs.Entry.{EntryData}
 use Rattle.cg_value.specs.declared.profile.Profile.{Profile}
 use Rattle.cg_snap.specs.Begun.{IsBegun, IsRecordEnd}
-use Rattle.cg_snap.specs.Course.{IsAlong, PieceDid}
+use Rattle.cg_snap.specs.Course.{HasProgressed, PieceDid}
 use Rattle.cg_snap.specs.GoingOn.{Told, told_by}
 use Rattle.cg_snap.specs.GoingOnState.{AreLines, HasFound, IsReading, breaks_none, going_stream, many_of_none}
 use Rattle.cg_snap.specs.Meter.{IsCounted}
@@ -75,7 +75,7 @@ begun_behind front block r e h = record {
   plain = h.plain;
 }
 
-module _ (form : Profile × Limits) (s t : GoingOnRecords) (old new inner : Meter) (p q : List ℕ) (found after : List Found) (h : IsAlong (going_stream form) s old p found) (front block : List ℕ) (text : p ++ q ≡ front ++ block) (ended : IsRecordEnd front)
+module _ (form : Profile × Limits) (s t : GoingOnRecords) (old new inner : Meter) (p q : List ℕ) (found after : List Found) (h : HasProgressed (going_stream form) s old p found) (front block : List ℕ) (text : p ++ q ≡ front ++ block) (ended : IsRecordEnd front)
     (counted : IsCounted inner block) (offset : new.offset ≡ old.offset + length q) (len : new.record_len ≡ inner.record_len) (same : new.limits ≡ old.limits) (far : length q ≤ old.limits.max_stream - old.offset) (long : length q ≤ old.limits.max_record - old.record_len)
     (state : HasFound t form (p ++ q) after) where
   q_bytes : (a b : List ℕ) → AllByRecursion IsByte (a ++ b) → AllByRecursion IsByte b
@@ -83,7 +83,7 @@ module _ (form : Profile × Limits) (s t : GoingOnRecords) (old new inner : Mete
   q_bytes (c ∷ a) b x = q_bytes a b x.1
 
   -- What stands after bytes that were taken at once, behind which the block is this.
-  pub taken_on : IsAlong (going_stream form) t new (p ++ q) after
+  pub taken_on : HasProgressed (going_stream form) t new (p ++ q) after
   taken_on = record {
     state = state;
     counted = record {
@@ -102,14 +102,14 @@ module _ (form : Profile × Limits) (s t : GoingOnRecords) (old new inner : Mete
 
 module _ (profile : Profile) (block : SnapshotRecords) (meter : Meter) (before front : List ℕ) (used : ℕ) where
   -- No part came.
-  pub piece_along : (what : Event EntryData) → ((e : EntryData) → what ≡ events.Given e → ⊥) → PieceDid (snap_stream profile) block meter before [] front used what → IsAlong (snap_stream profile) block meter (before ++ take used front) []
+  pub piece_along : (what : Event EntryData) → ((e : EntryData) → what ≡ events.Given e → ⊥) → PieceDid (snap_stream profile) block meter before [] front used what → HasProgressed (snap_stream profile) block meter (before ++ take used front) []
   piece_along events.NeedMore n a = a.1
   piece_along (events.Given e) n a = absurd (n e refl)
   piece_along (events.Stopped stop) n a = a.2
   piece_along events.OutOfMemory n a = a.2
 
 module _ (profile : Profile) (limits : Limits) (s : GoingOnRecords) (p : List ℕ) (told : List Told) (h : IsReading s profile limits p told) (front : List ℕ) (t : GoingOnRecords) (used : ℕ) (none : s.left_out ≡ None) (kept : t.left_out ≡ s.left_out)
-    (along : IsAlong (snap_stream profile) t.block t.meter (h.block ++ take used front) []) where
+    (along : HasProgressed (snap_stream profile) t.block t.meter (h.block ++ take used front) []) where
   pub ran_on : IsReading t profile limits (p ++ take used front) told
   ran_on = elim h.state [
     | inr o ↦ on_other profile limits s p told h front t used kept along o

@@ -1,5 +1,5 @@
 -- What bytes leave of records that go on, and what they find.
-use Rattle.std.proofs.Common.{◌≡◌, ℕ, zero, suc, ◌+◌, ◌-◌, ◌<◌, ◌≤◌, List, [], ◌∷◌, ◌++◌, length, take, get_or, refl, sym, ap, subst, ◌∙◌, append_assoc, arith, Some, None, inl, inr, ◌⊎◌}
+use Rattle.std.proofs.Common.{◌≡◌, ℕ, zero, suc, ◌+◌, ◌-◌, ◌<◌, ◌≤◌, List, [], ◌∷◌, ◌++◌, length, take, get_or, refl, sym, ap, subst, ◌∙◌, append_assoc, arith, Option, Some, None, inl, inr, ◌⊎◌}
 use Rattle.std.specs.List.{AllByRecursion}
 use Rattle.std.proofs.lemmas.Bool.{cases_lt}
 use Rattle.std.proofs.lemmas.List.{append-nil}
@@ -13,16 +13,18 @@ use Rattle.cg_value.specs.declared.profile.Profile.{Profile}
 use Rattle.cg_line.specs.SplitLaws.{cut}
 use Rattle.cg_snap.specs.Begun.{IsRecordEnd}
 use Rattle.cg_snap.specs.Closed.{Closed}
-use Rattle.cg_snap.specs.Course.{Advances, AreFew, AreOfRecord, IsAlong, Leaves}
-use Rattle.cg_snap.specs.GoingOn.{AreToldBy, Block, Follows, Told, block_limits, told_by, told_entry, told_out}
+use Rattle.cg_snap.specs.Course.{Advances, AreFew, AreOfRecord, HasProgressed, Leaves}
+use Rattle.cg_snap.specs.GoingOn.{AreToldBy, Block, Follows, IsAtFault, Told, block_limits, told_by, told_entry, told_out}
 use Rattle.cg_snap.specs.GoingOn.AreTold.{more}
-use Rattle.cg_snap.specs.GoingOnState.{AreLines, FaultLeaves, HasFound, HasOther, HasTold, IsFirst, IsReading, IsUnsettled, IsWholeStop, going_stream, many_of_none}
+use Rattle.cg_snap.specs.GoingOnState.{AreLines, FaultLeaves, HasFound, HasOther, HasTold, HaveFaults, IsFaultOf, IsFirst, IsReading, IsUnsettled, IsWholeStop, going_stream, many_of_none}
 use Rattle.cg_snap.specs.SnapLaws.{lines_plain}
 use Rattle.cg_snap.specs.SnapStop.{IsSnapUnstopped, SnapStopOf}
 use Rattle.cg_snap.specs.Streams.{snap_stream}
 use Rattle.cg_snap.specs.declared.event.Event.{Event}
 use Rattle.cg_snap.specs.declared.event.Event.TheVariants as events
+use Rattle.cg_snap.specs.declared.fault.Fault.{Fault}
 use Rattle.cg_snap.specs.declared.going_on.Found.{Found}
+use Rattle.cg_snap.specs.declared.going_on.LeftOut.{LeftOut}
 use Rattle.cg_snap.specs.declared.going_on_records.GoingOnRecords.{GoingOnRecords}
 use Rattle.cg_snap.specs.declared.limits.Limits.{Limits}
 use Rattle.cg_snap.specs.declared.meter.Meter.{Meter}
@@ -69,6 +71,50 @@ few_of_record [] (suc n) le = inl tt
 few_of_record (b ∷ bytes) (suc zero) le = one_of_record b
 few_of_record (b ∷ bytes) (suc (suc n)) le = absurd (omega (arith, le))
 
+-- ---- What came before a byte at fault, with more bytes
+
+module _ (profile : Profile) (limits : Limits) (bytes more : List ℕ) where
+  at_fault_more : (before : List Told) (out : LeftOut) (block : List ℕ) (byte : ℕ) → IsAtFault profile limits bytes before out block byte → IsAtFault profile limits (bytes ++ more) before out block byte
+  at_fault_more before out block byte h = record {
+    front = h.front;
+    path = h.path;
+    blocks = h.blocks;
+    follows = h.follows;
+    left_out = h.left_out;
+    at = h.at;
+    rest = h.rest ++ more;
+    split = ap (λ (t : List ℕ). t ++ more) h.split ∙ (append_assoc h.front (block ++ byte ∷ h.rest) more ∙ ap (λ (t : List ℕ). h.front ++ t) (append_assoc block (byte ∷ h.rest) more));
+  }
+
+  fault_more : (before : List Told) (out : Option LeftOut) (fault : Option Fault) → IsFaultOf profile limits bytes before out fault → IsFaultOf profile limits (bytes ++ more) before out fault
+  fault_more before None None h = h
+  fault_more before None (Some f) h = h
+  fault_more before (Some out) None h = h
+  fault_more before (Some out) (Some f) h = (h.0, h.1, at_fault_more before out h.0 h.1 h.2, h.3)
+
+  faults_more : (told : List Told) (found : List Found) → HaveFaults profile limits bytes told found → HaveFaults profile limits (bytes ++ more) told found
+  faults_more told [] h = tt
+  faults_more told (f ∷ found) h = (fault_more (told ++ told_entry f.entry) f.left_out f.fault h.0, faults_more (told ++ (told_entry f.entry ++ told_out f.left_out)) found h.1)
+
+module _ (profile : Profile) (limits : Limits) (bytes : List ℕ) where
+  -- One thing more is found.
+  faults_push : (told : List Told) (found : List Found) (f : Found) → HaveFaults profile limits bytes told found → IsFaultOf profile limits bytes ((told ++ told_by found) ++ told_entry f.entry) f.left_out f.fault → HaveFaults profile limits bytes told (found ++ f ∷ [])
+  faults_push told [] f h x = (subst (λ (t : List Told). IsFaultOf profile limits bytes (t ++ told_entry f.entry) f.left_out f.fault) (append-nil told) x, tt)
+  faults_push told (g ∷ found) f h x =
+      let here = told_entry g.entry ++ told_out g.left_out in
+      (h.0, faults_push (told ++ here) found f h.1 (subst (λ (t : List Told). IsFaultOf profile limits bytes (t ++ told_entry f.entry) f.left_out f.fault) (sym (append_assoc told here (told_by found))) x))
+
+  -- The same, of the last.
+  pub faults_last : (told : List Told) (found : List Found) (f : Found) → HaveFaults profile limits bytes told (found ++ f ∷ []) → IsFaultOf profile limits bytes ((told ++ told_by found) ++ told_entry f.entry) f.left_out f.fault
+  faults_last told [] f h = subst (λ (t : List Told). IsFaultOf profile limits bytes (t ++ told_entry f.entry) f.left_out f.fault) (sym (append-nil told)) h.0
+  faults_last told (g ∷ found) f h =
+      let here = told_entry g.entry ++ told_out g.left_out in
+      subst (λ (t : List Told). IsFaultOf profile limits bytes (t ++ told_entry f.entry) f.left_out f.fault) (append_assoc told here (told_by found)) (faults_last (told ++ here) found f h.1)
+
+  -- The end tells no fault.
+  pub faults_entry : (found : List Found) (e : EntryData) → HaveFaults profile limits bytes [] found → HaveFaults profile limits bytes [] (found ++ record { entry = Some e; left_out = None; fault = None } ∷ [])
+  faults_entry found e h = faults_push [] found (record { entry = Some e; left_out = None; fault = None }) h tt
+
 -- ---- What is found
 
 module _ (form : Profile × Limits) (s t : GoingOnRecords) (p : List ℕ) (found : List Found) (old : HasFound s form p found) (bytes : List ℕ) (small : (i : ℕ) → get_or bytes i 0 < 256) where
@@ -77,13 +123,19 @@ module _ (form : Profile × Limits) (s t : GoingOnRecords) (p : List ℕ) (found
 
   -- Nothing more.
   pub found_more : (used : ℕ) → HasTold t (form.0) (form.1) (p ++ take used bytes) (told_by found) → HasFound t form (p ++ take used bytes) found
-  found_more used h = record { told = h; closed = told_closed (form.0) (form.1) t (p ++ take used bytes) (told_by found) h; bytes = bytes_more used }
+  found_more used h = record { told = h; closed = told_closed (form.0) (form.1) t (p ++ take used bytes) (told_by found) h; faults = faults_more (form.0) (form.1) p (take used bytes) [] found old.faults; bytes = bytes_more used }
 
   -- This, too.
-  pub found_given : (used : ℕ) (f : Found) → HasTold t (form.0) (form.1) (p ++ take used bytes) (told_by found ++ (told_entry f.entry ++ told_out f.left_out)) → HasFound t form (p ++ take used bytes) (found ++ f ∷ [])
-  found_given used f h =
+  pub found_given : (used : ℕ) (f : Found) → HasTold t (form.0) (form.1) (p ++ take used bytes) (told_by found ++ (told_entry f.entry ++ told_out f.left_out)) → IsFaultOf (form.0) (form.1) (p ++ take used bytes) (told_by found ++ told_entry f.entry) f.left_out f.fault →
+      HasFound t form (p ++ take used bytes) (found ++ f ∷ [])
+  found_given used f h fault =
       let more : HasTold t (form.0) (form.1) (p ++ take used bytes) (told_by (found ++ f ∷ [])) = subst (HasTold t (form.0) (form.1) (p ++ take used bytes)) (sym (told_by_push found f)) h in
-      record { told = more; closed = told_closed (form.0) (form.1) t (p ++ take used bytes) (told_by (found ++ f ∷ [])) more; bytes = bytes_more used }
+      record {
+        told = more;
+        closed = told_closed (form.0) (form.1) t (p ++ take used bytes) (told_by (found ++ f ∷ [])) more;
+        faults = faults_push (form.0) (form.1) (p ++ take used bytes) [] found f (faults_more (form.0) (form.1) p (take used bytes) [] found old.faults) fault;
+        bytes = bytes_more used;
+      }
 
   -- Any byte may come next.
   pub next_lines : (used : ℕ) → Next AreLines (p ++ take used bytes) (get_or bytes used 0)
@@ -96,14 +148,14 @@ module _ (form : Profile × Limits) (s t : GoingOnRecords) (p : List ℕ) (found
 module _ (profile : Profile) (limits : Limits) (s : GoingOnRecords) (p : List ℕ) (told : List Told) (h : IsReading s profile limits p told) (front : List ℕ) where
   -- No part came.
   pub on_along : (block : SnapshotRecords) (meter : Meter) (used : ℕ) (what : Event EntryData) → ((e : EntryData) → what ≡ events.Given e → ⊥) → Advances (snap_stream profile) block meter h.block [] front used what →
-      IsAlong (snap_stream profile) block meter (h.block ++ take used front) []
+      HasProgressed (snap_stream profile) block meter (h.block ++ take used front) []
   on_along block meter used events.NeedMore n a = a
   on_along block meter used (events.Given e) n a = absurd (n e refl)
   on_along block meter used (events.Stopped stop) n a = a.2
   on_along block meter used events.OutOfMemory n a = a.2
 
   -- Of the same block, read by others.
-  abbrev pub same_reading : (t : GoingOnRecords) → t.left_out ≡ s.left_out → IsAlong (snap_stream profile) t.block t.meter h.block [] → IsReading t profile limits p told
+  abbrev pub same_reading : (t : GoingOnRecords) → t.left_out ≡ s.left_out → HasProgressed (snap_stream profile) t.block t.meter h.block [] → IsReading t profile limits p told
   same_reading t kept along = record {
     front = h.front;
     path = h.path;
@@ -118,7 +170,7 @@ module _ (profile : Profile) (limits : Limits) (s : GoingOnRecords) (p : List �
     ];
   }
 
-  module _ (t : GoingOnRecords) (used : ℕ) (kept : t.left_out ≡ s.left_out) (along : IsAlong (snap_stream profile) t.block t.meter (h.block ++ take used front) []) where
+  module _ (t : GoingOnRecords) (used : ℕ) (kept : t.left_out ≡ s.left_out) (along : HasProgressed (snap_stream profile) t.block t.meter (h.block ++ take used front) []) where
     text : p ++ take used front ≡ h.front ++ (h.block ++ take used front)
     text = ap (λ (u : List ℕ). u ++ take used front) h.split ∙ append_assoc h.front h.block (take used front)
 
@@ -165,7 +217,7 @@ module _ (profile : Profile) (limits : Limits) (s : GoingOnRecords) (p : List �
   -- ---- A block that another path closes
 
   module _ (t : GoingOnRecords) (old : Meter) (used : ℕ) (e : EntryData) (some : 0 < used) (within : used ≤ length front) (closed : Closed profile (h.block ++ take (used - 1) front) [])
-      (along : IsAlong (snap_stream profile) t.block old (h.block ++ take used front) (e ∷ [])) (old_is : old.limits ≡ block_limits limits) (same : t.meter.limits ≡ old.limits) (offset : t.meter.offset ≡ old.record_len) (len : t.meter.record_len ≡ old.record_len)
+      (along : HasProgressed (snap_stream profile) t.block old (h.block ++ take used front) (e ∷ [])) (old_is : old.limits ≡ block_limits limits) (same : t.meter.limits ≡ old.limits) (offset : t.meter.offset ≡ old.record_len) (len : t.meter.record_len ≡ old.record_len)
       (kept : t.left_out ≡ s.left_out) (one : (s.left_out ≡ None) ⊎ (length front ≤ 1)) where
     abbrev q : List ℕ
     q = h.block ++ take (used - 1) front
@@ -178,8 +230,8 @@ module _ (profile : Profile) (limits : Limits) (s : GoingOnRecords) (p : List �
         let next : used - 1 + 1 ≡ used = omega (arith, some) in
         taken_more h.block front (used - 1) (omega (arith, some, within)) ∙ ap (λ (n : ℕ). h.block ++ take n front) next
 
-    here : IsAlong (snap_stream profile) t.block old (q ++ c ∷ []) (e ∷ [])
-    here = subst (λ (u : List ℕ). IsAlong (snap_stream profile) t.block old u (e ∷ [])) (sym byte) along
+    here : HasProgressed (snap_stream profile) t.block old (q ++ c ∷ []) (e ∷ [])
+    here = subst (λ (u : List ℕ). HasProgressed (snap_stream profile) t.block old u (e ∷ [])) (sym byte) along
 
     g : GivenParts profile t.block.begun.items t.block.present q c e
     g = given_parts profile t.block.begun.items t.block.present q c e closed here.state.at
@@ -297,7 +349,9 @@ module _ (form : Profile × Limits) (s old t : GoingOnRecords) (p : List ℕ) (f
   fault_found used (events.Given f) h = (
     omega (arith, h.0),
     subst (λ (n : ℕ). AreToldBy (form.0) (form.1) (p ++ take n bytes) (told_by found)) {x = 0} (sym (omega (arith, h.0))) (subst (λ (u : List ℕ). AreToldBy (form.0) (form.1) u (told_by found)) (sym (append-nil p)) had.closed),
-    found_given form s t p found had bytes small used f (at_one (told_by found ++ (told_entry f.entry ++ told_out f.left_out)) used h.0 h.1),
+    found_given form s t p found had bytes small used f (at_one (told_by found ++ (told_entry f.entry ++ told_out f.left_out)) used h.0 h.1.0)
+        (subst (λ (n : ℕ). IsFaultOf (form.0) (form.1) (p ++ take n bytes) (told_by found ++ told_entry f.entry) f.left_out f.fault) (sym h.0)
+        (subst (λ (u : List ℕ). IsFaultOf (form.0) (form.1) u (told_by found ++ told_entry f.entry) f.left_out f.fault) one h.1.1)),
   )
   fault_found used (events.Stopped other) h = absurd (never h)
   fault_found used events.OutOfMemory h = (

@@ -13,12 +13,12 @@ use Rattle.cg_snap.specs.Begun.{IsBegun}
 use Rattle.cg_snap.specs.Closed.{Closed, EndsOther, IsHeldFor}
 use Rattle.cg_snap.specs.ClosedLaws.{closed_once}
 use Rattle.cg_snap.specs.Decoder.{SnapshotDecoder, Stands, held_in, profile_of}
-use Rattle.cg_snap.specs.DecoderState.{At}
+use Rattle.cg_snap.specs.DecoderState.{HasConsumed}
 use Rattle.cg_snap.specs.Headline.{GaveTheEntries, GaveTheItems}
 use Rattle.cg_snap.specs.Plan.{ClosedPlan, PlanText}
 use Rattle.cg_snap.specs.PlanDecoder.{PlanDecoder, StandsForPlan, held_in_line, plan_profile_of}
 use Rattle.cg_snap.specs.PlanLaws.{closed_plan_once}
-use Rattle.cg_snap.specs.PlanState.{AtItems}
+use Rattle.cg_snap.specs.PlanState.{HasConsumedItems}
 use Rattle.cg_snap.specs.Snap.{AreEntryLines, SnapText, StartsOther}
 use Rattle.cg_snap.specs.SnapLaws.{entry_starts, lines_plain}
 use Rattle.cg_snap.specs.declared.plan.Writing.{Writing}
@@ -110,13 +110,13 @@ module _ (profile : Profile) where
         (Some h.last, h.is ∙ ap (λ (t : List EntryData). t ++ h.last ∷ []) (sym front))
   ]
 
-  held_at : (begun : List ℕ) (o : Option Present) (p : List ℕ) (es : List EntryData) → At profile begun o p es → IsHeldFor profile p es (length begun + held_in o)
+  held_at : (begun : List ℕ) (o : Option Present) (p : List ℕ) (es : List EntryData) → HasConsumed profile begun o p es → IsHeldFor profile p es (length begun + held_in o)
   held_at begun None p es h = none_held profile begun None p es (length begun + held_in None) refl h (omega arith)
   held_at begun (Some x) p es h =
       some_held profile begun (Some x) x p es (length begun + held_in (Some x)) (reader.held_by x.reader) refl h
       (record { few = λ k t r. reads_few x.reader k t r; most = λ k lines line v r plain spelled. reads_most x.reader k lines line v r plain spelled }) (omega arith)
 
-  plan_held_at : (begun : List ℕ) (o : Option Writing) (p : List ℕ) (items : List ItemData) → AtItems profile begun o p items → (r : List ℕ) × IsBegun p r × (length begun + held_in_line o ≤ length r)
+  plan_held_at : (begun : List ℕ) (o : Option Writing) (p : List ℕ) (items : List ItemData) → HasConsumedItems profile begun o p items → (r : List ℕ) × IsBegun p r × (length begun + held_in_line o ≤ length r)
   plan_held_at begun None p items h = (begun, closed_begun profile p items (items_closed_by profile begun None p items h), omega arith)
   plan_held_at begun (Some x) p items h =
       item_line_held profile begun (Some x) x p items (length begun + held_in_line (Some x)) (held_of x.reader) refl h (λ k t r. takes_few x.reader k t r) (omega arith)

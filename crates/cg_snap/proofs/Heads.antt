@@ -13,7 +13,7 @@ use Rattle.cg_line.specs.Place.{TakesLine}
 use Rattle.cg_line.specs.Reads.{Reads, reads_viable}
 use Rattle.cg_line.specs.declared.reader.ValueReader.{ValueReader}
 use Rattle.cg_snap.specs.Course.{AreFew, AreOfRecord}
-use Rattle.cg_snap.specs.DecoderState.{At, AtLine, AtPath, CanEndLine}
+use Rattle.cg_snap.specs.DecoderState.{HasConsumed, HasConsumedInLine, HasConsumedInPath, CanEndLine}
 use Rattle.cg_snap.specs.PathBytes.{ArePathBytes}
 use Rattle.cg_snap.specs.HeadState.{Repeats}
 use Rattle.cg_snap.specs.SnapStop.{IsManyRecords}
@@ -42,11 +42,11 @@ path_bytes (x ∷ xs) h = (h 0 0 (omega arith), path_bytes xs (all_rest x xs h))
 
 -- ---- The head
 
-module _ (profile : Profile) (x : Present) (p : List ℕ) (es : List EntryData) (h : AtPath profile [] x p es) where
+module _ (profile : Profile) (x : Present) (p : List ℕ) (es : List EntryData) (h : HasConsumedInPath profile [] x p es) where
   head_bytes : ArePathBytes x.path.items
   head_bytes = path_bytes x.path.items h.good.bytes
 
-  after_path : AtPath profile x.path.items x (p ++ x.path.items) es
+  after_path : HasConsumedInPath profile x.path.items x (p ++ x.path.items) es
   after_path = path_run profile [] x.path.items x p es x.path.items head_bytes refl h
 
   pub head_plain : Lacks 10 (x.path.items ++ 0 ∷ [])
@@ -55,18 +55,18 @@ module _ (profile : Profile) (x : Present) (p : List ℕ) (es : List EntryData) 
   pub head_taken : (begun : List ℕ) (y : Present) (piece : List ℕ) (count max : ℕ) → begun ≡ [] →
       y.path.items ≡ x.path.items → y.lines ≡ x.lines → ((kind : ReadForm) (taken : List ℕ) → Reads x.reader kind taken → Reads y.reader kind taken) → Repeats x piece max →
       ((kind : ReadForm) (taken : List ℕ) → Reads y.reader kind taken → TakesLine kind taken) →
-      count ≡ length x.path.items + 1 → AtLine profile begun y (p ++ take count piece) es
+      count ≡ length x.path.items + 1 → HasConsumedInLine profile begun y (p ++ take count piece) es
   head_taken begun y piece count max n e c r t takes m =
       let a = after_path in
       let line = same_path profile x.path.items begun x y (p ++ x.path.items) es 0 a refl n refl e c (r a.kind (unlines a.lines) a.reads) (takes_more a.kind a.lines (takes a.kind (unlines a.lines) (r a.kind (unlines a.lines) a.reads))) in
       let whole : p ++ take count piece ≡ (p ++ x.path.items) ++ 0 ∷ [] = ap (λ (q : List ℕ). p ++ q) (head_is x.path.items t.rest piece count t.begins m) ∙ sym (append_assoc p x.path.items (0 ∷ [])) in
-      subst (λ (q : List ℕ). AtLine profile begun y q es) (sym whole) line
+      subst (λ (q : List ℕ). HasConsumedInLine profile begun y q es) (sym whole) line
 
   pub head_few : (max : ℕ) → max ≤ 18446744073709551615 → x.in_line ≡ false → x.lines < max → AreFew (IsManyRecords profile max) p (x.path.items ++ 0 ∷ [])
   head_few max u i few =
       let path = x.path.items in
-      let before : At profile [] (Some x) p es = at_false (AtLine profile [] x p es) (AtPath profile [] x p es) x.in_line i h in
-      let after : At profile path (Some x) (p ++ path) es = at_false (AtLine profile path x (p ++ path) es) (AtPath profile path x (p ++ path) es) x.in_line i after_path in
+      let before : HasConsumed profile [] (Some x) p es = at_false (HasConsumedInLine profile [] x p es) (HasConsumedInPath profile [] x p es) x.in_line i h in
+      let after : HasConsumed profile path (Some x) (p ++ path) es = at_false (HasConsumedInLine profile path x (p ++ path) es) (HasConsumedInPath profile path x (p ++ path) es) x.in_line i after_path in
       few_push (IsManyRecords profile max) p path 0 (path_few profile max [] (Some x) p path es before i head_bytes)
       (full_is profile path (Some x) (p ++ path) es x.lines max false u i after ((λ e. refl), (λ n. absurd (n refl))) (λ e. absurd (cc)) (λ e. few))
 
@@ -81,26 +81,26 @@ pub record_is : (path rest bytes line : List ℕ) (count used : ℕ) → bytes �
     take (count + used) bytes ≡ (path ++ 0 ∷ []) ++ (line ++ 10 ∷ [])
 record_is path rest bytes line count used e m l = take-add count used bytes ∙ (ap (λ (q : List ℕ). q ++ take used (drop count bytes)) (head_is path rest bytes count e m) ∙ ap (λ (q : List ℕ). (path ++ 0 ∷ []) ++ q) l)
 
-module _ (profile : Profile) (x : Present) (now : ValueReader) (p : List ℕ) (es : List EntryData) (h : AtPath profile [] x p es) (line : List ℕ) (plain : Lacks 10 line)
+module _ (profile : Profile) (x : Present) (now : ValueReader) (p : List ℕ) (es : List EntryData) (h : HasConsumedInPath profile [] x p es) (line : List ℕ) (plain : Lacks 10 line)
     (reads : (kind : ReadForm) (taken : List ℕ) → Reads x.reader kind taken → Reads now kind (taken ++ (line ++ 10 ∷ []))) where
   abbrev begun_line : Present
   begun_line = record { path = x.path; reader = x.reader; lines = x.lines; in_line = true; sound = x.sound }
 
   -- The line can be ended, since it was.
-  after_head : AtLine profile [] begun_line (p ++ (x.path.items ++ 0 ∷ [])) es
+  after_head : HasConsumedInLine profile [] begun_line (p ++ (x.path.items ++ 0 ∷ [])) es
   after_head =
       let a = after_path profile x p es h in
       let goes : CanEndLine a.kind a.lines [] = (line, plain, reads_viable now a.kind (unlines a.lines ++ (line ++ 10 ∷ [])) (reads a.kind (unlines a.lines) a.reads)) in
       let nul = same_path profile x.path.items [] x begun_line (p ++ x.path.items) es 0 a refl refl refl refl refl a.reads goes in
-      subst (λ (q : List ℕ). AtLine profile [] begun_line q es) (append_assoc p x.path.items (0 ∷ [])) nul
+      subst (λ (q : List ℕ). HasConsumedInLine profile [] begun_line q es) (append_assoc p x.path.items (0 ∷ [])) nul
 
-  pub record_taken : (y : Present) (bytes : List ℕ) → bytes ≡ (x.path.items ++ 0 ∷ []) ++ (line ++ 10 ∷ []) → y.path.items ≡ x.path.items → y.lines ≡ saturated (x.lines + 1) → y.reader ≡ now → AtPath profile [] y (p ++ bytes) es
+  pub record_taken : (y : Present) (bytes : List ℕ) → bytes ≡ (x.path.items ++ 0 ∷ []) ++ (line ++ 10 ∷ []) → y.path.items ≡ x.path.items → y.lines ≡ saturated (x.lines + 1) → y.reader ≡ now → HasConsumedInPath profile [] y (p ++ bytes) es
   record_taken y bytes e path lines reader =
       let l = after_head in
       let after : Reads y.reader l.kind ((unlines l.lines ++ l.line) ++ (line ++ 10 ∷ [])) =
       subst (λ (o : ValueReader). Reads o l.kind ((unlines l.lines ++ l.line) ++ (line ++ 10 ∷ []))) (sym reader) (reads l.kind (unlines l.lines ++ l.line) l.reads) in
       let whole = line_whole profile [] begun_line y (p ++ (x.path.items ++ 0 ∷ [])) es line l plain path lines after in
-      subst (λ (q : List ℕ). AtPath profile [] y q es) (append_assoc p (x.path.items ++ 0 ∷ []) (line ++ 10 ∷ []) ∙ ap (λ (q : List ℕ). p ++ q) (sym e)) whole
+      subst (λ (q : List ℕ). HasConsumedInPath profile [] y q es) (append_assoc p (x.path.items ++ 0 ∷ []) (line ++ 10 ∷ []) ∙ ap (λ (q : List ℕ). p ++ q) (sym e)) whole
 
   pub record_few : (bytes : List ℕ) (max : ℕ) → bytes ≡ (x.path.items ++ 0 ∷ []) ++ (line ++ 10 ∷ []) → max ≤ 18446744073709551615 → x.in_line ≡ false → x.lines < max → AreFew (IsManyRecords profile max) p bytes
   record_few bytes max e u i few = subst (AreFew (IsManyRecords profile max) p) (sym e)

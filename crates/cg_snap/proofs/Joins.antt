@@ -52,7 +52,7 @@ last_not e (f ∷ es) q u y p o v z x w = absurd (cc)
 
 -- How a snapshot of fs, which has the entries es first, goes on from whole records of the path q: by such records, those of one
 -- entry, and by other entries.
-pub record Inner (profile : Profile) (es fs : List EntryData) (q : List ℕ) (kind : ReadForm) (ls : List (List ℕ)) (tail : List ℕ) : Type 0 where
+pub record ContinuesEntry (profile : Profile) (es fs : List EntryData) (q : List ℕ) (kind : ReadForm) (ls : List (List ℕ)) (tail : List ℕ) : Type 0 where
   pub entry : EntryData
   pub more : List (List ℕ)
   pub others : List EntryData
@@ -97,7 +97,7 @@ module _ (profile : Profile) where
 
   inner_of : (es fs gs : List EntryData) (q : List ℕ) (kind : ReadForm) (ls : List (List ℕ)) (tail y : List ℕ) →
       IsPath q → ReadsAt profile q (Some kind) → AllByRecursion (Lacks 10) ls → records q ls ++ tail ≡ q ++ 0 ∷ y →
-      fs ≡ es ++ gs → SnapText profile gs (records q ls ++ tail) → Inner profile es fs q kind ls tail
+      fs ≡ es ++ gs → SnapText profile gs (records q ls ++ tail) → ContinuesEntry profile es fs q kind ls tail
   inner_of es fs [] q kind ls tail y p r a v e g = absurd (not_empty q y 0 (sym v ∙ g))
   inner_of es fs (f ∷ gs) q kind ls tail y p r a v e g =
       let same : f.path ≡ q = first_path q f.path g.0 g.1 y p (entry_path f) g.2.some (sym g.4 ∙ v) in
@@ -124,7 +124,7 @@ module _ (profile : Profile) where
   pub inner : (es fs : List EntryData) (s : List ℕ) (q : List ℕ) (kind : ReadForm) (ls : List (List ℕ))
       (tail y : List ℕ) → IsPath q → ReadsAt profile q (Some kind) → AllByRecursion (Lacks 10) ls →
       SnapText profile es s → EndsOther es q → records q ls ++ tail ≡ q ++ 0 ∷ y →
-      SnapText profile fs (s ++ (records q ls ++ tail)) → Inner profile es fs q kind ls tail
+      SnapText profile fs (s ++ (records q ls ++ tail)) → ContinuesEntry profile es fs q kind ls tail
   inner es fs s q kind ls tail y p r a h o v g =
       let c = strip es fs s (records q ls ++ tail) q y p h o v g in
       inner_of es fs c.0 q kind ls tail y p r a v c.1 c.2

@@ -34,10 +34,12 @@ pub mod GoingOnLeft
 pub mod GoingOnTakes
 pub mod GoingOnPulls
 pub mod GoingOnEnds
+pub mod GoingOnPlaces
 pub mod GoingOnLawsBlocks
 pub mod GoingOnLawsCarry
 pub mod GoingOnLawsCloses
 pub mod GoingOnLawsKept
 pub mod GoingOnLawsTold
 pub mod GoingOnLawsFaults
+pub mod GoingOnFound
 pub mod RecordPlaces

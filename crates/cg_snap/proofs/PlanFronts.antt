@@ -12,7 +12,7 @@ use Rattle.cg_line.specs.declared.reader.PushedRun.{PushedRun}
 use Rattle.cg_line.specs.declared.setting_reader.SettingReader.{SettingReader}
 use Rattle.cg_snap.specs.Plan.{ClosedPlan, IsItemLine, PlanText}
 use Rattle.cg_snap.specs.PlanLaws.{item_line_plain}
-use Rattle.cg_snap.specs.PlanState.{AtItems}
+use Rattle.cg_snap.specs.PlanState.{HasConsumedItems}
 use Rattle.cg_snap.specs.declared.plan.Writing.{Writing}
 use Rattle.cg_snap.proofs.Courses.{text_on}
 use Rattle.cg_snap.proofs.PlanStates.{items_back, plan_push}
@@ -40,7 +40,7 @@ line_ended r kind line bytes run plain within pushed last =
 pub item_came : (profile : Profile) (p given path line : List ℕ) (items : List ItemData) (item : ItemData) (bytes back : List ℕ) (used : ℕ) (now : List ℕ) (o : Option Writing) →
     PlanText profile items given → Lacks 10 path → item.path ≡ path → IsItemLine profile item line →
     used ≤ length bytes → take used bytes ≡ back ++ 10 ∷ [] → p ++ back ≡ given ++ (path ++ 0 ∷ line) → now ≡ [] → o ≡ None →
-    (0 < used) × ClosedPlan profile (p ++ take (used - 1) bytes) items × AtItems profile now o (p ++ take used bytes) (items ++ item ∷ [])
+    (0 < used) × ClosedPlan profile (p ++ take (used - 1) bytes) items × HasConsumedItems profile now o (p ++ take used bytes) (items ++ item ∷ [])
 item_came profile p given path line items item bytes back used now o whole plain q s within e text none n =
     let before = before_newline bytes back used within e in
     let record_is : p ++ take used bytes ≡ given ++ (path ++ 0 ∷ (line ++ 10 ∷ [])) =

@@ -27,7 +27,7 @@ use Rattle.cg_snap.specs.Course.{AreFew, Leaves, RefusedBy}
 use Rattle.cg_snap.specs.PathBytes.{ArePathBytes}
 use Rattle.cg_snap.specs.Plan.{ClosedPlan, IsItemLine, Plan, PlanText}
 use Rattle.cg_snap.specs.PlanLaws.{item_line_plain, one_write_form, plan_ends, written_plain}
-use Rattle.cg_snap.specs.PlanState.{AtItemLine, AtItemPath, AtItems, HasTakenItems, IsOfWriteKind, IsWriteClass}
+use Rattle.cg_snap.specs.PlanState.{AtItemLine, AtItemPath, HasConsumedItems, HasTakenItems, IsOfWriteKind, IsWriteClass}
 use Rattle.cg_snap.specs.PlanStop.{IsItemWhy, is_never_many}
 use Rattle.cg_snap.specs.SnapLaws.{cut, one_name, record_then}
 use Rattle.cg_snap.specs.SnapStop.{IsNameless}
@@ -175,13 +175,13 @@ module _ (profile : Profile) where
             ∙ path_text p h.given begun first.rest h.split)) w;
       }
 
-  pub items_viable : (begun : List ℕ) (o : Option Writing) (p : List ℕ) (items : List ItemData) → AtItems profile begun o p items → Viable (Plan profile) p
+  pub items_viable : (begun : List ℕ) (o : Option Writing) (p : List ℕ) (items : List ItemData) → HasConsumedItems profile begun o p items → Viable (Plan profile) p
   items_viable begun None p items h = item_path_viable begun p items h
   items_viable begun (Some x) p items h = item_line_viable begun x p items h
 
   -- ---- What is closed, and what is begun
 
-  abbrev pub items_closed_by : (begun : List ℕ) (o : Option Writing) (p : List ℕ) (items : List ItemData) → AtItems profile begun o p items → ClosedPlan profile p items
+  abbrev pub items_closed_by : (begun : List ℕ) (o : Option Writing) (p : List ℕ) (items : List ItemData) → HasConsumedItems profile begun o p items → ClosedPlan profile p items
   items_closed_by begun None p items h = record { given = h.given; begun = begun; split = h.split; whole = h.whole; plain = bytes_no_newline begun h.begun_path }
   items_closed_by begun (Some x) p items h = record {
     given = h.given;
@@ -360,18 +360,18 @@ module _ (profile : Profile) where
 
   -- ---- Whether a line is begun
 
-  pub items_back : (begun : List ℕ) (o : Option Writing) (p : List ℕ) (items : List ItemData) → o ≡ None → AtItemPath profile begun p items → AtItems profile begun o p items
-  items_back begun o p items e h = subst (λ (w : Option Writing). AtItems profile begun w p items) (sym e) h
+  pub items_back : (begun : List ℕ) (o : Option Writing) (p : List ℕ) (items : List ItemData) → o ≡ None → AtItemPath profile begun p items → HasConsumedItems profile begun o p items
+  items_back begun o p items e h = subst (λ (w : Option Writing). HasConsumedItems profile begun w p items) (sym e) h
 
-  pub items_path : (begun : List ℕ) (o : Option Writing) (p : List ℕ) (items : List ItemData) → o ≡ None → AtItems profile begun o p items → AtItemPath profile begun p items
-  items_path begun o p items e h = subst (λ (w : Option Writing). AtItems profile begun w p items) e h
+  pub items_path : (begun : List ℕ) (o : Option Writing) (p : List ℕ) (items : List ItemData) → o ≡ None → HasConsumedItems profile begun o p items → AtItemPath profile begun p items
+  items_path begun o p items e h = subst (λ (w : Option Writing). HasConsumedItems profile begun w p items) e h
 
-  pub items_line : (begun : List ℕ) (o : Option Writing) (x : Writing) (p : List ℕ) (items : List ItemData) → o ≡ Some x → AtItems profile begun o p items → AtItemLine profile begun x p items
-  items_line begun o x p items e h = subst (λ (w : Option Writing). AtItems profile begun w p items) e h
+  pub items_line : (begun : List ℕ) (o : Option Writing) (x : Writing) (p : List ℕ) (items : List ItemData) → o ≡ Some x → HasConsumedItems profile begun o p items → AtItemLine profile begun x p items
+  items_line begun o x p items e h = subst (λ (w : Option Writing). HasConsumedItems profile begun w p items) e h
 
   -- ---- What is held
 
-  pub item_line_held : (begun : List ℕ) (o : Option Writing) (x : Writing) (p : List ℕ) (items : List ItemData) (n m : ℕ) → o ≡ Some x → AtItems profile begun o p items → ((k : WriteForm) (t : List ℕ) → Takes x.reader k t → m ≤ length t) →
+  pub item_line_held : (begun : List ℕ) (o : Option Writing) (x : Writing) (p : List ℕ) (items : List ItemData) (n m : ℕ) → o ≡ Some x → HasConsumedItems profile begun o p items → ((k : WriteForm) (t : List ℕ) → Takes x.reader k t → m ≤ length t) →
       n ≤ length begun + (length x.path.items + m) → (r : List ℕ) × IsBegun p r × (n ≤ length r)
   item_line_held begun o x p items n m e h most le =
       let l = items_line begun o x p items e h in
@@ -393,11 +393,11 @@ never_few max p (byte ∷ run) = ((λ many. many), never_few max (p ++ byte ∷ 
 
 -- ---- What the records took
 
-pub taken_items : (s : PlanRecords) (profile : Profile) (p : List ℕ) (items : List ItemData) → s.profile ≡ profile → AtItems profile s.begun.items s.present p items → HasTakenItems s profile p items
+pub taken_items : (s : PlanRecords) (profile : Profile) (p : List ℕ) (items : List ItemData) → s.profile ≡ profile → HasConsumedItems profile s.begun.items s.present p items → HasTakenItems s profile p items
 taken_items s profile p items e h = record { profile_is = e; at = h; closed = items_closed_by profile s.begun.items s.present p items h; goes_on = items_viable profile s.begun.items s.present p items h }
 
 -- What bytes leave.
 pub items_leave : (s : PlanRecords) (profile : Profile) (max : ℕ) (p : List ℕ) (items : List ItemData) (bytes : List ℕ) (used : ℕ) (what : Event ItemData) → s.profile ≡ profile →
-    Leaves (plan_stream profile) (AtItems profile s.begun.items s.present) max p items bytes used what → Leaves (plan_stream profile) (HasTakenItems s profile) max p items bytes used what
+    Leaves (plan_stream profile) (HasConsumedItems profile s.begun.items s.present) max p items bytes used what → Leaves (plan_stream profile) (HasTakenItems s profile) max p items bytes used what
 items_leave s profile max p items bytes used what e h =
-    leaves_as (plan_stream profile) (AtItems profile s.begun.items s.present) (HasTakenItems s profile) (λ q fs a. taken_items s profile q fs e a) max p items bytes used what h
+    leaves_as (plan_stream profile) (HasConsumedItems profile s.begun.items s.present) (HasTakenItems s profile) (λ q fs a. taken_items s profile q fs e a) max p items bytes used what h

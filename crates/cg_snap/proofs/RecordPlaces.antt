@@ -1,12 +1,13 @@
 -- Where the record stands that comes, and which bytes are a whole stream.
 use Rattle.std.proofs.Common.{◌≡◌, ℕ, Bool, true, false, List, [], ◌∷◌, ◌++◌, Option, Some, None, refl, sym, ap, subst, ◌∙◌, ◌↔◌, IsTrue, not, true≢false}
+use Rattle.std.specs.Bool.{MatchBool}
 use Rattle.std.proofs.lemmas.List.{append-nil}
 use Rattle.cg_value.specs.Entry.{EntryData, ItemData}
 use Rattle.cg_value.specs.PathLaws.{path_lacks_nul}
 use Rattle.cg_value.specs.declared.profile.Profile.{Profile}
-use Rattle.cg_snap.specs.DecoderState.{At, AtStart}
+use Rattle.cg_snap.specs.DecoderState.{HasConsumed, HasConsumedAPath}
 use Rattle.cg_snap.specs.Plan.{Plan, PlanText}
-use Rattle.cg_snap.specs.PlanState.{AtItems}
+use Rattle.cg_snap.specs.PlanState.{HasConsumedItems}
 use Rattle.cg_snap.specs.RecordPlace.{IsRecordPlace}
 use Rattle.cg_snap.specs.Snap.{Snap}
 use Rattle.cg_snap.specs.declared.plan.Writing.{Writing}
@@ -17,17 +18,17 @@ use Rattle.cg_snap.proofs.PlanStates.{closed_begun, items_closed_by, items_line,
 use Rattle.cg_snap.proofs.States.{line_state}
 use Rattle.cg_snap.proofs.Steps.{bytes_no_nul, present_entry}
 
-module _ (profile : Profile) (begun : List ℕ) (o : Option Present) (p : List ℕ) (es : List EntryData) (h : At profile begun o p es) where
+module _ (profile : Profile) (begun : List ℕ) (o : Option Present) (p : List ℕ) (es : List EntryData) (h : HasConsumed profile begun o p es) where
   pub line_place : (x : Present) → o ≡ Some x → x.in_line ≡ true → IsRecordPlace p x.path.items true
   line_place x e t =
-      let l = line_state profile begun x p es t (subst (λ (q : Option Present). At profile begun q p es) e h) in
+      let l = line_state profile begun x p es t (subst (λ (q : Option Present). HasConsumed profile begun q p es) e h) in
       (l.line, path_lacks_nul x.path.items l.good, line_begun profile begun x p es l)
 
   pub path_place : (x : Present) → o ≡ Some x → x.in_line ≡ false → IsRecordPlace p begun false
   path_place x e t = let a = between_path profile begun o x p es e t h in (bytes_no_nul begun a.begun_path, path_begun profile begun x p es a)
 
-  start_state : o ≡ None → AtStart begun p es
-  start_state e = subst (λ (q : Option Present). At profile begun q p es) e h
+  start_state : o ≡ None → HasConsumedAPath begun p es
+  start_state e = subst (λ (q : Option Present). HasConsumed profile begun q p es) e h
 
   pub start_place : o ≡ None → IsRecordPlace p begun false
   start_place e = let a = start_state e in (bytes_no_nul begun a.begun_path, start_begun begun p es a)
@@ -43,7 +44,7 @@ module _ (profile : Profile) (begun : List ℕ) (o : Option Present) (p : List �
       let last = present_entry profile begun x p es a in
       (es ++ last.0 ∷ [], last_entry profile begun x p es (last.0) a n (last.1) (last.2))
 
-module _ (profile : Profile) (begun : List ℕ) (o : Option Writing) (p : List ℕ) (items : List ItemData) (h : AtItems profile begun o p items) where
+module _ (profile : Profile) (begun : List ℕ) (o : Option Writing) (p : List ℕ) (items : List ItemData) (h : HasConsumedItems profile begun o p items) where
   pub item_line_place : (x : Writing) → o ≡ Some x → IsRecordPlace p x.path.items true
   item_line_place x e =
       let l = items_line profile begun o x p items e h in
@@ -70,6 +71,10 @@ yes_decides false P y n = (λ t. absurd (true≢false (sym t)), λ x. absurd (n 
 pub no_decides : (b : Bool) (P : Type 0) → (b ≡ false → P) → (b ≡ true → P → ⊥) → IsTrue (not b) ↔ P
 no_decides true P y n = (λ t. absurd (true≢false (sym t)), λ x. absurd (n refl x))
 no_decides false P y n = (λ t. y refl, λ x. refl)
+
+pub decided : (b : Bool) (S P Q : Type 0) → IsTrue b ↔ S → (S → P) → ((S → ⊥) → Q) → MatchBool b P Q
+decided true S P Q e p q = p (e.0 refl)
+decided false S P Q e p q = q (λ s. true≢false (sym (e.1 s)))
 
 pub never_decides : (P : Type 0) → (P → ⊥) → IsTrue false ↔ P
 never_decides P n = (λ t. absurd (true≢false (sym t)), λ x. absurd (n x))

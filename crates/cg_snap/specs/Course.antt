@@ -77,7 +77,7 @@ module _ {S Part : Type 0} (stream : Stream S Part) where
       × (stream.many max ((p ++ take used bytes) ++ get_or bytes used 0 ∷ []) (length (p ++ take used bytes)) → ⊥)
 
   -- The bytes p were consumed, of which none stops a stream, and the parts es given, which they close.
-  pub record IsAlong (s : S) (m : Meter) (p : List ℕ) (es : List Part) : Type 0 where
+  pub record HasProgressed (s : S) (m : Meter) (p : List ℕ) (es : List Part) : Type 0 where
     pub state : stream.at s p es
     pub counted : IsCounted m p
     pub unstopped : IsStreamUnstopped stream.language stream.breaks stream.many m.limits p
@@ -85,21 +85,21 @@ module _ {S Part : Type 0} (stream : Stream S Part) where
 
   -- What the first bytes of a piece did, so many of them being consumed, where the piece may have more of them.
   abbrev pub Advances : S → Meter → List ℕ → List Part → List ℕ → ℕ → Event Part → Type 0
-  Advances s m p es piece used events.NeedMore = IsAlong s m (p ++ take used piece) es
-  Advances s m p es piece used (events.Given e) = (0 < used) × stream.closes (p ++ take (used - 1) piece) es × IsAlong s m (p ++ take used piece) (es ++ e ∷ [])
+  Advances s m p es piece used events.NeedMore = HasProgressed s m (p ++ take used piece) es
+  Advances s m p es piece used (events.Given e) = (0 < used) × stream.closes (p ++ take (used - 1) piece) es × HasProgressed s m (p ++ take used piece) (es ++ e ∷ [])
   Advances s m p es piece used (events.Stopped stop) =
-      (used < length piece) × StreamStopOf stream.language stream.breaks stream.many m.limits ((p ++ take used piece) ++ get_or piece used 0 ∷ []) stop × IsAlong s m (p ++ take used piece) es
+      (used < length piece) × StreamStopOf stream.language stream.breaks stream.many m.limits ((p ++ take used piece) ++ get_or piece used 0 ∷ []) stop × HasProgressed s m (p ++ take used piece) es
   Advances s m p es piece used events.OutOfMemory =
-      (used < length piece) × IsStreamUnstopped stream.language stream.breaks stream.many m.limits ((p ++ take used piece) ++ get_or piece used 0 ∷ []) × IsAlong s m (p ++ take used piece) es
+      (used < length piece) × IsStreamUnstopped stream.language stream.breaks stream.many m.limits ((p ++ take used piece) ++ get_or piece used 0 ∷ []) × HasProgressed s m (p ++ take used piece) es
 
   -- The same, to the end of the piece where nothing comes.
   abbrev pub PieceDid : S → Meter → List ℕ → List Part → List ℕ → ℕ → Event Part → Type 0
-  PieceDid s m p es piece used events.NeedMore = (used ≡ length piece) × IsAlong s m (p ++ take used piece) es
-  PieceDid s m p es piece used (events.Given e) = (0 < used) × stream.closes (p ++ take (used - 1) piece) es × IsAlong s m (p ++ take used piece) (es ++ e ∷ [])
+  PieceDid s m p es piece used events.NeedMore = (used ≡ length piece) × HasProgressed s m (p ++ take used piece) es
+  PieceDid s m p es piece used (events.Given e) = (0 < used) × stream.closes (p ++ take (used - 1) piece) es × HasProgressed s m (p ++ take used piece) (es ++ e ∷ [])
   PieceDid s m p es piece used (events.Stopped stop) =
-      (used < length piece) × StreamStopOf stream.language stream.breaks stream.many m.limits (p ++ piece) stop × IsAlong s m (p ++ take used piece) es × (place_of stop ≡ length p + used)
+      (used < length piece) × StreamStopOf stream.language stream.breaks stream.many m.limits (p ++ piece) stop × HasProgressed s m (p ++ take used piece) es × (place_of stop ≡ length p + used)
   PieceDid s m p es piece used events.OutOfMemory =
-      (used < length piece) × IsStreamUnstopped stream.language stream.breaks stream.many m.limits (p ++ take (used + 1) piece) × IsAlong s m (p ++ take used piece) es
+      (used < length piece) × IsStreamUnstopped stream.language stream.breaks stream.many m.limits (p ++ take (used + 1) piece) × HasProgressed s m (p ++ take used piece) es
 
 -- What bytes of a line come to, by why a reader took no more of them, and the place of the next one.
 abbrev pub IsLineEvent : {Part : Type 0} → Option PushFault → ℕ → Event Part → Type 0

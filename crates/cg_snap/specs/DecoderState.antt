@@ -41,13 +41,13 @@ abbrev pub CanEndLine : ReadForm → List (List ℕ) → List ℕ → Type 0
 CanEndLine kind lines line = (more : List ℕ) × Lacks 10 more × Viable (KindFile kind) (unlines lines ++ (line ++ (more ++ 10 ∷ [])))
 
 -- No record has ended: all that came is the front of a path.
-pub record AtStart (begun p : List ℕ) (es : List EntryData) : Type 0 where
+pub record HasConsumedAPath (begun p : List ℕ) (es : List EntryData) : Type 0 where
   pub none : es ≡ []
   pub bytes : p ≡ begun
   pub begun_path : ArePathBytes begun
 
 -- After the entries that were given came whole records of the present one, and then the front of a path.
-pub record AtPath (profile : Profile) (begun : List ℕ) (x : Present) (p : List ℕ) (es : List EntryData) : Type 0 where
+pub record HasConsumedInPath (profile : Profile) (begun : List ℕ) (x : Present) (p : List ℕ) (es : List EntryData) : Type 0 where
   pub given : List ℕ
   pub lines : List (List ℕ)
   pub kind : ReadForm
@@ -64,7 +64,7 @@ pub record AtPath (profile : Profile) (begun : List ℕ) (x : Present) (p : List
 
 -- After the entries that were given came whole records of the present one, also none, and then its path, a NUL, and the
 -- front of a line.
-pub record AtLine (profile : Profile) (begun : List ℕ) (x : Present) (p : List ℕ) (es : List EntryData) : Type 0 where
+pub record HasConsumedInLine (profile : Profile) (begun : List ℕ) (x : Present) (p : List ℕ) (es : List EntryData) : Type 0 where
   pub given : List ℕ
   pub lines : List (List ℕ)
   pub line : List ℕ
@@ -82,14 +82,14 @@ pub record AtLine (profile : Profile) (begun : List ℕ) (x : Present) (p : List
   pub count : x.lines ≡ saturated (length lines)
 
 -- The bytes p came, and the entries es were given.
-abbrev pub At : Profile → List ℕ → Option Present → List ℕ → List EntryData → Type 0
-At profile begun None p es = AtStart begun p es
-At profile begun (Some x) p es = MatchBool x.in_line (AtLine profile begun x p es) (AtPath profile begun x p es)
+abbrev pub HasConsumed : Profile → List ℕ → Option Present → List ℕ → List EntryData → Type 0
+HasConsumed profile begun None p es = HasConsumedAPath begun p es
+HasConsumed profile begun (Some x) p es = MatchBool x.in_line (HasConsumedInLine profile begun x p es) (HasConsumedInPath profile begun x p es)
 
 -- The same where no line is begun.
-abbrev pub AtPaths : Profile → List ℕ → Option Present → List ℕ → List EntryData → Type 0
-AtPaths profile begun None p es = AtStart begun p es
-AtPaths profile begun (Some x) p es = AtPath profile begun x p es
+abbrev pub HasConsumedBetween : Profile → List ℕ → Option Present → List ℕ → List EntryData → Type 0
+HasConsumedBetween profile begun None p es = HasConsumedAPath begun p es
+HasConsumedBetween profile begun (Some x) p es = HasConsumedInPath profile begun x p es
 
 -- No line is begun.
 abbrev pub IsBetween : Option Present → Type 0
@@ -125,7 +125,7 @@ TakesMore begun (Some x) = x.path.items ≡ begun → (kind : ReadForm) (taken :
 -- The records are of this profile, consumed the bytes p and gave the entries es; so these are closed, and some snapshot goes on.
 pub record HasTakenRecords (s : SnapshotRecords) (profile : Profile) (p : List ℕ) (es : List EntryData) : Type 0 where
   pub profile_is : s.profile ≡ profile
-  pub at : At profile s.begun.items s.present p es
+  pub at : HasConsumed profile s.begun.items s.present p es
   pub closed : Closed profile p es
   pub goes_on : Viable (Snap profile) p
 

@@ -1,14 +1,16 @@
 -- What is told of a snapshot where what is at fault is left out, and the stream is gone on with: of each block its entry, or that it
 -- is left out.
 use Rattle.std.proofs.Common.{inl, inr}
-use Rattle.std.specs.Prelude.{◌≡◌, ◌≢◌, ℕ, ◌+◌, ◌<◌, ◌≤◌, ◌⊎◌, List, [], ◌∷◌, ◌++◌, length, flat_map, Option, Some, None}
+use Rattle.std.specs.Prelude.{◌≡◌, ◌≢◌, ◌↔◌, ℕ, ◌+◌, ◌<◌, ◌≤◌, ◌⊎◌, Bool, List, [], ◌∷◌, ◌++◌, length, flat_map, Option, Some, None}
 use Rattle.std.specs.List.{AllByRecursion}
-use Rattle.cg_text.specs.Texts.{Lacks}
+use Rattle.cg_text.specs.Bytes.{HasByte}
+use Rattle.cg_text.specs.Texts.{Lacks, Next}
 use Rattle.cg_value.specs.Entry.{EntryData, IsPath}
 use Rattle.cg_value.specs.Records.{records}
 use Rattle.cg_value.specs.declared.profile.Profile.{Profile}
 use Rattle.cg_snap.specs.Begun.{IsRecordEnd}
 use Rattle.cg_snap.specs.Decode.{IsDecoded}
+use Rattle.cg_snap.specs.Snap.{Snap}
 use Rattle.cg_snap.specs.SnapStop.{IsSnapUnstopped, SnapStopOf}
 use Rattle.cg_snap.specs.Stop.{place_of}
 use Rattle.cg_snap.specs.declared.going_on.Cause.{Cause}
@@ -53,6 +55,9 @@ pub record IsWithoutPath (max : ℕ) (bytes : List ℕ) : Type 0 where
 pub record Block : Type 0 where
   pub path : Option (List ℕ)
   pub bytes : List ℕ
+
+abbrev pub block_with : Option (List ℕ) → List ℕ → ℕ → Block
+block_with path bytes byte = record { path = path; bytes = bytes ++ byte ∷ [] }
 
 abbrev pub IsBlockOf : ℕ → Option (List ℕ) → List ℕ → Type 0
 IsBlockOf max None bytes = IsWithoutPath max bytes
@@ -138,6 +143,37 @@ module _ (profile : Profile) (limits : Limits) where
   -- What bytes tell of a stream that begins with them: of each block that another follows, or at which something is at fault.
   abbrev pub AreToldBy : List ℕ → List Told → Type 0
   AreToldBy bytes told = IsBehind bytes told ⊎ IsWithin bytes told
+
+  -- ---- Where something is at fault, and what may come
+
+  -- This came of a block before the byte with which it is left out, behind blocks of which this is told.
+  pub record IsAtFault (bytes : List ℕ) (before : List Told) (out : LeftOut) (block : List ℕ) (byte : ℕ) : Type 0 where
+    pub front : List ℕ
+    pub path : Option (List ℕ)
+    pub blocks : AreTold front path before
+    pub follows : Follows limits.max_record front path (block_with out.path block byte)
+    pub left_out : IsLeftOut (length front) (block_with out.path block byte) out
+    pub at : out.at ≡ length front + length block
+    pub rest : List ℕ
+    pub split : bytes ≡ front ++ (block ++ byte ∷ rest)
+
+  -- The bytes end within a line of a block with this path, which is left out: the rest of the line is passed over.
+  pub record IsPassed (bytes : List ℕ) (path : Option (List ℕ)) : Type 0 where
+    pub told : List Told
+    pub blocks : AreTold bytes path told
+    pub left_out : EndsLeftOut told
+    pub in_line : IsRecordEnd bytes → ⊥
+
+  -- Where no line is passed over, this came of a block at which nothing is at fault and that nothing follows yet, if there is one,
+  -- and of a line whose path isn't known.
+  abbrev pub IsPresent : List ℕ → List ℕ → Type 0
+  IsPresent bytes block = (told : List Told)
+      × (((h : IsBehind bytes told) × IsRecordEnd h.front × (block ≡ h.tail)) ⊎ ((h : IsWithin bytes told) × (block ≡ h.block.bytes ++ h.tail)))
+
+  -- The set of the bytes that may come behind these, so that nothing is at fault: any in the rest of a line that is passed over.
+  abbrev pub IsWanted : List ℕ → List Bool → Type 0
+  IsWanted bytes set = (((path : Option (List ℕ)) × IsPassed bytes path) × ((byte : ℕ) → HasByte set byte ↔ (byte < 256)))
+      ⊎ ((block : List ℕ) × IsPresent bytes block × ((byte : ℕ) → HasByte set byte ↔ Next (Snap profile) block byte))
 
 -- What is found by bytes, one after another.
 abbrev pub told_entry : Option EntryData → List Told

@@ -8,7 +8,7 @@ use Rattle.cg_snap.specs.Closed.{IsHeldFor}
 use Rattle.cg_snap.specs.Decode.{IsStreamFault}
 use Rattle.cg_snap.specs.Decoder.{held_by_records}
 use Rattle.cg_snap.specs.GoingOn.{AreAllTold, AreTold, EndsLeftOut, Told, stream_limits, told_by, told_entry}
-use Rattle.cg_snap.specs.GoingOnState.{AreLines, breaks_none, form_of, going_stream, many_of_none}
+use Rattle.cg_snap.specs.GoingOnState.{AreLines, HaveFaults, breaks_none, form_of, going_stream, many_of_none}
 use Rattle.cg_snap.specs.Pulled.{StandsFor}
 use Rattle.cg_snap.specs.declared.decode.StreamFault.{StreamFault}
 use Rattle.cg_snap.specs.declared.decoder.Decoder.{Decoder}
@@ -66,9 +66,10 @@ GoingFinishIs profile limits p found (Err (stops.TooLong at)) = ⊥
 GoingFinishIs profile limits p found (Err (stops.TooMany at)) = ⊥
 GoingFinishIs profile limits p found (Err (stops.TooMuch at)) = ⊥
 
--- All is told of the bytes, which are whole lines and no more than the stream may have.
+-- All is told of the bytes, which are whole lines and no more than the stream may have, with what came before each byte at fault.
 pub record IsGoneOn (profile : Profile) (limits : Limits) (bytes : List ℕ) (found : List Found) : Type 0 where
   pub all : AreAllTold profile limits bytes (told_by found)
+  pub faults : HaveFaults profile limits bytes [] found
   pub short : length bytes ≤ limits.max_stream
 
 -- What is at fault with a whole stream that is gone on with: the limit of the whole, or that it ends within a line; or memory.

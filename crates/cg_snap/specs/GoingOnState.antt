@@ -8,14 +8,15 @@ use Rattle.cg_value.specs.Entry.{EntryData, IsPath}
 use Rattle.cg_value.specs.Records.{records}
 use Rattle.cg_value.specs.declared.profile.Profile.{Profile}
 use Rattle.cg_snap.specs.Begun.{IsRecordEnd}
-use Rattle.cg_snap.specs.Course.{IsAlong, Stream}
-use Rattle.cg_snap.specs.DecoderState.{AtPath}
-use Rattle.cg_snap.specs.GoingOn.{AreTold, AreToldBy, Block, EndsLeftOut, Follows, IsLeftOut, Told, block_limits, told_by, told_entry, told_out}
+use Rattle.cg_snap.specs.Course.{HasProgressed, Stream}
+use Rattle.cg_snap.specs.DecoderState.{HasConsumedInPath, HasTakenRecords}
+use Rattle.cg_snap.specs.GoingOn.{AreTold, AreToldBy, Block, EndsLeftOut, Follows, IsAtFault, IsLeftOut, Told, block_limits, told_by, told_entry, told_out}
 use Rattle.cg_snap.specs.Snap.{AreEntryLines}
 use Rattle.cg_snap.specs.SnapStop.{IsNameless}
 use Rattle.cg_snap.specs.Streams.{snap_stream}
 use Rattle.cg_snap.specs.declared.event.Event.{Event}
 use Rattle.cg_snap.specs.declared.event.Event.TheVariants as events
+use Rattle.cg_snap.specs.declared.fault.Fault.{Fault}
 use Rattle.cg_snap.specs.declared.going_on.Found.{Found}
 use Rattle.cg_snap.specs.declared.going_on.LeftOut.{LeftOut}
 use Rattle.cg_snap.specs.declared.going_on_records.GoingOnRecords.{GoingOnRecords}
@@ -55,7 +56,7 @@ module _ (s : GoingOnRecords) (profile : Profile) (limits : Limits) (bytes : Lis
     pub ended : IsRecordEnd front
     pub block : List ℕ
     pub split : bytes ≡ front ++ block
-    pub along : IsAlong (snap_stream profile) s.block s.meter block []
+    pub along : HasProgressed (snap_stream profile) s.block s.meter block []
     pub state : IsFirst path block ⊎ HasOther path block
 
   -- The rest of a line of a block that is left out is passed over.
@@ -72,7 +73,7 @@ module _ (s : GoingOnRecords) (profile : Profile) (limits : Limits) (bytes : Lis
     pub told_is : told ≡ before ++ inr out ∷ []
     pub in_line : EndsInLine block.path block.bytes
     pub kept : s.left_out ≡ block.path
-    pub along : IsAlong (snap_stream profile) s.block s.meter [] []
+    pub along : HasProgressed (snap_stream profile) s.block s.meter [] []
 
 -- The records, which are of this profile and have these limits, took the bytes, and this is told.
 pub record HasTold (s : GoingOnRecords) (profile : Profile) (limits : Limits) (bytes : List ℕ) (told : List Told) : Type 0 where
@@ -105,7 +106,7 @@ IsPathAt begun byte room (Some x) false path = IsPathBegun begun byte room path
 -- The entry of the records of the present one.
 abbrev pub IsEnded : Option Present → Option EntryData → Type 0
 IsEnded None e = e ≡ None
-IsEnded (Some x) e = (profile : Profile) (begun p : List ℕ) (es : List EntryData) (h : AtPath profile begun x p es) →
+IsEnded (Some x) e = (profile : Profile) (begun p : List ℕ) (es : List EntryData) (h : HasConsumedInPath profile begun x p es) →
     MatchOption e ⊥ (λ f. (f.path ≡ x.path.items) × AreEntryLines profile f h.lines)
 
 -- Whether the present path is that of a block that was left out.
@@ -122,15 +123,36 @@ IsWholeStop (stops.TooMany at) = ⊥
 IsWholeStop (stops.TooMuch at) = Unit {0}
 IsWholeStop (stops.Cut at) = Unit {0}
 
+-- This came of a block before its byte at fault.
+abbrev pub IsBefore : Fault → Profile → List ℕ → Type 0
+IsBefore fault profile block = HasTakenRecords fault.records profile block []
+
+-- What came of the block that is left out before its byte at fault, where one is, behind blocks of which this is told.
+abbrev pub IsFaultOf : Profile → Limits → List ℕ → List Told → Option LeftOut → Option Fault → Type 0
+IsFaultOf profile limits bytes before None None = Unit {0}
+IsFaultOf profile limits bytes before None (Some fault) = ⊥
+IsFaultOf profile limits bytes before (Some out) None = ⊥
+IsFaultOf profile limits bytes before (Some out) (Some fault) = (block : List ℕ) × (byte : ℕ) × IsAtFault profile limits bytes before out block byte × IsBefore fault profile block
+
+-- The same of each thing that is found, where this is told before.
+abbrev pub HaveFaults : Profile → Limits → List ℕ → List Told → List Found → Type 0
+HaveFaults profile limits bytes told [] = Unit {0}
+HaveFaults profile limits bytes told (f ∷ found) =
+    IsFaultOf profile limits bytes (told ++ told_entry f.entry) f.left_out f.fault × HaveFaults profile limits bytes (told ++ (told_entry f.entry ++ told_out f.left_out)) found
+
+-- One thing more is found and told.
+abbrev pub HasFoundMore : GoingOnRecords → Profile → Limits → List ℕ → List Told → Found → Type 0
+HasFoundMore new profile limits bytes told found = HasTold new profile limits bytes (told ++ (told_entry found.entry ++ told_out found.left_out)) × IsFaultOf profile limits bytes (told ++ told_entry found.entry) found.left_out found.fault
+
 -- What leaving out the block at whose byte something is at fault leaves: nothing more is told, where it was left out before.
 abbrev pub IsLeft : GoingOnRecords → Profile → Limits → List ℕ → List Told → Option Found → Type 0
 IsLeft new profile limits bytes told None = HasTold new profile limits bytes told
-IsLeft new profile limits bytes told (Some found) = HasTold new profile limits bytes (told ++ (told_entry found.entry ++ told_out found.left_out))
+IsLeft new profile limits bytes told (Some found) = HasFoundMore new profile limits bytes told found
 
 -- What taking the byte at fault leaves, of which so many were taken.
 abbrev pub FaultLeaves : GoingOnRecords → GoingOnRecords → Profile → Limits → List ℕ → List Told → Stop → ℕ → Event Found → Type 0
 FaultLeaves old new profile limits bytes told stop used events.NeedMore = (used ≡ 1) × HasTold new profile limits bytes told
-FaultLeaves old new profile limits bytes told stop used (events.Given found) = (used ≡ 1) × HasTold new profile limits bytes (told ++ (told_entry found.entry ++ told_out found.left_out))
+FaultLeaves old new profile limits bytes told stop used (events.Given found) = (used ≡ 1) × HasFoundMore new profile limits bytes told found
 FaultLeaves old new profile limits bytes told stop used (events.Stopped other) = IsWholeStop stop
 FaultLeaves old new profile limits bytes told stop used events.OutOfMemory = (used ≡ 0) × (new ≡ old)
 
@@ -142,7 +164,7 @@ pub record IsUnsettled (s : GoingOnRecords) (profile : Profile) (limits : Limits
   pub ended : IsRecordEnd front
   pub block : List ℕ
   pub split : bytes ≡ front ++ block
-  pub along : IsAlong (snap_stream profile) s.block s.meter block []
+  pub along : HasProgressed (snap_stream profile) s.block s.meter block []
   pub left_out : EndsLeftOut profile limits told
   pub kept : s.left_out ≡ path
   pub byte : (path ≡ None) ⊎ ((begun : List ℕ) × (last : ℕ) × Lacks 0 begun × (block ≡ begun ++ last ∷ []))
@@ -153,10 +175,11 @@ pub record IsUnsettled (s : GoingOnRecords) (profile : Profile) (limits : Limits
 abbrev pub AreLines : List ℕ → Type 0
 AreLines text = IsRecordEnd text × AllByRecursion (λ b. b < 256) text
 
--- The records took the bytes, and this is found, which is all that they tell.
+-- The records took the bytes, and this is found, which is all that they tell, with what came before each byte at fault.
 pub record HasFound (s : GoingOnRecords) (form : Profile × Limits) (p : List ℕ) (found : List Found) : Type 0 where
   pub told : HasTold s (form.0) (form.1) p (told_by found)
   pub closed : AreToldBy (form.0) (form.1) p (told_by found)
+  pub faults : HaveFaults (form.0) (form.1) p [] found
   pub bytes : AllByRecursion (λ b. b < 256) p
 
 -- No byte breaks a rule.

@@ -54,14 +54,14 @@ pub record AtItemLine (profile : Profile) (begun : List ℕ) (x : Writing) (p : 
   pub nothing_begun : begun ≡ []
 
 -- The bytes p came, and the items were given.
-abbrev pub AtItems : Profile → List ℕ → Option Writing → List ℕ → List ItemData → Type 0
-AtItems profile begun None p items = AtItemPath profile begun p items
-AtItems profile begun (Some x) p items = AtItemLine profile begun x p items
+abbrev pub HasConsumedItems : Profile → List ℕ → Option Writing → List ℕ → List ItemData → Type 0
+HasConsumedItems profile begun None p items = AtItemPath profile begun p items
+HasConsumedItems profile begun (Some x) p items = AtItemLine profile begun x p items
 
 -- The records are of this profile, consumed the bytes p and gave the items; so these are closed, and some plan goes on.
 pub record HasTakenItems (s : PlanRecords) (profile : Profile) (p : List ℕ) (items : List ItemData) : Type 0 where
   pub profile_is : s.profile ≡ profile
-  pub at : AtItems profile s.begun.items s.present p items
+  pub at : HasConsumedItems profile s.begun.items s.present p items
   pub closed : ClosedPlan profile p items
   pub goes_on : Viable (Plan profile) p
 

@@ -1,6 +1,6 @@
 -- What the calls of a decoder promise, whatever stream it is of, by the bytes that it consumed and the parts that it gave.
 use Rattle.std.specs.Prelude.{◌≡◌, ℕ, ◌+◌, ◌-◌, ◌<◌, List, [], ◌∷◌, ◌++◌, length, take, Some, None}
-use Rattle.cg_snap.specs.Course.{IsAlong, Stream}
+use Rattle.cg_snap.specs.Course.{HasProgressed, Stream}
 use Rattle.cg_snap.specs.Stop.{place_of}
 use Rattle.cg_snap.specs.StreamStop.{IsStreamUnstopped, StreamStopOf}
 use Rattle.cg_snap.specs.declared.decoder.Decoder.{Decoder}
@@ -13,7 +13,7 @@ use Rattle.cg_snap.specs.declared.stop.Stop.{Stop}
 module _ {R Part : Type 0} (stream : Stream R Part) where
   -- The decoder consumed the bytes p, of which none stops a stream, and gave the parts es.
   abbrev pub StandsFor : Decoder R → List ℕ → List Part → Type 0
-  StandsFor d = IsAlong stream d.records d.meter
+  StandsFor d = HasProgressed stream d.records d.meter
 
   -- What a call of next leaves that consumed so many bytes of the piece. A part comes with the byte that closes it; the stop
   -- is that of the stream, at the first byte that isn't consumed; and where memory was refused, no rule and no limit stops the byte.

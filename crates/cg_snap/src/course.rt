@@ -2,7 +2,7 @@
 ghost use Rattle.std.specs.Prelude.{◌≡◌, ◌↔◌, ◌<◌, ◌≤◌, ◌++◌, ℕ, List, length, take};
 ghost use Rattle.cg_text.specs.Bytes.{HasByte};
 ghost use Rattle.cg_text.specs.Texts.{Next};
-ghost use Rattle.cg_snap.specs.Course.{Advances, AreOfRecord, GoesForward, IsAlong, IsMovedBy, PieceDid};
+ghost use Rattle.cg_snap.specs.Course.{Advances, AreOfRecord, GoesForward, HasProgressed, IsMovedBy, PieceDid};
 
 use crate::event::{Event, Progress};
 use crate::meter::Meter;
@@ -18,10 +18,10 @@ pub(crate) fn advance<R: Records>(
 ) -> Progress<R::Part>
     requires { 0 < length piece.now }
     ensures advances { (form : R.Form) (p : List ℕ) (es : List R.Part) →
-        IsAlong (R.stream form) records.old meter.old p es →
+        HasProgressed (R.stream form) records.old meter.old p es →
         Advances (R.stream form) records.new meter.new p es piece.now result.used result.what }
     ensures of_record { (form : R.Form) (p : List ℕ) (es : List R.Part) →
-        IsAlong (R.stream form) records.old meter.old p es → AreOfRecord (take result.used piece.now) }
+        HasProgressed (R.stream form) records.old meter.old p es → AreOfRecord (take result.used piece.now) }
     ensures used { result.used ≤ length piece.now }
     ensures forward { GoesForward (length piece.now) result.used result.what }
     ensures form { R.form_of records.new ≡ R.form_of records.old }
@@ -54,7 +54,7 @@ pub(crate) fn pull<R: Records>(
     piece: &[u8],
 ) -> Progress<R::Part>
     ensures pulled { (form : R.Form) (p : List ℕ) (es : List R.Part) →
-        IsAlong (R.stream form) records.old meter.old p es →
+        HasProgressed (R.stream form) records.old meter.old p es →
         PieceDid (R.stream form) records.new meter.new p es piece.now result.used result.what }
     ensures used { result.used ≤ length piece.now }
     ensures progress { IsMovedBy (length piece.now) result.used result.what }
@@ -86,7 +86,7 @@ pub(crate) fn pull_rest<R: Records>(
 ) -> Progress<R::Part>
     requires { at ≤ length piece.now }
     ensures pulled { (form : R.Form) (p : List ℕ) (es : List R.Part) →
-        IsAlong (R.stream form) records.old meter.old (p ++ take at piece.now) es →
+        HasProgressed (R.stream form) records.old meter.old (p ++ take at piece.now) es →
         PieceDid (R.stream form) records.new meter.new p es piece.now result.used result.what }
     ensures used { result.used ≤ length piece.now }
     ensures progress { IsMovedBy (length piece.now) result.used result.what }

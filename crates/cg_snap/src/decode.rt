@@ -145,6 +145,7 @@ fn end_found(decoder: GoingOnDecoder, found: &mut Vec<Found>) -> Option<StreamFa
             let last = Found {
                 entry: Some(entry),
                 left_out: None,
+                fault: None,
             };
             match found.push(last) {
                 Ok(()) => None,

@@ -4,7 +4,7 @@ ghost use Rattle.cg_value.specs.Entry.{EntryData};
 ghost use Rattle.cg_value.specs.Print.{print_lines};
 ghost use Rattle.cg_value.specs.declared.profile.Profile.{Profile};
 ghost use Rattle.cg_snap.specs.Course.{AreFew, AreOfRecord, GoesForward, IsLineEvent, Leaves};
-ghost use Rattle.cg_snap.specs.DecoderState.{At, AtPath};
+ghost use Rattle.cg_snap.specs.DecoderState.{HasConsumed, HasConsumedInPath};
 ghost use Rattle.cg_snap.specs.HeadState.{Repeats};
 ghost use Rattle.cg_snap.specs.Snap.{AreEntryLines};
 ghost use Rattle.cg_snap.specs.SnapStop.{IsManyRecords};
@@ -33,11 +33,14 @@ fn repeats(present: &Present, bytes: &[u8], max_lines: u64) -> bool
 /// one more record may come; with its line, where that is there whole. Answers how many bytes it took, 0 where none.
 pub(crate) fn take_again(present: &mut Present, bytes: &[u8], max_lines: u64) -> usize
     requires { present.old.in_line ≡ false }
-    ensures taken { (profile : Profile) (p : List ℕ) (es : List EntryData) → AtPath profile [] present.old p es →
-        At profile [] (Some present.new) (p ++ take result bytes.now) es }
-    ensures few { (profile : Profile) (p : List ℕ) (es : List EntryData) → AtPath profile [] present.old p es →
+    ensures taken { (profile : Profile) (p : List ℕ) (es : List EntryData) →
+        HasConsumedInPath profile [] present.old p es →
+        HasConsumed profile [] (Some present.new) (p ++ take result bytes.now) es }
+    ensures few { (profile : Profile) (p : List ℕ) (es : List EntryData) →
+        HasConsumedInPath profile [] present.old p es →
         AreFew (IsManyRecords profile max_lines) p (take result bytes.now) }
-    ensures of_record { (profile : Profile) (p : List ℕ) (es : List EntryData) → AtPath profile [] present.old p es →
+    ensures of_record { (profile : Profile) (p : List ℕ) (es : List EntryData) →
+        HasConsumedInPath profile [] present.old p es →
         AreOfRecord (take result bytes.now) }
     ensures within { result ≤ length bytes.now }
     ensures between { result ≡ 0 → present.new.in_line ≡ false }
@@ -79,14 +82,16 @@ pub(crate) fn take_line(
 ) -> Progress<Entry>
     requires place { at + length bytes.now ≤ 18446744073709551615 }
     ensures left { (profile : Profile) (p : List ℕ) (es : List EntryData) →
-        At profile begun.now.items (Some present.old) p es → present.old.in_line ≡ true → at ≡ length p → (max : ℕ) →
-        Leaves (snap_stream profile) (At profile begun.now.items (Some present.new)) max p es bytes.now result.used
+        HasConsumed profile begun.now.items (Some present.old) p es → present.old.in_line ≡ true → at ≡ length p →
+        (max : ℕ) →
+        Leaves (snap_stream profile) (HasConsumed profile begun.now.items (Some present.new)) max p es
+        bytes.now result.used
         result.what }
     ensures few { (profile : Profile) (p : List ℕ) (es : List EntryData) →
-        At profile begun.now.items (Some present.old) p es → present.old.in_line ≡ true → (max : ℕ) →
+        HasConsumed profile begun.now.items (Some present.old) p es → present.old.in_line ≡ true → (max : ℕ) →
         AreFew (IsManyRecords profile max) p (take result.used bytes.now) }
     ensures of_record { (profile : Profile) (p : List ℕ) (es : List EntryData) →
-        At profile begun.now.items (Some present.old) p es → present.old.in_line ≡ true →
+        HasConsumed profile begun.now.items (Some present.old) p es → present.old.in_line ≡ true →
         AreOfRecord (take result.used bytes.now) }
     ensures within { result.used ≤ length bytes.now }
     ensures forward { GoesForward (length bytes.now) result.used result.what }
@@ -116,7 +121,8 @@ fn is_lineless(value: &Value) -> bool
 /// The entry of the whole records. There always is one.
 #[inline(always)]
 pub(crate) fn ended(present: Present) -> Option<Entry>
-    ensures { (profile : Profile) (begun p : List ℕ) (es : List EntryData) (h : AtPath profile begun present p es) →
+    ensures { (profile : Profile) (begun p : List ℕ) (es : List EntryData)
+        (h : HasConsumedInPath profile begun present p es) →
         MatchOption result ⊥ (λ e. (e.path ≡ present.path.items) × AreEntryLines profile e h.lines) }
 {
     let Present {

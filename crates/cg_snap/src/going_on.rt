@@ -1,5 +1,6 @@
 //! What is told of a snapshot of which what is at fault is left out.
 
+use crate::fault::Fault;
 use crate::stop::Why;
 use cg_text::Items;
 use cg_value::Entry;
@@ -31,8 +32,10 @@ pub struct LeftOut {
 
 /// What a byte of a stream tells that is gone on with: the entry that it closes, what it makes be left out, or both, of
 /// which the entry comes first.
-#[derive(Debug, Drop)]
+#[derive(Drop)]
 pub struct Found {
     pub entry: Option<Entry>,
     pub left_out: Option<LeftOut>,
+    /// What came of the block that is left out before its byte at fault.
+    pub fault: Option<Fault>,
 }

@@ -1,16 +1,22 @@
 //! The decoder of a snapshot that leaves out what is at fault, and goes on.
-ghost use Rattle.std.specs.Prelude.{◌≡◌, ℕ, List, [], Some, None, Err, length};
+ghost use Rattle.std.specs.Prelude.{◌≡◌, ℕ, List, [], Option, Some, None, Ok, Err, MatchBool, MatchOption, length};
 ghost use Rattle.cg_text.specs.Token.{saturated};
-ghost use Rattle.cg_snap.specs.GoingOn.{stream_limits};
+ghost use Rattle.cg_value.specs.Entry.{EntryData};
+ghost use Rattle.cg_snap.specs.Begun.{IsRecordEnd};
+ghost use Rattle.cg_snap.specs.GoingOn.{IsPassed, IsWanted, stream_limits};
 ghost use Rattle.cg_snap.specs.GoingOnDecoder.{GoingFinishIs, IsHeldOn, StandsOn, going_form_of, going_held_by, going_limits_of, going_stop_of};
 ghost use Rattle.cg_snap.specs.GoingOnState.{HasFound, form_of};
+ghost use Rattle.cg_snap.specs.RecordPlace.{IsRecordPlace};
 ghost use Rattle.cg_snap.specs.declared.going_on.Found.{Found};
 ghost use Rattle.cg_snap.specs.declared.stop.Stop.{Stop};
 
+use crate::course::allowed;
 use crate::decoder::{Decoder, finish_records};
 use crate::going_on_records::GoingOnRecords;
 use crate::limits::Limits;
+use crate::record_place::RecordPlace;
 use crate::stop::Stop;
+use cg_text::ByteSet;
 use cg_value::{Entry, Profile};
 use std::alloc::Global;
 
@@ -44,6 +50,50 @@ impl Decoder<GoingOnRecords> {
             None => block,
             Some(path) => block.saturating_add(path.as_slice().len() as u64),
         }
+    }
+
+    /// The path of the record that comes, and whether its NUL came; none in the rest of a line that is passed over and
+    /// has no path, of which nothing is held. It takes no memory.
+    pub fn record_place(&self) -> Option<RecordPlace<'_>>
+        ensures { (p : List ℕ) (found : List Found) → StandsOn self.now p found → MatchOption result
+            (IsPassed (going_form_of self.now).0 (going_form_of self.now).1 p None)
+            (λ place. IsRecordPlace p place.path.now place.in_line) }
+    {
+        if !self.records.is_passing {
+            return Some(self.records.block.record_place());
+        }
+        match &self.records.left_out {
+            Some(path) => Some(RecordPlace {
+                path: path.as_slice(),
+                in_line: true,
+            }),
+            None => None,
+        }
+    }
+
+    /// The bytes with which nothing is at fault in the block that comes: any in the rest of a line that is passed over.
+    /// It takes no memory.
+    pub fn wanted(&self) -> ByteSet
+        ensures { (p : List ℕ) (found : List Found) → StandsOn self.now p found →
+            IsWanted (going_form_of self.now).0 (going_form_of self.now).1 p result }
+    {
+        if self.records.is_passing {
+            return allowed(&self.records);
+        }
+        allowed(&self.records.block)
+    }
+
+    /// Whether the bytes that were consumed are whole lines, so that the stream may end. It takes no memory.
+    pub fn can_finish(&self) -> bool
+        ensures { (p : List ℕ) (found : List Found) → StandsOn self.now p found → MatchBool result
+            ((last : Option EntryData) ×
+            GoingFinishIs (going_form_of self.now).0 (going_form_of self.now).1 p found (Ok last))
+            (IsRecordEnd p → ⊥) }
+    {
+        if self.records.is_passing {
+            return false;
+        }
+        self.records.block.can_finish()
     }
 
     /// The entry that the end of the stream closes, if it closes one; or where a line is begun, `Cut` with the stream's

@@ -2,7 +2,7 @@
 ghost use Rattle.std.specs.Prelude.{◌≡◌, ◌≢◌, ◌+◌, ◌≤◌, ◌<◌, ◌⊎◌, ◌++◌, ◌∷◌, ℕ, List, [], Some, None, true, false, IsTrue, MatchBool, MatchOption, MatchResult, OnErr, length, take};
 ghost use Rattle.cg_text.specs.Texts.{Lacks};
 ghost use Rattle.cg_value.specs.declared.profile.Profile.{Profile};
-ghost use Rattle.cg_snap.specs.Course.{AreOfRecord, GoesForward, IsAlong};
+ghost use Rattle.cg_snap.specs.Course.{AreOfRecord, GoesForward, HasProgressed};
 ghost use Rattle.cg_snap.specs.GoingOn.{IsCause, Told, block_limits};
 ghost use Rattle.cg_snap.specs.GoingOnState.{FaultLeaves, HasTold, IsAgain, IsEnded, IsLeft, IsOfEntry, IsPathAt, IsReading, IsUnsettled, IsWholeStop};
 ghost use Rattle.cg_snap.specs.Streams.{snap_stream};
@@ -15,6 +15,7 @@ use crate::class::is_nameless;
 use crate::course::advance;
 use crate::entry::ended;
 use crate::event::{Event, Progress};
+use crate::fault::Fault;
 use crate::going_on::{Cause, Found, LeftOut};
 use crate::limits::Limits;
 use crate::meter::Meter;
@@ -25,6 +26,7 @@ use crate::stop::{Stop, Why};
 use cg_text::{ByteSet, Items, OutOfMemory};
 use cg_value::{Entry, Profile};
 use std::alloc::Global;
+use std::mem;
 
 /// The records of a snapshot, as far as they came, of which what is at fault is left out.
 #[derive(Drop)]
@@ -125,6 +127,8 @@ fn are_same(a: &Option<Items<u8>>, b: &Option<Items<u8>>) -> bool
 /// The entry whose records have come, if there is one.
 fn end_entry(block: &mut SnapshotRecords) -> Option<Entry>
     ensures ended { IsEnded block.old.present result }
+    ensures none { block.new.present ≡ None }
+    ensures begun { block.new.begun.items ≡ block.old.begun.items }
     ensures profile { block.new.profile ≡ block.old.profile }
 {
     match block.present.take() {
@@ -136,13 +140,14 @@ fn end_entry(block: &mut SnapshotRecords) -> Option<Entry>
 /// The entry that bytes close, of which so many were taken.
 pub(crate) fn given(used: usize, entry: Entry) -> Progress<Found>
     ensures used { result.used ≡ used }
-    ensures what { result.what ≡ events.Given (record { entry = Some entry; left_out = None }) }
+    ensures what { result.what ≡ events.Given (record { entry = Some entry; left_out = None; fault = None }) }
 {
     Progress {
         used,
         what: Event::Given(Found {
             entry: Some(entry),
             left_out: None,
+            fault: None,
         }),
     }
 }
@@ -164,7 +169,7 @@ impl GoingOnRecords {
     /// Begins a block, of which nothing came. The rest of a line is passed over before, or none is.
     fn begin_block(&mut self, is_passing: bool)
         ensures fresh { (profile : Profile) → self.old.block.profile ≡ profile →
-            IsAlong (snap_stream profile) self.new.block self.new.meter [] [] }
+            HasProgressed (snap_stream profile) self.new.block self.new.meter [] [] }
         ensures profile { self.new.block.profile ≡ self.old.block.profile }
         ensures limits { self.new.limits ≡ self.old.limits }
         ensures meter { self.new.meter.limits ≡ block_limits self.old.limits }
@@ -242,11 +247,14 @@ impl GoingOnRecords {
         } else {
             end_entry(&mut self.block)
         };
+        let profile = self.block.profile;
+        let records = mem::replace(&mut self.block, SnapshotRecords::new(alloc, profile));
         self.left_out = kept;
         self.begin_block(is_in_line);
         Ok(Some(Found {
             entry,
             left_out: Some(LeftOut { at, path, cause }),
+            fault: Some(Fault { records }),
         }))
     }
 
@@ -349,6 +357,7 @@ impl Records for GoingOnRecords {
                 let found = Found {
                     entry: Some(entry),
                     left_out: None,
+                    fault: None,
                 };
                 Progress {
                     used,

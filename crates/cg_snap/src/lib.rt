@@ -9,6 +9,7 @@ pub mod decoder;
 pub mod encode;
 mod entry;
 pub mod event;
+pub mod fault;
 pub mod going_on;
 pub mod going_on_decoder;
 mod going_on_records;
@@ -34,6 +35,7 @@ pub use decode::{
 pub use decoder::{Decoder, PlanDecoder, PlanPulled, PlanWhat, Pulled, SnapshotDecoder, What};
 pub use encode::{EncodeFault, encode_plan, encode_snapshot};
 pub use event::{Event, Progress};
+pub use fault::Fault;
 pub use going_on::{Cause, Found, LeftOut};
 pub use going_on_decoder::GoingOnDecoder;
 pub use limits::Limits;

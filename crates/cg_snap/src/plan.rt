@@ -8,7 +8,7 @@ ghost use Rattle.cg_snap.specs.Course.{AreOfRecord, GoesForward, Leaves, Refused
 ghost use Rattle.cg_snap.specs.PathBytes.{ArePathBytes, EndsPath};
 ghost use Rattle.cg_snap.specs.Plan.{IsItemLine, Plan};
 ghost use Rattle.cg_snap.specs.PlanFront.{IsItemBehind, IsSettingFront};
-ghost use Rattle.cg_snap.specs.PlanState.{AtItemLine, AtItemPath, AtItems, IsOfWriteKind, IsWritable};
+ghost use Rattle.cg_snap.specs.PlanState.{AtItemLine, AtItemPath, HasConsumedItems, IsOfWriteKind, IsWritable};
 ghost use Rattle.cg_snap.specs.PlanStop.{IsItemWhy};
 ghost use Rattle.cg_snap.specs.Streams.{plan_stream};
 
@@ -83,7 +83,8 @@ pub(crate) fn take_line(
     requires place { at + length bytes.now ≤ 18446744073709551615 }
     ensures left { (p : List ℕ) (items : List ItemData) → present.old ≡ None →
         AtItemLine profile begun.now.items writing p items → at ≡ length p → (max : ℕ) →
-        Leaves (plan_stream profile) (AtItems profile begun.now.items present.new) max p items bytes.now result.used
+        Leaves (plan_stream profile) (HasConsumedItems profile begun.now.items present.new) max p items
+        bytes.now result.used
         result.what }
     ensures of_record { (p : List ℕ) (items : List ItemData) → AtItemLine profile begun.now.items writing p items →
         AreOfRecord (take result.used bytes.now) }
@@ -163,7 +164,7 @@ fn begin_line(
     ensures path { begun.new.items ≡ [] }
     ensures begun { (profile : Profile) (p : List ℕ) (items : List ItemData) → present.old ≡ None →
         AtItemPath profile begun.old.items p items → IsOfWriteKind profile begun.old.items kind →
-        MatchOption result (AtItems profile begun.new.items present.new (p ++ 0 ∷ []) items)
+        MatchOption result (HasConsumedItems profile begun.new.items present.new (p ++ 0 ∷ []) items)
         (λ found. IsItemBehind profile begun.old.items bytes.now (found.0) (found.1) × (present.new ≡ None)) }
     ensures some { IfSome result (λ found. (0 < found.1) × (found.1 ≤ length bytes.now)) }
 {
@@ -194,7 +195,8 @@ pub(crate) fn take_head(
     ensures path { ArePathBytes begun.new.items }
     ensures left { (p : List ℕ) (items : List ItemData) → present.old ≡ None →
         AtItemPath profile begun.old.items p items → at ≡ length p → (max : ℕ) →
-        Leaves (plan_stream profile) (AtItems profile begun.new.items present.new) max p items bytes.now result.used
+        Leaves (plan_stream profile) (HasConsumedItems profile begun.new.items present.new) max p items
+        bytes.now result.used
         result.what }
     ensures of_record { (p : List ℕ) (items : List ItemData) → present.old ≡ None →
         AtItemPath profile begun.old.items p items → AreOfRecord (take result.used bytes.now) }

@@ -1,6 +1,6 @@
 //! How the records of a stream take a piece of it.
 ghost use Rattle.std.specs.Prelude.{◌≡◌, ◌≤◌, ℕ, List, length};
-ghost use Rattle.cg_snap.specs.Course.{IsAlong, IsMovedBy, PieceDid};
+ghost use Rattle.cg_snap.specs.Course.{HasProgressed, IsMovedBy, PieceDid};
 
 use crate::course::{pull, pull_rest};
 use crate::event::{Event, Progress};
@@ -18,7 +18,7 @@ pub trait Pull: Records {
     /// whole piece. Counts them.
     fn pull(&mut self, meter: &mut Meter, piece: &[u8]) -> Progress<Self::Part>
         ensures pulled { (form : Self.Form) (p : List ℕ) (es : List Self.Part) →
-            IsAlong (Self.stream form) self.old meter.old p es →
+            HasProgressed (Self.stream form) self.old meter.old p es →
             PieceDid (Self.stream form) self.new meter.new p es piece.now result.used result.what }
         ensures used { result.used ≤ length piece.now }
         ensures progress { IsMovedBy (length piece.now) result.used result.what }

@@ -27,16 +27,7 @@ impl Decoder<SnapshotRecords> {
         ensures { (p : List ℕ) (es : List EntryData) → Stands self.now p es →
             IsRecordPlace p result.path.now result.in_line }
     {
-        match &self.records.present {
-            Some(x) if x.in_line => RecordPlace {
-                path: x.path.as_slice(),
-                in_line: true,
-            },
-            _ => RecordPlace {
-                path: self.records.begun.as_slice(),
-                in_line: false,
-            },
-        }
+        self.records.record_place()
     }
 
     /// Whether the bytes that were consumed are a whole snapshot. It takes no memory.
@@ -44,13 +35,7 @@ impl Decoder<SnapshotRecords> {
         ensures { (p : List ℕ) (es : List EntryData) → Stands self.now p es →
             (IsTrue result ↔ Snap (profile_of self.now) p) }
     {
-        if !self.records.begun.is_empty() {
-            return false;
-        }
-        match &self.records.present {
-            Some(x) => !x.in_line,
-            None => true,
-        }
+        self.records.can_finish()
     }
 }
 

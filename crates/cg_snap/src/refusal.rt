@@ -2,7 +2,7 @@
 ghost use Rattle.std.specs.Prelude.{◌≡◌, ℕ, List, Some, true, MatchBool, MatchResult, IfOk};
 ghost use Rattle.cg_text.specs.Texts.{Next};
 ghost use Rattle.cg_value.specs.Entry.{EntryData};
-ghost use Rattle.cg_snap.specs.DecoderState.{At, IsBetween, IsOfKind, IsOver, RefusalIs, TakesMore};
+ghost use Rattle.cg_snap.specs.DecoderState.{HasConsumed, IsBetween, IsOfKind, IsOver, RefusalIs, TakesMore};
 ghost use Rattle.cg_snap.specs.Snap.{Snap};
 
 use crate::class::readable;
@@ -13,7 +13,7 @@ use cg_value::{Profile, ReadKind};
 /// Why the byte can't come within a line.
 fn line_refusal(begun: &Vec<u8>, present: &Present, byte: u8) -> Option<Why>
     ensures { (profile : Profile) (p : List ℕ) (es : List EntryData) →
-        At profile begun.now.items (Some present.now) p es → present.now.in_line ≡ true →
+        HasConsumed profile begun.now.items (Some present.now) p es → present.now.in_line ≡ true →
         RefusalIs profile p byte result }
 {
     if present.reader.allowed().contains(byte) {
@@ -39,7 +39,7 @@ pub(crate) fn kind_after(
     begun: &Vec<u8>,
     present: &Option<Present>,
 ) -> Result<ReadKind, Why>
-    ensures after { (p : List ℕ) (es : List EntryData) → At profile begun.now.items present.now p es →
+    ensures after { (p : List ℕ) (es : List EntryData) → HasConsumed profile begun.now.items present.now p es →
         IsBetween present.now → MatchResult result (λ kind. IsOfKind profile begun.now.items kind ×
         Next (Snap profile) p 0) (λ why. RefusalIs profile p 0 (Some why)) }
     ensures kind { IfOk result (λ kind. IsOfKind profile begun.now.items kind) }
@@ -57,7 +57,8 @@ fn path_refusal(
     present: &Option<Present>,
     byte: u8,
 ) -> Option<Why>
-    ensures { (p : List ℕ) (es : List EntryData) → At profile begun.now.items present.now p es → IsBetween present.now →
+    ensures { (p : List ℕ) (es : List EntryData) → HasConsumed profile begun.now.items present.now p es →
+        IsBetween present.now →
         RefusalIs profile p byte result }
 {
     if byte == 0 {
@@ -79,7 +80,7 @@ pub(crate) fn refusal(
     present: &Option<Present>,
     byte: u8,
 ) -> Option<Why>
-    ensures { (p : List ℕ) (es : List EntryData) → At profile begun.now.items present.now p es →
+    ensures { (p : List ℕ) (es : List EntryData) → HasConsumed profile begun.now.items present.now p es →
         RefusalIs profile p byte result }
 {
     match present {

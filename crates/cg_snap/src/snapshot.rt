@@ -5,7 +5,7 @@ ghost use Rattle.cg_text.specs.Texts.{Lacks, Next};
 ghost use Rattle.cg_value.specs.Entry.{EntryData};
 ghost use Rattle.cg_value.specs.declared.profile.Profile.{Profile};
 ghost use Rattle.cg_snap.specs.Course.{AreFew, AreOfRecord, FullIs, GoesForward, HoldsBack, Leaves};
-ghost use Rattle.cg_snap.specs.DecoderState.{At, IsBetween, IsLineCount, IsLineFlag, IsOfKind};
+ghost use Rattle.cg_snap.specs.DecoderState.{HasConsumed, IsBetween, IsLineCount, IsLineFlag, IsOfKind};
 ghost use Rattle.cg_snap.specs.PathBytes.{ArePathBytes, EndsPath};
 ghost use Rattle.cg_snap.specs.Snap.{Snap};
 ghost use Rattle.cg_snap.specs.SnapStop.{IsManyRecords};
@@ -50,7 +50,8 @@ fn has_lines(begun: &Vec<u8>, present: &Option<Present>, count: u64) -> bool
 
 /// Whether a NUL would begin a record too many of its entry.
 pub(crate) fn is_full(begun: &Vec<u8>, present: &Option<Present>, max_lines: u64) -> bool
-    ensures { (profile : Profile) (p : List ℕ) (es : List EntryData) → At profile begun.now.items present.now p es →
+    ensures { (profile : Profile) (p : List ℕ) (es : List EntryData) →
+        HasConsumed profile begun.now.items present.now p es →
         FullIs (Snap profile) (IsManyRecords profile) max_lines p 0 result }
 {
     !is_in_line(present) && has_lines(begun, present, max_lines)
@@ -85,10 +86,10 @@ fn begin_line(
     requires readable { IsReadable begun.old.items kind }
     ensures path { ArePathBytes begun.new.items }
     ensures begun { (profile : Profile) (p : List ℕ) (es : List EntryData) →
-        At profile begun.old.items present.old p es → IsBetween present.old →
+        HasConsumed profile begun.old.items present.old p es → IsBetween present.old →
         IsOfKind profile begun.old.items kind → Next (Snap profile) p 0 →
-        MatchOption result (At profile begun.new.items present.new (p ++ 0 ∷ []) es)
-        (λ e. At profile begun.new.items present.new (p ++ 0 ∷ []) (es ++ e ∷ [])) }
+        MatchOption result (HasConsumed profile begun.new.items present.new (p ++ 0 ∷ []) es)
+        (λ e. HasConsumed profile begun.new.items present.new (p ++ 0 ∷ []) (es ++ e ∷ [])) }
 {
     match present {
         None => {
@@ -121,12 +122,13 @@ fn end_path(
     requires path { ArePathBytes begun.old.items }
     requires ends { EndsPath byte }
     ensures path { ArePathBytes begun.new.items }
-    ensures taken { (p : List ℕ) (es : List EntryData) → At profile begun.old.items present.old p es →
+    ensures taken { (p : List ℕ) (es : List EntryData) → HasConsumed profile begun.old.items present.old p es →
         IsBetween present.old → at ≡ length p → MatchResult result (λ given. MatchOption given
-        (At profile begun.new.items present.new (p ++ byte ∷ []) es)
-        (λ e. At profile begun.new.items present.new (p ++ byte ∷ []) (es ++ e ∷ [])))
-        (λ stop. At profile begun.new.items present.new p es × HoldsBack (snap_stream profile) max_lines p byte stop) }
-    ensures few { (p : List ℕ) (es : List EntryData) → At profile begun.old.items present.old p es →
+        (HasConsumed profile begun.new.items present.new (p ++ byte ∷ []) es)
+        (λ e. HasConsumed profile begun.new.items present.new (p ++ byte ∷ []) (es ++ e ∷ [])))
+        (λ stop. HasConsumed profile begun.new.items present.new p es ×
+        HoldsBack (snap_stream profile) max_lines p byte stop) }
+    ensures few { (p : List ℕ) (es : List EntryData) → HasConsumed profile begun.old.items present.old p es →
         IsBetween present.old → IfOk result (λ given. IsManyRecords profile max_lines (p ++ byte ∷ []) (length p) → ⊥) }
     ensures nul { IfOk result (λ given. byte ≡ 0) }
 {
@@ -159,10 +161,11 @@ fn take_head(
     requires path { ArePathBytes begun.old.items }
     requires place { at + length bytes.now ≤ 18446744073709551615 }
     ensures path { ArePathBytes begun.new.items }
-    ensures left { (p : List ℕ) (es : List EntryData) → At profile begun.old.items present.old p es →
-        IsBetween present.old → at ≡ length p → Leaves (snap_stream profile) (At profile begun.new.items present.new)
+    ensures left { (p : List ℕ) (es : List EntryData) → HasConsumed profile begun.old.items present.old p es →
+        IsBetween present.old → at ≡ length p →
+        Leaves (snap_stream profile) (HasConsumed profile begun.new.items present.new)
         max_lines p es bytes.now result.used result.what }
-    ensures few { (p : List ℕ) (es : List EntryData) → At profile begun.old.items present.old p es →
+    ensures few { (p : List ℕ) (es : List EntryData) → HasConsumed profile begun.old.items present.old p es →
         IsBetween present.old → AreFew (IsManyRecords profile max_lines) p (take result.used bytes.now) }
     ensures plain { Lacks 10 (take result.used bytes.now) }
     ensures within { result.used ≤ length bytes.now }
@@ -222,12 +225,14 @@ pub(crate) fn take(
     requires path { ArePathBytes begun.old.items }
     requires place { at + length bytes.now ≤ 18446744073709551615 }
     ensures path { ArePathBytes begun.new.items }
-    ensures left { (p : List ℕ) (es : List EntryData) → At profile begun.old.items present.old p es → at ≡ length p →
-        Leaves (snap_stream profile) (At profile begun.new.items present.new) max_lines p es bytes.now result.used
+    ensures left { (p : List ℕ) (es : List EntryData) → HasConsumed profile begun.old.items present.old p es →
+        at ≡ length p →
+        Leaves (snap_stream profile) (HasConsumed profile begun.new.items present.new) max_lines p es
+        bytes.now result.used
         result.what }
-    ensures few { (p : List ℕ) (es : List EntryData) → At profile begun.old.items present.old p es →
+    ensures few { (p : List ℕ) (es : List EntryData) → HasConsumed profile begun.old.items present.old p es →
         AreFew (IsManyRecords profile max_lines) p (take result.used bytes.now) }
-    ensures of_record { (p : List ℕ) (es : List EntryData) → At profile begun.old.items present.old p es →
+    ensures of_record { (p : List ℕ) (es : List EntryData) → HasConsumed profile begun.old.items present.old p es →
         AreOfRecord (take result.used bytes.now) }
     ensures within { result.used ≤ length bytes.now }
     ensures forward { GoesForward (length bytes.now) result.used result.what }

@@ -1,13 +1,16 @@
 //! The records of a snapshot.
-ghost use Rattle.std.specs.Prelude.{◌≡◌, ℕ, List, []};
+ghost use Rattle.std.specs.Prelude.{◌≡◌, ◌↔◌, ℕ, List, [], IsTrue};
 ghost use Rattle.cg_text.specs.Token.{saturated};
 ghost use Rattle.cg_value.specs.Entry.{EntryData};
 ghost use Rattle.cg_value.specs.declared.profile.Profile.{Profile};
 ghost use Rattle.cg_snap.specs.Closed.{IsHeldFor};
 ghost use Rattle.cg_snap.specs.PathBytes.{ArePathBytes, path_bytes_prop};
+ghost use Rattle.cg_snap.specs.RecordPlace.{IsRecordPlace};
+ghost use Rattle.cg_snap.specs.Snap.{Snap};
 
 use crate::event::Progress;
 use crate::present::Present;
+use crate::record_place::RecordPlace;
 use crate::records::Records;
 use crate::refusal::refusal;
 use crate::snapshot::{is_full, take};
@@ -67,6 +70,37 @@ impl SnapshotRecords {
             Some(x) => begun
                 .saturating_add(x.path.len() as u64)
                 .saturating_add(x.reader.held()),
+        }
+    }
+
+    /// The path of the record that comes, and whether its NUL came.
+    pub(crate) fn record_place(&self) -> RecordPlace<'_>
+        ensures { (profile : Profile) (p : List ℕ) (es : List EntryData) → HasTakenRecords self.now profile p es →
+            IsRecordPlace p result.path.now result.in_line }
+    {
+        match &self.present {
+            Some(x) if x.in_line => RecordPlace {
+                path: x.path.as_slice(),
+                in_line: true,
+            },
+            _ => RecordPlace {
+                path: self.begun.as_slice(),
+                in_line: false,
+            },
+        }
+    }
+
+    /// Whether the bytes that came are a whole snapshot.
+    pub(crate) fn can_finish(&self) -> bool
+        ensures { (profile : Profile) (p : List ℕ) (es : List EntryData) → HasTakenRecords self.now profile p es →
+            (IsTrue result ↔ Snap profile p) }
+    {
+        if !self.begun.is_empty() {
+            return false;
+        }
+        match &self.present {
+            Some(x) => !x.in_line,
+            None => true,
         }
     }
 }

@@ -1,7 +1,7 @@
 use Rattle.std.specs.Prelude.{is_some}
 use Rattle.std.proofs.Common.{[], inl, refl, ◌≤◌, take, length, length-take, arith}
 use Rattle.cg_snap.specs.Stop.{place_of}
-use Rattle.cg_run.specs.Explain.{IsInText}
+use Rattle.cg_run.specs.Explain.{ExplainsNext, IsInText}
 use Rattle.cg_run.specs.Spot.{more_words}
 use Rattle.cg_text.specs.Texts.{TextOf}
 use Rattle.cg_run.specs.declared.outcome.Outcome.TheVariants as out
@@ -41,7 +41,7 @@ returns-in-Stopped-clause-ran g c form fresh_text fresh lines =
       parts = [];
       right = (byte_stop (g.T.TextReader.text form) g.T.TextReader.printed c.args.max _ c.in-Stopped.stop h.ends.stops, refl);
       more = more_words c.text_spot-spot.result;
-      tells = rw (← c.read_all.ensures.same) (text_tells (TextOf (g.T.TextReader.text form)) (IsInText c.args.name.now) (is_some c.read_all.new.lines) h.read c.args.max c.in-Stopped.stop c.in-Stopped.byte (more_words c.text_spot-spot.result) h.ends.stops h.ends.byte_is
+      tells = rw (← c.read_all.ensures.same) (text_tells (TextOf (g.T.TextReader.text form)) (ExplainsNext (TextOf (g.T.TextReader.text form)) (IsInText c.args.name.now)) (is_some c.read_all.new.lines) h.read c.args.max c.in-Stopped.stop c.in-Stopped.byte (more_words c.text_spot-spot.result) h.ends.stops h.ends.byte_is
           (c.text_spot-spot.ensures form (take (place_of c.in-Stopped.stop) h.read) h.ends.took few h.behind));
       wrote = c.write_stop.ensures.wrote (g.W.Sink.taken c.args.writer.now) [] (nothing_written (g.W.Sink.taken c.args.writer.now));
     }

@@ -2,7 +2,7 @@ use Rattle.std.proofs.Common.{◌≡◌, ◌≤◌, ◌++◌, [], ◌∷◌, ◌
 use Rattle.std.specs.Prelude.{is_some}
 use Rattle.std.proofs.Math.Seq.{take-length}
 use Rattle.cg_text.specs.Texts.{TextOf}
-use Rattle.cg_run.specs.Explain.{IsInText, TellsSpot}
+use Rattle.cg_run.specs.Explain.{ExplainsNext, IsInText, TellsSpot}
 use Rattle.cg_run.specs.Spot.{more_words}
 use Rattle.cg_run.specs.declared.outcome.Outcome.TheVariants as out
 use Rattle.cg_snap.specs.declared.stop.Stop.TheVariants as stop
@@ -46,6 +46,6 @@ returns-then-not-can_finish-clause-ended g c form bytes h e lines =
       more = more;
       tells = λ r same.
           let all : take c.args.at r.bytes ≡ bytes = ap (λ (t : List ℕ). take c.args.at t) same ∙ ap (λ n. take n bytes) e ∙ take-length bytes in
-          subst (λ (t : List ℕ). TellsSpot L (IsInText c.args.name.now) (is_some c.args.lines) t None (stop.Cut c.args.at) more) (sym all) told;
+          subst (λ (t : List ℕ). TellsSpot (ExplainsNext L (IsInText c.args.name.now)) (is_some c.args.lines) t None (stop.Cut c.args.at) more) (sym all) told;
       wrote = c.write_stop.ensures.wrote (g.W.Sink.taken c.args.writer.now) [] (nothing_written (g.W.Sink.taken c.args.writer.now));
     }

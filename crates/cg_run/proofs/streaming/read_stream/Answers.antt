@@ -1,4 +1,3 @@
-use Rattle.std.specs.Prelude.{◌&&◌}
 use Rattle.std.proofs.Common.{◌++◌, ◌∙◌, is_some, length-append, arith}
 use Rattle.std.proofs.lemmas.Result.{err_from_is_err_and}
 use Rattle.cg_run.proofs.Streams.{read_fault_ends}
@@ -13,7 +12,7 @@ returns-in-Err-clause-read g c form limit fresh works counted =
     let s = c.reads.stream in
     let first = g.W.Sink.taken c.args.writer.now in
     let e = read_fault_ends (g.S.StreamReader.took s form) (g.S.StreamReader.whole form) (g.S.StreamReader.closes form) (g.S.StreamReader.unstopped form) (g.S.StreamReader.stops form)
-    (g.S.StreamReader.explains form && is_some c.args.lines.now) (g.S.StreamReader.language form) h.read (g.R.Source.coming c.pull.new.self) (g.R.Source.has_failed c.pull.new.self) first (g.W.Sink.taken c.write_after.new.writer) (g.W.Sink.has_failed c.write_after.new.writer)
+    (is_some c.args.lines.now) (g.S.StreamReader.explained form) h.read (g.R.Source.coming c.pull.new.self) (g.R.Source.has_failed c.pull.new.self) first (g.W.Sink.taken c.write_after.new.writer) (g.W.Sink.has_failed c.write_after.new.writer)
     b.parts (g.met.S.StreamReader.passed s form h.read b.parts b.took) (g.met.S.StreamReader.closed s form h.read b.parts b.took)
     c.write_after.result c.in-Err.ensures.bytes.1 (c.write_after.ensures.wrote first b.parts b.wrote) in
     record {

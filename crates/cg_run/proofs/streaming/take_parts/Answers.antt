@@ -1,4 +1,4 @@
-use Rattle.std.specs.Prelude.{◌&&◌, MatchResult, OnErr, OnOk, Result, Ok, Err, is_some}
+use Rattle.std.specs.Prelude.{MatchResult, OnErr, OnOk, Result, Ok, Err, is_some}
 use Rattle.std.proofs.Common.{◌≡◌, ◌+◌, ◌<◌, ◌≤◌, ◌++◌, ℕ, List, refl, ap, subst, ◌∙◌, drop, get_or, Some, take, length, length-drop, arith}
 use Rattle.std.proofs.lemmas.List.{get_or-drop, take_all}
 use Rattle.cg_run.specs.Spot.{more_words}
@@ -42,7 +42,7 @@ returns-in-Stopped-clause-took g c form first read limit h lines left failed =
     let byte : c.next_byte.result ≡ Some (get_or piece (at + n) 0) = c.next_byte.ensures (omega (arith, back, length-drop (at + n) piece, some))
     ∙ ap (λ (b : ℕ). Some b) (ap (λ (t : List ℕ). get_or t 0 0) cut.ensures.back ∙ get_or-drop (at + n) piece 0 0 ∙ ap (λ (k : ℕ). get_or piece k 0) none) in
     stop_ends (g.S.StreamReader.took s form) (g.S.StreamReader.whole form) (g.S.StreamReader.closes form) (g.S.StreamReader.unstopped form) (g.S.StreamReader.stops form)
-    (g.S.StreamReader.explains form && is_some c.args.lines) (g.S.StreamReader.language form) read piece (at + n) within left failed first (g.W.Sink.taken c.stop.new.writer) (g.W.Sink.has_failed c.stop.new.writer) (on.0) c.stop.result
+    (is_some c.args.lines) (g.S.StreamReader.explained form) read piece (at + n) within left failed first (g.W.Sink.taken c.stop.new.writer) (g.W.Sink.has_failed c.stop.new.writer) (on.0) c.stop.result
     c.in-Stopped.stop c.next_byte.result (more_words c.stream_spot-spot.result) on.1 byte some tells (c.stop.ensures.wrote first (on.0) on.2)
 
 pub returns-in-OutOfMemory-clause-took : goal.returns-in-OutOfMemory-clause-took
@@ -61,7 +61,7 @@ returns-in-OutOfMemory-clause-took g c form first read limit h lines left failed
     let within : at + n ≤ length piece = omega (arith, c.next-progress.ensures.used, ap length c.split_at.ensures.back, length-drop at piece, c.loop-used.invariant.within) in
     let after = c.finish in
     memory_ends (g.S.StreamReader.took s form) (g.S.StreamReader.whole form) (g.S.StreamReader.closes form) (g.S.StreamReader.unstopped form) (g.S.StreamReader.stops form)
-    (g.S.StreamReader.explains form && is_some c.args.lines) (g.S.StreamReader.language form) read piece (at + n) within left failed first (g.W.Sink.taken after.new.writer) (g.W.Sink.has_failed after.new.writer) (on.0) after.result
+    (is_some c.args.lines) (g.S.StreamReader.explained form) read piece (at + n) within left failed first (g.W.Sink.taken after.new.writer) (g.W.Sink.has_failed after.new.writer) (on.0) after.result
     on.1 (after.ensures.wrote first (on.0) on.2)
 
 pub loop-used-preserved : goal.loop-used-preserved
@@ -105,7 +105,7 @@ returns-in_err-write_many-in-NeedMore-clause-took g c form first read limit h =
     let e = err_from_is_err_and c.from_residual.result c.from_residual.ensures.1 in
     rw (e.1, e.2) (λ lines left failed.
     fault_ends (g.S.StreamReader.took s form) (g.S.StreamReader.whole form) (g.S.StreamReader.closes form) (g.S.StreamReader.unstopped form) (g.S.StreamReader.stops form)
-    (g.S.StreamReader.explains form && is_some c.args.lines) (g.S.StreamReader.language form) read piece (at + n) within left failed first (g.W.Sink.taken c.write_many.new.writer) (g.W.Sink.has_failed c.write_many.new.writer) (on.0) fault.field-0.0
+    (is_some c.args.lines) (g.S.StreamReader.explained form) read piece (at + n) within left failed first (g.W.Sink.taken c.write_many.new.writer) (g.W.Sink.has_failed c.write_many.new.writer) (on.0) fault.field-0.0
     (held_some first (g.W.Sink.taken c.loop-used.writer) (on.0) output on.2 fault.ensures.some)
     (g.met.S.StreamReader.passed s form (read ++ take (at + n) piece) (on.0) took) (g.met.S.StreamReader.closed s form (read ++ take (at + n) piece) (on.0) took)
     (fault.ensures.wrote first (on.0) on.2))
@@ -125,6 +125,6 @@ returns-clause-took g c form first read limit h =
     })
     (λ o wrote some lines left failed.
     fault_ends (g.S.StreamReader.took s form) (g.S.StreamReader.whole form) (g.S.StreamReader.closes form) (g.S.StreamReader.unstopped form) (g.S.StreamReader.stops form)
-    (g.S.StreamReader.explains form && is_some c.args.lines) (g.S.StreamReader.language form) read piece at c.loop-used.invariant.within left failed first (g.W.Sink.taken c.write.new.writer) (g.W.Sink.has_failed c.write.new.writer) b.parts o
+    (is_some c.args.lines) (g.S.StreamReader.explained form) read piece at c.loop-used.invariant.within left failed first (g.W.Sink.taken c.write.new.writer) (g.W.Sink.has_failed c.write.new.writer) b.parts o
     (held_some first (g.W.Sink.taken c.loop-used.writer) b.parts c.loop-used.output b.holds some)
     (g.met.S.StreamReader.passed s form (read ++ take at piece) b.parts b.took) (g.met.S.StreamReader.closed s form (read ++ take at piece) b.parts b.took) wrote)

@@ -1,4 +1,4 @@
-use Rattle.std.specs.Prelude.{◌&&◌, Err, is_some}
+use Rattle.std.specs.Prelude.{Err, is_some}
 use Rattle.std.proofs.Common.{◌++◌, ◌≤◌, List, ℕ, length, refl, subst, arith}
 use Rattle.cg_snap.specs.declared.decode.StreamFault.{StreamFault}
 use Rattle.cg_run.specs.Outcome.{last_line}
@@ -7,7 +7,7 @@ use Rattle.cg_run.specs.Streaming.{EndIs}
 use Rattle.cg_run.specs.declared.outcome.Outcome.{Outcome}
 use Rattle.cg_run.specs.declared.output.Output.{Output}
 use Rattle.cg_run.specs.Spot.{more_words}
-use Rattle.cg_run.proofs.Streams.{cut_ends, done_ends, last_memory_ends, never_cut, not_explained, stopped_ends}
+use Rattle.cg_run.proofs.Streams.{cut_ends, done_ends, last_memory_ends, never_cut}
 use Rattle.cg_run.proofs.Written.{holds_more, holds_same}
 use Rattle.cg_run.proofs.streaming.write_end.Goals as goal
 
@@ -19,7 +19,7 @@ returns-in-Ok-clause-ended g c form first read limit lines b left failed ended w
     let output : Output = record { text = c.finish.new.out; written = c.args.output.now.written } in
     let holds = holds_more first (g.W.Sink.taken c.args.writer.now) b.parts c.args.output.now b.holds (e.0) output e.2 refl in
     done_ends (g.S.StreamReader.took s form) (g.S.StreamReader.whole form) (g.S.StreamReader.closes form) (g.S.StreamReader.unstopped form) (g.S.StreamReader.stops form)
-    (g.S.StreamReader.explains form && is_some c.args.lines) (g.S.StreamReader.language form) read left failed first (g.W.Sink.taken c.finish-in-Ok.new.writer) (g.W.Sink.has_failed c.finish-in-Ok.new.writer) b.parts
+    (is_some c.args.lines) (g.S.StreamReader.explained form) read left failed first (g.W.Sink.taken c.finish-in-Ok.new.writer) (g.W.Sink.has_failed c.finish-in-Ok.new.writer) b.parts
     (g.met.S.StreamReader.passed s form read b.parts b.took) (g.met.S.StreamReader.closed s form read b.parts b.took) ended works
     all c.in-Ok.left_out c.finish-in-Ok.result e.1 (subst (λ (w : Outcome). Wrote first (g.W.Sink.taken c.finish-in-Ok.new.writer) (g.W.Sink.has_failed c.finish-in-Ok.new.writer) (joined all ++ last_line w) w c.finish-in-Ok.result)
     c.gone_on.ensures (c.finish-in-Ok.ensures.wrote first all holds))
@@ -27,28 +27,19 @@ returns-in-Ok-clause-ended g c form first read limit lines b left failed ended w
 pub returns-in-Err-Stopped-clause-ended : goal.returns-in-Err-Stopped-clause-ended
 returns-in-Err-Stopped-clause-ended g c form first read limit lines b left failed ended works =
     let s = c.args.stream in
-    let after = c.finish-in-Err-Stopped in
     let whole = g.S.StreamReader.whole form in
     let e = subst (λ (f : StreamFault). EndIs whole read b.parts c.args.output.now.text.items c.finish.new.out.items (Err f)) c.in-Err-Stopped.field-0-is (c.in-Err-Stopped.ensures form read b.parts b.took) in
-    let stands = g.met.S.StreamReader.stands s form read b.parts b.took in
-    let all = rw c.if-is_cut.false at (c.is_cut.ensures form read stands) in
-    let output : Output = record { text = c.finish.new.out; written = c.args.output.now.written } in
-    let holds = holds_same first (g.W.Sink.taken c.args.writer.now) b.parts c.args.output.now b.holds output e.1 refl in
-    stopped_ends (g.S.StreamReader.took s form) whole (g.S.StreamReader.closes form) (g.S.StreamReader.unstopped form) (g.S.StreamReader.stops form)
-    (g.S.StreamReader.explains form && is_some c.args.lines) (g.S.StreamReader.language form) read left failed first (g.W.Sink.taken after.new.writer) (g.W.Sink.has_failed after.new.writer) b.parts
-    (g.met.S.StreamReader.passed s form read b.parts b.took) (g.met.S.StreamReader.closed s form read b.parts b.took) ended works
-    c.in-Err-Stopped.stop after.result
-    (not_explained (g.S.StreamReader.explains form) (is_some c.args.lines) (λ t. never_cut whole read c.in-Err-Stopped.stop (all t) e.0))
-    e.0 (after.ensures.wrote first b.parts holds)
+    let all = rw c.if-is_cut.false at (c.is_cut.ensures form read b.parts b.took) in
+    absurd (never_cut whole read c.in-Err-Stopped.stop all e.0)
 
 pub returns-then-is_cut-clause-ended : goal.returns-then-is_cut-clause-ended
 returns-then-is_cut-clause-ended g c form first read limit lines b left failed ended works =
     let s = c.args.stream in
     let stands = g.met.S.StreamReader.stands s form read b.parts b.took in
     let few : length read ≤ 18446744073709551615 = omega (arith, g.met.S.StreamReader.within s form read stands, limit, c.ranges.max.fits) in
-    let none = rw c.if-is_cut.true at (c.is_cut.ensures form read stands) in
+    let none = rw c.if-is_cut.true at (c.is_cut.ensures form read b.parts b.took) in
     cut_ends (g.S.StreamReader.took s form) (g.S.StreamReader.whole form) (g.S.StreamReader.closes form) (g.S.StreamReader.unstopped form) (g.S.StreamReader.stops form)
-    (g.S.StreamReader.explains form && is_some c.args.lines) (g.S.StreamReader.language form) read left failed first (g.W.Sink.taken c.stop.new.writer) (g.W.Sink.has_failed c.stop.new.writer) b.parts
+    (is_some c.args.lines) (g.S.StreamReader.explained form) read left failed first (g.W.Sink.taken c.stop.new.writer) (g.W.Sink.has_failed c.stop.new.writer) b.parts
     (g.met.S.StreamReader.passed s form read b.parts b.took) (g.met.S.StreamReader.closed s form read b.parts b.took) ended works
     c.consumed.result c.stop.result (more_words c.stream_spot-spot.result) (c.consumed.ensures form read stands, none)
     (c.stream_spot-spot.ensures form read stands few lines)
@@ -62,6 +53,6 @@ returns-in-Err-OutOfMemory-clause-ended g c form first read limit lines b left f
     let output : Output = record { text = c.finish.new.out; written = c.args.output.now.written } in
     let holds = holds_same first (g.W.Sink.taken c.args.writer.now) b.parts c.args.output.now b.holds output e.1 refl in
     last_memory_ends (g.S.StreamReader.took s form) (g.S.StreamReader.whole form) (g.S.StreamReader.closes form) (g.S.StreamReader.unstopped form) (g.S.StreamReader.stops form)
-    (g.S.StreamReader.explains form && is_some c.args.lines) (g.S.StreamReader.language form) read left failed first (g.W.Sink.taken after.new.writer) (g.W.Sink.has_failed after.new.writer) b.parts
+    (is_some c.args.lines) (g.S.StreamReader.explained form) read left failed first (g.W.Sink.taken after.new.writer) (g.W.Sink.has_failed after.new.writer) b.parts
     (g.met.S.StreamReader.passed s form read b.parts b.took) (g.met.S.StreamReader.closed s form read b.parts b.took) ended works
     (e.0.0) (e.0.1) after.result e.0.2 e.0.3 (after.ensures.wrote first b.parts holds)

@@ -1,12 +1,12 @@
 use Rattle.std.proofs.Common.{◌≡◌, ◌++◌, ◌≤◌, ◌-◌, ℕ, List, take, length}
-use Rattle.cg_snap.specs.Course.{IsAlong}
+use Rattle.cg_snap.specs.Course.{HasProgressed}
 use Rattle.cg_snap.proofs.course.pull.Given as goal
 
 abbrev pub invariant-loop-used : goal.invariant-loop-used
 invariant-loop-used g l = record {
   along : (form : g.row.R-Form.Denot) (p : List ℕ) (es : List g.row.R-Part.Denot) →
-      IsAlong (g.R.Records.stream form) l.fn.records l.fn.meter p es →
-      IsAlong (g.R.Records.stream form) l.records l.meter (p ++ take l.used l.piece) es;
+      HasProgressed (g.R.Records.stream form) l.fn.records l.fn.meter p es →
+      HasProgressed (g.R.Records.stream form) l.records l.meter (p ++ take l.used l.piece) es;
   within : l.used ≤ length l.piece;
   form : g.R.Records.form_of l.records ≡ g.R.Records.form_of l.fn.records;
   limits : l.meter.limits ≡ l.fn.meter.limits;

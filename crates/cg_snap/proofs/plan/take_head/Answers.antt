@@ -5,7 +5,7 @@ use Rattle.cg_text.specs.TextsLaws.{lacks_both, lacks_push}
 use Rattle.cg_value.specs.Entry.{IsPathByte}
 use Rattle.cg_snap.specs.PathBytes.{ArePathBytes}
 use Rattle.cg_snap.specs.PlanLaws.{item_line_plain}
-use Rattle.cg_snap.specs.PlanState.{AtItems}
+use Rattle.cg_snap.specs.PlanState.{HasConsumedItems}
 use Rattle.cg_snap.proofs.Courses.{taken_more}
 use Rattle.cg_snap.proofs.PlanFronts.{item_came, record_front}
 use Rattle.cg_snap.proofs.PlanStates.{item_path_next, item_path_taken, items_back}
@@ -90,7 +90,7 @@ returns-in-None-clause-left c = λ p items n h at max.
     let other = c.if-used-bytes.false in
     let state = item_path_taken c.args.profile c.args.begun.now.items c.take_path.new.begun.items p items (take used bytes) h front.0.plain front.1 in
     let after = c.in-Ok-kind_after.ensures.after (p ++ take used bytes) items state in
-    subst (λ (t : List ℕ). AtItems c.args.profile c.begin_line.new.begun.items c.begin_line.new.present t items)
+    subst (λ (t : List ℕ). HasConsumedItems c.args.profile c.begin_line.new.begun.items c.begin_line.new.present t items)
     (ap (λ (b : ℕ). (p ++ take used bytes) ++ b ∷ []) (sym after.0) ∙ taken_more p bytes used (omega (arith, front.0.within, other)))
     (c.in-None.ensures.begun c.args.profile (p ++ take used bytes) items n state after.1)
 

@@ -3,7 +3,7 @@ use Rattle.std.proofs.lemmas.List.{length-append, length-take-le, take_more}
 use Rattle.cg_text.specs.Texts.{Lacks}
 use Rattle.cg_text.specs.TextsLaws.{lacks_push}
 use Rattle.cg_snap.specs.Course.{AreFew}
-use Rattle.cg_snap.specs.DecoderState.{At}
+use Rattle.cg_snap.specs.DecoderState.{HasConsumed}
 use Rattle.cg_snap.specs.SnapStop.{IsManyRecords}
 use Rattle.cg_snap.proofs.Courses.{taken_more}
 use Rattle.cg_snap.proofs.Runs.{few_push, path_few}
@@ -38,7 +38,7 @@ returns-in-Ok-None-clause-left c = λ p es h i at.
     let lt : used < length bytes = omega (arith, front.within, c.if-used-bytes.false) in
     let run = paths_taken c.args.profile c.args.begun.now.items c.take_path.new.begun.items c.args.present.now p es (take used bytes) front.plain c.in-Ok.ensures.1 i h in
     let done = rw c.in-Ok-None.field-0-is at (c.in-Ok-None.ensures.taken (p ++ take used bytes) es run i (omega (arith, at, length-append p (take used bytes), length-take-le used bytes front.within))) in
-    subst (λ (t : List ℕ). At c.args.profile c.end_path.new.begun.items c.end_path.new.present t es) (taken_more p bytes used lt) done
+    subst (λ (t : List ℕ). HasConsumed c.args.profile c.end_path.new.begun.items c.end_path.new.present t es) (taken_more p bytes used lt) done
 
 pub returns-in-Ok-None-clause-few : goal.returns-in-Ok-None-clause-few
 returns-in-Ok-None-clause-few c = λ p es h i.
@@ -71,7 +71,7 @@ returns-in-Ok-Some-clause-left c = λ p es h i at.
     let back : used + 1 - 1 ≡ used = omega arith in (
       omega arith,
       rw back (at_closed profile c.take_path.new.begun.items c.args.present.now (p ++ take used bytes) es run),
-      subst (λ (t : List ℕ). At profile c.end_path.new.begun.items c.end_path.new.present t (es ++ c.in-Ok-Some.entry ∷ [])) (taken_more p bytes used lt) (rw (sym c.in-Ok-Some.entry-is) done),
+      subst (λ (t : List ℕ). HasConsumed profile c.end_path.new.begun.items c.end_path.new.present t (es ++ c.in-Ok-Some.entry ∷ [])) (taken_more p bytes used lt) (rw (sym c.in-Ok-Some.entry-is) done),
     )
 
 pub returns-in-Ok-Some-clause-few : goal.returns-in-Ok-Some-clause-few

@@ -1,5 +1,4 @@
-use Rattle.std.proofs.Common.{refl}
 use Rattle.cg_run.proofs.kept.KeptReaderStreamReader.record_place.Goals as goal
 
 pub returns : goal.returns
-returns c form p h = (refl, c.record_place.ensures p h.parts h.stands)
+returns c form p h = c.record_place.ensures p h.parts h.stands

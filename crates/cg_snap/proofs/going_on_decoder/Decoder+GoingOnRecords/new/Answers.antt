@@ -13,5 +13,5 @@ returns-clause-stands c =
     let e = c.new.ensures in
     let told : HasTold s s.block.profile s.limits [] [] =
     subst (λ (q : Profile). HasTold s q s.limits [] []) (sym e.profile_is) (subst (λ (l : Limits). HasTold s c.args.profile l [] []) (sym e.limits_is) e) in
-    let found : HasFound s (form_of s) [] [] = record { told = told; closed = told_closed s.block.profile s.limits s [] [] told; bytes = tt } in
+    let found : HasFound s (form_of s) [] [] = record { told = told; closed = told_closed s.block.profile s.limits s [] [] told; faults = tt; bytes = tt } in
     subst (λ (r : GoingOnRecords). StandsFor (going_stream (form_of r)) c.begin.result [] []) (sym c.begin.ensures.records) (c.begin.ensures.stands (form_of s) found)

@@ -2,7 +2,7 @@ use Rattle.std.proofs.Common.{◌≡◌, ◌≢◌, ℕ, ◌+◌, ◌-◌, ◌<�
 use Rattle.std.proofs.lemmas.Bool.{MatchBool-at_false, eqb-false}
 use Rattle.std.proofs.lemmas.List.{get_or-take, length-append, take-take}
 use Rattle.cg_value.specs.Entry.{EntryData}
-use Rattle.cg_snap.specs.Course.{Advances, AreOfRecord, IsAlong}
+use Rattle.cg_snap.specs.Course.{Advances, AreOfRecord, HasProgressed}
 use Rattle.cg_snap.specs.GoingOn.{AreToldBy, block_limits, told_by}
 use Rattle.cg_snap.specs.GoingOnState.{HasTold, IsPassingOver, IsReading}
 use Rattle.cg_snap.specs.Streams.{snap_stream}
@@ -64,7 +64,7 @@ returns-in-Given-clause-left c form p es old at =
     } in (
       a.0,
       subst (λ (u : List ℕ). AreToldBy profile limits u (told_by es)) (took (used - 1) (omega arith)) before,
-      found_given form s t p es old bytes (λ i. omega (arith, c.type_inv.bytes i)) used (record { entry = Some e; left_out = None }) (subst (λ (u : List ℕ). HasTold t profile limits u (told_by es ++ inl e ∷ [])) (took used (omega arith)) told),
+      found_given form s t p es old bytes (λ i. omega (arith, c.type_inv.bytes i)) used (record { entry = Some e; left_out = None; fault = None }) (subst (λ (u : List ℕ). HasTold t profile limits u (told_by es ++ inl e ∷ [])) (took used (omega arith)) told) tt,
     )
 
 pub returns-in-Stopped-clause-left : goal.returns-in-Stopped-clause-left
@@ -80,7 +80,7 @@ returns-in-Stopped-clause-left c form p es old at =
     let a : Advances (snap_stream profile) t.block t.meter h.block [] front used (events.Stopped c.in-Stopped.stop) = rw c.in-Stopped.is at (c.advance-used.ensures.advances profile h.block [] h.along) in
     let zero_used : used ≡ 0 = c.if-used-eq0.true in
     let none : h.block ++ take used front ≡ h.block = ap (λ (n : ℕ). h.block ++ take n front) zero_used ∙ append-nil h.block in
-    let along : IsAlong (snap_stream profile) t.block t.meter h.block [] = subst (λ (u : List ℕ). IsAlong (snap_stream profile) t.block t.meter u []) none a.2 in
+    let along : HasProgressed (snap_stream profile) t.block t.meter h.block [] = subst (λ (u : List ℕ). HasProgressed (snap_stream profile) t.block t.meter u []) none a.2 in
     let limits_is = c.advance-used.ensures.limits ∙ old.told.meter_is in
     let reading : IsReading t profile limits p (told_by es) = same_reading profile limits s p (told_by es) h front t refl along in
     let some : 0 < length bytes = omega (arith, c.if-is_empty.ensures) in
@@ -116,7 +116,7 @@ returns-in-OutOfMemory-clause-left c form p es old at =
     let a : Advances (snap_stream profile) t.block t.meter h.block [] front used events.OutOfMemory = rw c.in-OutOfMemory.is at (c.advance-used.ensures.advances profile h.block [] h.along) in
     let zero_used : used ≡ 0 = c.if-used-eq0-2.true in
     let none : h.block ++ take used front ≡ h.block = ap (λ (n : ℕ). h.block ++ take n front) zero_used ∙ append-nil h.block in
-    let along : IsAlong (snap_stream profile) t.block t.meter h.block [] = subst (λ (u : List ℕ). IsAlong (snap_stream profile) t.block t.meter u []) none a.2 in
+    let along : HasProgressed (snap_stream profile) t.block t.meter h.block [] = subst (λ (u : List ℕ). HasProgressed (snap_stream profile) t.block t.meter u []) none a.2 in
     let some : 0 < length bytes = omega (arith, c.if-is_empty.ensures) in
     let here : p ≡ p ++ take used bytes = sym (ap (λ (n : ℕ). p ++ take n bytes) zero_used ∙ append-nil p) in
     let told : HasTold t profile limits p (told_by es) = record {

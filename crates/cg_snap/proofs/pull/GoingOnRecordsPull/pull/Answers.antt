@@ -2,7 +2,7 @@ use Rattle.std.proofs.Common.{◌≡◌, ◌++◌, ◌∷◌, ◌≤◌, ◌<◌
 use Rattle.std.proofs.lemmas.Bool.{MatchBool-at_false}
 use Rattle.std.proofs.lemmas.List.{length-take-le, take-take}
 use Rattle.cg_value.specs.declared.profile.Profile.{Profile}
-use Rattle.cg_snap.specs.Course.{IsAlong, PieceDid}
+use Rattle.cg_snap.specs.Course.{HasProgressed, PieceDid}
 use Rattle.cg_snap.specs.GoingOn.{AreToldBy, told_by}
 use Rattle.cg_snap.specs.GoingOnState.{HasFound, HasTold, IsPassingOver, IsReading, going_stream}
 use Rattle.cg_snap.specs.Streams.{snap_stream}
@@ -30,7 +30,7 @@ returns-in-Given-clause-pulled c form p es h =
     let within : used ≤ length front = c.pull-used.ensures.used in
     let one : (s.left_out ≡ None) ⊎ (length front ≤ 1) = inl (none_left s.left_out (sym c.is_some.ensures ∙ c.if-is_some.false)) in
     let e = c.in-Given.entry in
-    let f : Found = record { entry = Some e; left_out = None } in
+    let f : Found = record { entry = Some e; left_out = None; fault = None } in
     let limits_is = c.pull-used.ensures.limits ∙ old.told.meter_is in
     let before = given_before profile limits s p (told_by es) r front t inner used e a.0 within a.1 a.2 limits_is c.begin_at_record.ensures.limits c.begin_at_record.ensures.offset c.begin_at_record.ensures.record refl one in
     let reading = given_reading profile limits s p (told_by es) r front t inner used e a.0 within a.1 a.2 limits_is c.begin_at_record.ensures.limits c.begin_at_record.ensures.offset c.begin_at_record.ensures.record refl one in
@@ -43,9 +43,9 @@ returns-in-Given-clause-pulled c form p es h =
       meter_is = c.begin_at_record.ensures.limits ∙ limits_is;
       state = at_false (IsPassingOver t profile limits (p ++ take used front) (told_by es ++ inl e ∷ [])) (IsReading t profile limits (p ++ take used front) (told_by es ++ inl e ∷ [])) s.is_passing c.if-self.false reading;
     } in
-    let state : HasFound t form (p ++ take used piece) (es ++ f ∷ []) = found_given form s t p es old piece (λ i. omega (arith, c.type_inv.piece i)) used f (subst (λ (u : List ℕ). HasTold t profile limits u (told_by es ++ inl e ∷ [])) here told) in
+    let state : HasFound t form (p ++ take used piece) (es ++ f ∷ []) = found_given form s t p es old piece (λ i. omega (arith, c.type_inv.piece i)) used f (subst (λ (u : List ℕ). HasTold t profile limits u (told_by es ++ inl e ∷ [])) here told) tt in
     let size : length (take used piece) ≡ used = length-take-le used piece (omega (arith, within, c.split_at.ensures.front_len, c.room.ensures.bytes)) in
-    let along : IsAlong (going_stream form) t c.count_to.new.self (p ++ take used piece) (es ++ f ∷ []) = taken_on form s t c.args.meter.now c.count_to.new.self t.meter p (take used piece) es (es ++ f ∷ []) h reading.front reading.block (sym here ∙ reading.split) reading.ended reading.along.counted
+    let along : HasProgressed (going_stream form) t c.count_to.new.self (p ++ take used piece) (es ++ f ∷ []) = taken_on form s t c.args.meter.now c.count_to.new.self t.meter p (take used piece) es (es ++ f ∷ []) h reading.front reading.block (sym here ∙ reading.split) reading.ended reading.along.counted
     (c.count_to.ensures.offset ∙ ap (λ (n : ℕ). c.args.meter.now.offset + n) (sym size)) (c.count_to.ensures.record ∙ sym c.begin_at_record.ensures.record) c.count_to.ensures.limits
     (omega (arith, size, within, c.room.ensures.stream, c.split_at.ensures.front_len)) (omega (arith, size, within, c.room.ensures.record, c.split_at.ensures.front_len)) state in
     rw (c.given.ensures.what, c.given.ensures.used) (a.0, subst (λ (u : List ℕ). AreToldBy profile limits u (told_by es)) (took (used - 1) (omega arith)) before, along)
@@ -75,7 +75,7 @@ returns-in_default c = record {
       } in
       let state : HasFound t form (p ++ take used piece) es = found_more form s t p es old piece (λ i. omega (arith, c.type_inv.piece i)) used (subst (λ (u : List ℕ). HasTold t profile limits u (told_by es)) here told) in
       let size : length (take used piece) ≡ used = length-take-le used piece (omega (arith, within, c.split_at.ensures.front_len, c.room.ensures.bytes)) in
-      let now : IsAlong (going_stream form) t c.count_to.new.self (p ++ take used piece) es = taken_on form s t c.args.meter.now c.count_to.new.self t.meter p (take used piece) es es h reading.front reading.block (sym here ∙ reading.split) reading.ended reading.along.counted
+      let now : HasProgressed (going_stream form) t c.count_to.new.self (p ++ take used piece) es = taken_on form s t c.args.meter.now c.count_to.new.self t.meter p (take used piece) es es h reading.front reading.block (sym here ∙ reading.split) reading.ended reading.along.counted
       (c.count_to.ensures.offset ∙ ap (λ (n : ℕ). c.args.meter.now.offset + n) (sym size)) c.count_to.ensures.record c.count_to.ensures.limits
       (omega (arith, size, within, c.room.ensures.stream, c.split_at.ensures.front_len)) (omega (arith, size, within, c.room.ensures.record, c.split_at.ensures.front_len)) state in
       c.pull_rest.ensures.pulled form p es now;
