@@ -184,7 +184,7 @@ fn run_show<R: Source, W: Sink>(
 {
     let max = limits.max_stream;
     if keep_going {
-        let entries = GoingOnReader::new(alloc, profile, limits, ShownTeller);
+        let entries = crate::shown::ShownOnReader::new(alloc, profile, limits);
         return run_stream(alloc, entries, reader, writer, None, max);
     }
     let entries = ShownReader::new(alloc, profile, limits);

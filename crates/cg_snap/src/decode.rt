@@ -145,6 +145,8 @@ fn end_found(decoder: GoingOnDecoder, found: &mut Vec<Found>) -> Option<StreamFa
             let last = Found {
                 entry: Some(entry),
                 left_out: None,
+                size: 0,
+                behind: 0,
             };
             match found.push(last) {
                 Ok(()) => None,

@@ -35,4 +35,7 @@ pub struct LeftOut {
 pub struct Found {
     pub entry: Option<Entry>,
     pub left_out: Option<LeftOut>,
+    /// How many bytes the lines of the entry are, and how many came behind them.
+    pub size: u64,
+    pub behind: u64,
 }

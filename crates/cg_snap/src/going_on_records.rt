@@ -134,7 +134,7 @@ fn end_entry(block: &mut SnapshotRecords) -> Option<Entry>
 }
 
 /// The entry that bytes close, of which so many were taken.
-pub(crate) fn given(used: usize, entry: Entry) -> Progress<Found>
+pub(crate) fn given(used: usize, entry: Entry, size: u64, behind: u64) -> Progress<Found>
     ensures used { result.used ≡ used }
     ensures what { result.what ≡ events.Given (record { entry = Some entry; left_out = None }) }
 {
@@ -143,6 +143,8 @@ pub(crate) fn given(used: usize, entry: Entry) -> Progress<Found>
         what: Event::Given(Found {
             entry: Some(entry),
             left_out: None,
+            size,
+            behind,
         }),
     }
 }
@@ -242,10 +244,17 @@ impl GoingOnRecords {
         } else {
             end_entry(&mut self.block)
         };
+        let size = match &entry {
+            Some(_) => self.meter.offset - self.meter.record_len,
+            None => 0,
+        };
+        let behind = self.meter.record_len + 1;
         self.left_out = kept;
         self.begin_block(is_in_line);
         Ok(Some(Found {
             entry,
+            size,
+            behind,
             left_out: Some(LeftOut { at, path, cause }),
         }))
     }
@@ -345,10 +354,13 @@ impl Records for GoingOnRecords {
         let Progress { used, what } = advance(&mut self.block, &mut self.meter, front);
         match what {
             Event::Given(entry) => {
+                let size = self.meter.offset - self.meter.record_len;
                 self.meter.begin_at_record();
                 let found = Found {
                     entry: Some(entry),
                     left_out: None,
+                    size,
+                    behind: self.meter.record_len,
                 };
                 Progress {
                     used,

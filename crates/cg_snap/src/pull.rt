@@ -50,8 +50,9 @@ impl Pull for GoingOnRecords {
         meter.count_to(used, self.meter.record_len);
         match what {
             Event::Given(entry) => {
+                let size = self.meter.offset - self.meter.record_len;
                 self.meter.begin_at_record();
-                given(used, entry)
+                given(used, entry, size, self.meter.record_len)
             }
             _ => pull_rest(self, meter, piece, used),
         }
