@@ -1,12 +1,16 @@
 -- The texts of values have no space, newline or other byte below.
-use Rattle.std.proofs.Common.{◌≡◌, ℕ, suc, ℤ, pos, negsuc, ◌<◌, ◌≤◌, ◌⊎◌, inl, inr, Bool, List, [], ◌∷◌, ◌++◌, codes, arith}
+use Rattle.std.proofs.Common.{◌≡◌, ℕ, suc, ℤ, pos, negsuc, ◌<◌, ◌≤◌, ◌⊎◌, inl, inr, Bool, true, List, [], ◌∷◌, ◌++◌, Option, Some, None, codes, refl, arith, nat_lt, ltb-true}
+use Rattle.std.proofs.lemmas.Bool.{and_parts}
+use Rattle.std.specs.List.{list_all}
 use Rattle.cg_text.specs.AboveSpace.{AreAboveSpace}
-use Rattle.cg_text.specs.Amount.{IsAmount}
+use Rattle.cg_text.specs.Amount.{IsAmount, IsBelow}
 use Rattle.cg_text.specs.Clamp.{IsClamp}
 use Rattle.cg_text.specs.Decimal.{AreDigits, IsNumeral}
-use Rattle.cg_text.specs.Device.{IsDevice}
+use Rattle.cg_text.specs.Device.{IsDevice, IsDeviceName}
 use Rattle.cg_text.specs.Hundredths.{IsHundredths, HasTwoDigits, HasDigits}
 use Rattle.cg_text.specs.Limit.{IsLimit}
+use Rattle.cg_text.specs.Name.{IsNameValue}
+use Rattle.cg_text.specs.Param.{IsParam}
 use Rattle.cg_text.specs.List.{IsRangeText, AreRangeTexts, IsStrictList, IsLooseRangeText, AreLooseTexts, IsLooseList}
 use Rattle.cg_text.specs.Signed.{IsSigned, IsSignedNumeral}
 use Rattle.cg_text.specs.Size.{HasFactor, HasSize, IsSize}
@@ -23,6 +27,8 @@ use Rattle.cg_text.specs.declared.values.Device.{Device}
 use Rattle.cg_text.specs.declared.values.Hundredths.{Hundredths}
 use Rattle.cg_text.specs.declared.values.Limit.{Limit}
 use Rattle.cg_text.specs.declared.values.Limit.TheVariants as limit
+use Rattle.cg_text.specs.declared.values.ParamValue.{ParamValue}
+use Rattle.cg_text.specs.declared.values.ParamValue.TheVariants as param
 
 pub above_append : (xs ys : List ℕ) → AreAboveSpace xs → AreAboveSpace ys → AreAboveSpace (xs ++ ys)
 above_append [] ys h k = k
@@ -68,13 +74,28 @@ pub clamp_above : (form : Form) (v : Clamp) (text : List ℕ) → IsClamp form v
 clamp_above form clamp.Max text h = max_above text h
 clamp_above form (clamp.At v) text h = hundredths_above form 10000 v text h
 
-pub amount_above : (v : Amount) (text : List ℕ) → IsAmount v text → AreAboveSpace text
-amount_above amount.Max text h = max_above text h
-amount_above (amount.Whole n) text h = numeral_above n text h.2
-amount_above (amount.Decimal v) text h = hundredths_above Read 99999999999 v text h
+below_above : (n : ℕ) (text : List ℕ) → IsBelow n text → AreAboveSpace text
+below_above n text h = rw h.text_is (omega arith, numeral_above n h.digits h.digits_are.2)
+
+pub amount_above : (signed : Bool) (v : Amount) (text : List ℕ) → IsAmount signed v text → AreAboveSpace text
+amount_above signed amount.Max text h = max_above text h
+amount_above signed (amount.Whole n) text h = numeral_above n text h.2
+amount_above signed (amount.Decimal v) text h = hundredths_above Read 99999999999 v text h
+amount_above signed (amount.Below n) text h = below_above n text h.1
 
 pub device_above : (v : Device) (text : List ℕ) → IsDevice v text → AreAboveSpace text
 device_above v text h = rw h.text_is (above_append h.major (58 ∷ h.minor) (numeral_above v.major h.major h.major_is.2) (omega arith, numeral_above v.minor h.minor h.minor_is.2))
+
+tested_above : (xs : List ℕ) → list_all (λ c. nat_lt 32 c) xs ≡ true → AreAboveSpace xs
+tested_above [] e = tt
+tested_above (x ∷ xs) e = let both = and_parts _ _ e in (ltb-true 32 x both.0, tested_above xs both.1)
+
+unknown_above : (text : List ℕ) → text ≡ codes "(unknown)" → AreAboveSpace text
+unknown_above text e = rw e (tested_above (codes "(unknown)") refl)
+
+pub device_name_above : (unknown : Bool) (v : Option Device) (text : List ℕ) → IsDeviceName unknown v text → AreAboveSpace text
+device_name_above unknown (Some v) text h = device_above v text h
+device_name_above unknown None text h = unknown_above text h.1
 
 signed_numeral_above : (z : ℤ) (text : List ℕ) → IsSignedNumeral z text → AreAboveSpace text
 signed_numeral_above (pos n) text h = numeral_above n text h
@@ -132,3 +153,12 @@ word_bytes_above (c ∷ cs) h = (omega (arith, h.0.0), word_bytes_above cs h.1)
 
 pub word_text_above : (controller : Bool) (text : List ℕ) → IsWordText controller text → AreAboveSpace text
 word_text_above controller text h = word_bytes_above text (text_word controller text h).1
+
+pub name_above : (text : List ℕ) → IsNameValue text → AreAboveSpace text
+name_above [] h = absurd h
+name_above (c ∷ cs) h = word_bytes_above (c ∷ cs) h.1.1
+
+pub param_above : (v : ParamValue) (text : List ℕ) → IsParam v text → AreAboveSpace text
+param_above (param.Whole n) text h = numeral_above n text h.2
+param_above (param.Decimal v) text h = hundredths_above Read 99999999999 v text h
+param_above (param.Name name) text h = name_above text h.1

@@ -1,11 +1,12 @@
 -- The texts that are always the same (cgroup-v2.rst, "Interface Files"; psi.rst).
 use Rattle.std.specs.Prelude.{ℕ, List, codes}
 use Rattle.cg_text.specs.declared.keyword.Keyword.{Keyword}
-use Rattle.cg_text.specs.declared.keyword.Keyword.TheVariants.{Max, Default, Some, Full, Domain, DomainThreaded, DomainInvalid, Threaded, Member, Root, Isolated, Invalid, Opening, Rbps, Wbps, Riops}
+use Rattle.cg_text.specs.declared.keyword.Keyword.TheVariants.{Max, Unknown, Default, Some, Full, Domain, DomainThreaded, DomainInvalid, Threaded, Member, Root, Isolated, Invalid, Opening, Rbps, Wbps, Riops}
 use Rattle.cg_text.specs.declared.keyword.Keyword.TheVariants.{Wiops, Target, Swappiness, Avg10, Avg60, Avg300, Total}
 
 abbrev pub text_of : Keyword → List ℕ
 text_of Max = codes "max"
+text_of Unknown = codes "(unknown)"
 text_of Default = codes "default"
 text_of Some = codes "some"
 text_of Full = codes "full"

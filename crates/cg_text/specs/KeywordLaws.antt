@@ -6,7 +6,7 @@ use Rattle.cg_text.specs.Texts.{Lacks}
 use Rattle.cg_text.specs.Token.{AreBytes}
 use Rattle.cg_text.specs.Keyword.{text_of}
 use Rattle.cg_text.specs.declared.keyword.Keyword.{Keyword}
-use Rattle.cg_text.specs.declared.keyword.Keyword.TheVariants.{Max, Default, Some, Full, Domain, DomainThreaded, DomainInvalid, Threaded, Member, Root, Isolated, Invalid, Opening, Rbps, Wbps, Riops}
+use Rattle.cg_text.specs.declared.keyword.Keyword.TheVariants.{Max, Unknown, Default, Some, Full, Domain, DomainThreaded, DomainInvalid, Threaded, Member, Root, Isolated, Invalid, Opening, Rbps, Wbps, Riops}
 use Rattle.cg_text.specs.declared.keyword.Keyword.TheVariants.{Wiops, Target, Swappiness, Avg10, Avg60, Avg300, Total}
 
 tested_bytes : (xs : List ℕ) → list_all (λ b. nat_lt b 256) xs ≡ true → AreBytes xs
@@ -23,6 +23,7 @@ tested_lacks b (x ∷ xs) e =
 
 pub keyword_bytes : (keyword : Keyword) → AreBytes (text_of keyword)
 keyword_bytes Max = tested_bytes (text_of Max) refl
+keyword_bytes Unknown = tested_bytes (text_of Unknown) refl
 keyword_bytes Default = tested_bytes (text_of Default) refl
 keyword_bytes Some = tested_bytes (text_of Some) refl
 keyword_bytes Full = tested_bytes (text_of Full) refl
@@ -49,6 +50,7 @@ keyword_bytes Total = tested_bytes (text_of Total) refl
 -- None has a newline.
 pub keyword_lacks : (keyword : Keyword) → Lacks 10 (text_of keyword)
 keyword_lacks Max = tested_lacks 10 (text_of Max) refl
+keyword_lacks Unknown = tested_lacks 10 (text_of Unknown) refl
 keyword_lacks Default = tested_lacks 10 (text_of Default) refl
 keyword_lacks Some = tested_lacks 10 (text_of Some) refl
 keyword_lacks Full = tested_lacks 10 (text_of Full) refl

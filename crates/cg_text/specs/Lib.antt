@@ -33,6 +33,9 @@ pub mod LooseLaws
 pub mod LooseState
 pub mod Hash
 pub mod HashLaws
+pub mod Name
+pub mod NameLaws
+pub mod NameState
 pub mod NewlineLaws
 pub mod NumberRest
 pub mod NumberRestLaws
@@ -42,6 +45,7 @@ pub mod NumeralLaws
 pub mod OneTextLaws
 pub mod RangesLaws
 pub mod RangesState
+pub mod Param
 pub mod PlainLaws
 pub mod Raw
 pub mod RawLaws

@@ -12,6 +12,8 @@ use crate::token::Token;
 pub enum Keyword {
     /// `max`: no limit.
     Max,
+    /// `(unknown)`: a device that is gone.
+    Unknown,
     /// `default`: what holds where nothing else is said.
     Default,
     /// `some`: at least one task stalls.
@@ -65,6 +67,7 @@ impl Keyword {
     {
         match self {
             Keyword::Max => b"max",
+            Keyword::Unknown => b"(unknown)",
             Keyword::Default => b"default",
             Keyword::Some => b"some",
             Keyword::Full => b"full",

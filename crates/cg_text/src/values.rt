@@ -1,5 +1,7 @@
 //! The values that tokens spell.
 
+use crate::key::Key;
+
 /// A limit: none, which is written `max`, or a number.
 #[derive(Clone, Copy, Debug, PartialEq, Eq)]
 pub enum Limit {
@@ -20,12 +22,22 @@ pub enum Clamp {
     At(Hundredths),
 }
 
-/// An amount of `io.stat`: a whole number, one with two decimals, or `max`. `100` and `100.00` are two values.
+/// An amount of `io.stat`: a whole number, one with two decimals, `max`, or a number below 0, by how much it is below.
+/// `100` and `100.00` are two values.
 #[derive(Clone, Copy, Debug, PartialEq, Eq)]
 pub enum Amount {
     Whole(u64),
     Decimal(Hundredths),
     Max,
+    Below(u64),
+}
+
+/// A parameter of a device: a whole number, one with two decimals, or a name.
+#[derive(Debug, Drop, PartialEq)]
+pub enum ParamValue {
+    Whole(u64),
+    Decimal(Hundredths),
+    Name(Key),
 }
 
 /// A block device, by its major and minor number.
