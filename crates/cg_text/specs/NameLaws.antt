@@ -1,10 +1,12 @@
 -- What holds of what is left of a name value.
-use Rattle.std.proofs.Common.{◌≡◌, ℕ, zero, suc, ◌≤◌, ◌<◌, ◌↔◌, Bool, List, [], ◌∷◌, ◌++◌, length, take, IsTrue, nat_lt, refl, sym, ◌∙◌, append_assoc, arith, lt-ltb}
+use Rattle.std.proofs.Common.{◌≡◌, ℕ, zero, suc, ◌≤◌, ◌<◌, ◌↔◌, Bool, true, false, Ok, Err, List, [], ◌∷◌, ◌++◌, length, take, IsTrue, nat_lt, refl, sym, ◌∙◌, append_assoc, arith, lt-ltb}
 use Rattle.std.proofs.Props.{props}
 use Rattle.std.proofs.lemmas.List.{append_cancel_right}
 use Rattle.std.specs.Coded.{Unit-prop}
+use Rattle.std.specs.declared.result.Result.{Result}
 use Rattle.cg_text.specs.Name.{IsLower, IsNameValue}
 use Rattle.cg_text.specs.NameState.{IsNameFront, IsLowerFirst, IsNameRest}
+use Rattle.cg_text.specs.Token.{IfTaken, UnlessTaken}
 use Rattle.cg_text.specs.WordLaws.{text_word, word_begins, word_completes, word_ends_is}
 use Rattle.cg_text.specs.WordState.{IsWordFront, IsWordRest}
 
@@ -60,6 +62,23 @@ name_ends controller taken sound front = (
   λ h. (word_ends_is controller taken sound).1 (h.0, h.1.0),
 )
 
-pub some_first : (taken : List ℕ) (byte : ℕ) → IsTrue (nat_lt 0 (length taken)) → IsLowerFirst taken byte
-some_first [] byte h = absurd (cc)
-some_first (c ∷ cs) byte h = λ e. absurd (cc)
+-- Where bytes were taken, nothing is asked of a run.
+pub some_taken : (taken run : List ℕ) → IsTrue (nat_lt 0 (length taken)) → taken ≡ [] → IsNameFront run
+some_taken [] run h e = absurd (cc)
+some_taken (c ∷ cs) run h e = absurd (cc)
+
+module _ {E : Type 0} (controller later : Bool) (old new : List ℕ) (byte : ℕ) where
+  -- A step of a word, taken or not, keeps the front of a name.
+  pub front_stepped : (result : Result Bool E) → IsWordFront later new → IsNameFront old → IsLowerFirst old byte →
+      IfTaken result ((rest word : List ℕ) → IsWordRest later new rest word ↔ IsWordRest controller old (byte ∷ rest) word) →
+      UnlessTaken result ((rest word : List ℕ) → IsWordRest later new rest word ↔ IsWordRest controller old rest word) → IsNameFront new
+  front_stepped (Ok true) sound front first taken same = front_after controller later old new (byte ∷ []) sound front first taken
+  front_stepped (Ok false) sound front first taken same = front_after controller later old new [] sound front (λ e. tt) same
+  front_stepped (Err e) sound front first taken same = front_after controller later old new [] sound front (λ e. tt) same
+
+  -- What a step leaves of a word it leaves of a name.
+  pub name_stepped : (result : Result Bool E) → IfTaken result ((rest word : List ℕ) → IsWordRest later new rest word ↔ IsWordRest controller old (byte ∷ rest) word) →
+      IfTaken result ((rest name : List ℕ) → IsNameRest later new rest name ↔ IsNameRest controller old (byte ∷ rest) name)
+  name_stepped (Ok true) taken = λ rest name. (λ h. ((taken rest name).0 h.0, h.1), λ h. ((taken rest name).1 h.0, h.1))
+  name_stepped (Ok false) taken = tt
+  name_stepped (Err e) taken = tt
