@@ -2,8 +2,11 @@
 use Rattle.std.proofs.Common.{◌≡◌, ℕ, ◌≤◌, inl, inr, List, [], ◌∷◌, ◌++◌, Option, Some, None, refl, arith, ◌≢◌, sym, ◌∙◌}
 use Rattle.cg_text.specs.Decimal.{IsDecimal, IsNumeral}
 use Rattle.cg_text.specs.DecimalLaws.{number_digits}
+use Rattle.cg_text.specs.Hundredths.{IsHundredths}
+use Rattle.cg_text.specs.Name.{IsLower, IsNameValue}
 use Rattle.cg_text.specs.Size.{HasSize, IsSize}
 use Rattle.cg_text.specs.declared.decimal.Progress.TheVariants.{Start}
+use Rattle.cg_text.specs.declared.hundredths.Form.TheVariants.{Read}
 use Rattle.cg_join.specs.FilledLaws.{fixed_filled, first_filled}
 use Rattle.cg_join.specs.Maybe.{IsMaybe}
 use Rattle.cg_join.specs.Repeat.{AreJoined}
@@ -47,6 +50,15 @@ cut_begins n byte back (x ∷ xs) ys e h = let s : x ≡ byte = cc in rw s at (n
 -- A number, a device and a size begin with a digit.
 pub decimal_begins : (lo hi : ℕ) → BeginsBy (λ c. (48 ≤ c) × (c ≤ 57)) (λ text n. IsDecimal lo hi n text)
 decimal_begins lo hi = only_begins (digits_only lo hi)
+
+pub hundredths_begins : (most : ℕ) → BeginsBy (λ c. (48 ≤ c) × (c ≤ 57)) (λ text v. IsHundredths Read most v text)
+hundredths_begins most = record {
+  is = λ byte back v h. cut_begins h.1.whole byte back h.1.digits (46 ∷ h.1.tenth ∷ h.1.hundredth ∷ []) h.1.text_is h.1.whole_is;
+}
+
+-- A name value begins with a letter.
+pub name_begins : BeginsBy IsLower (λ text name. (name ≡ text) × IsNameValue text)
+name_begins = record { is = λ byte back name h. h.1.0 }
 
 pub size_begins : BeginsBy (λ c. (48 ≤ c) × (c ≤ 57)) (λ text n. IsSize n text)
 size_begins = record { is = λ byte back n h. at_size h.count h.factor byte back h.spelled }

@@ -2,7 +2,7 @@
 use Rattle.std.proofs.Common.{◌≡◌, ◌≤◌, ℕ, Bool, true, false, ◌&&◌, nat_eq, List, [], ◌∷◌, ◌++◌, refl, sym, ◌∙◌, ap, append_assoc, eq-eqb}
 use Rattle.std.proofs.lemmas.List.{append-nil}
 use Rattle.cg_text.specs.Device.{IsDevice}
-use Rattle.cg_join.specs.Spelling.{IsConcat, IsEither, Disjoint}
+use Rattle.cg_join.specs.Spelling.{IsConcat, IsEither, IsAllowed, Disjoint}
 use Rattle.cg_join.specs.TextBytes.{IsFixed, BeginsBy, HasByte, Lacking, Filled}
 use Rattle.cg_join.specs.declared.choice.Either.{Either}
 use Rattle.cg_join.specs.declared.choice.Either.TheVariants.{Left, Right}
@@ -64,6 +64,10 @@ module _ {V W : Type 0} (R : List ℕ → V → Type 0) (Q : List ℕ → W → 
       at_either : (text : List ℕ) (x : X) (v : Either V W) → P text x → IsEither R Q text v → ⊥
       at_either text x (Left v) h k = f text x v h k
       at_either text x (Right w) h k = g text x w h k
+
+-- Where a text is allowed, or not.
+pub allowed_disjoint : {V W : Type 0} (allowed : Bool) {R : List ℕ → V → Type 0} {Q : List ℕ → W → Type 0} → Disjoint R Q → Disjoint R (IsAllowed allowed Q)
+allowed_disjoint allowed none text v w h k = none text v w h k.1
 
 -- A device has a colon.
 pub device_has : HasByte (λ text v. IsDevice v text) 58

@@ -1,6 +1,7 @@
 -- Texts that aren't empty, by their parts.
 use Rattle.std.proofs.Common.{◌≡◌, ℕ, Bool, List, [], ◌∷◌, ◌++◌, refl}
 use Rattle.cg_text.specs.Decimal.{IsDecimal}
+use Rattle.cg_text.specs.Name.{IsNameValue}
 use Rattle.cg_text.specs.Token.{Spells}
 use Rattle.cg_join.specs.Distinct.{AreDistinctJoined}
 use Rattle.cg_join.specs.Repeat.{LacksEmpty, AreJoined}
@@ -28,6 +29,9 @@ fixed_filled b more = record { is = λ v h. absurd (cc) }
 
 pub decimal_is_filled : (lo hi : ℕ) → Filled (λ text n. IsDecimal lo hi n text)
 decimal_is_filled lo hi = record { is = λ n h. h.2 }
+
+pub name_is_filled : Filled (λ text name. (name ≡ text) × IsNameValue text)
+name_is_filled = record { is = λ name h. h.1 }
 
 pub word_is_filled : (controller : Bool) → Filled (SpellsWord controller)
 word_is_filled controller = record { is = word_filled controller }

@@ -2,11 +2,11 @@
 use Rattle.std.proofs.Common.{◌≡◌, ◌≢◌, ℕ, ℤ, ◌≤◌, ◌⊎◌, inl, inr, Bool, true, not, List, [], ◌∷◌, ◌++◌, Option, Some, None, sym, nat_eq}
 use Rattle.std.specs.List.{list_all}
 use Rattle.cg_text.specs.AboveSpace.{AreAboveSpace}
-use Rattle.cg_text.specs.AboveSpaceLaws.{above_lacks_byte, numeral_above, limit_above, hundredths_above, clamp_above, amount_above, device_above, signed_above, size_above, strict_above, loose_above, word_text_above}
+use Rattle.cg_text.specs.AboveSpaceLaws.{above_lacks_byte, numeral_above, limit_above, hundredths_above, clamp_above, amount_above, device_above, device_name_above, param_above, signed_above, size_above, strict_above, loose_above, word_text_above}
 use Rattle.cg_text.specs.Amount.{IsAmount}
 use Rattle.cg_text.specs.Clamp.{IsClamp}
 use Rattle.cg_text.specs.Decimal.{IsDecimal}
-use Rattle.cg_text.specs.Device.{IsDevice}
+use Rattle.cg_text.specs.Device.{IsDevice, IsDeviceName}
 use Rattle.cg_text.specs.Hundredths.{IsHundredths}
 use Rattle.cg_text.specs.Keyword.{text_of}
 use Rattle.cg_text.specs.KeywordLaws.{tested_lacks, keyword_lacks}
@@ -14,6 +14,7 @@ use Rattle.cg_text.specs.Limit.{IsLimit}
 use Rattle.cg_text.specs.LimitPairs.{AreLimits}
 use Rattle.cg_text.specs.List.{IsStrictList, IsLooseList}
 use Rattle.cg_text.specs.NewlineLaws.{raw_lacks, reason_lacks, times_lack, limits_lack}
+use Rattle.cg_text.specs.Param.{IsParam}
 use Rattle.cg_text.specs.Raw.{IsRawLine, IsReason}
 use Rattle.cg_text.specs.Signed.{IsSigned}
 use Rattle.cg_text.specs.Size.{IsSize}
@@ -95,14 +96,20 @@ hundredths_lacking b form most low = above_lacking (λ text v. IsHundredths form
 pub clamp_lacking : (b : ℕ) (form : Form) → b ≤ 32 → Lacking (λ text v. IsClamp form v text) b
 clamp_lacking b form low = above_lacking (λ text v. IsClamp form v text) b low (λ text v h. clamp_above form v text h)
 
-pub amount_lacking : (b : ℕ) → b ≤ 32 → Lacking (λ text v. IsAmount v text) b
-amount_lacking b low = above_lacking (λ text v. IsAmount v text) b low (λ text v h. amount_above v text h)
+pub amount_lacking : (b : ℕ) (signed : Bool) → b ≤ 32 → Lacking (λ text v. IsAmount signed v text) b
+amount_lacking b signed low = above_lacking (λ text v. IsAmount signed v text) b low (λ text v h. amount_above signed v text h)
 
 pub size_lacking : (b : ℕ) → b ≤ 32 → Lacking (λ text n. IsSize n text) b
 size_lacking b low = above_lacking (λ text n. IsSize n text) b low (λ text n h. size_above n text h)
 
 pub device_lacking : (b : ℕ) → b ≤ 32 → Lacking (λ text v. IsDevice v text) b
 device_lacking b low = above_lacking (λ text v. IsDevice v text) b low (λ text v h. device_above v text h)
+
+pub device_name_lacking : (b : ℕ) (unknown : Bool) → b ≤ 32 → Lacking (λ text v. IsDeviceName unknown v text) b
+device_name_lacking b unknown low = above_lacking (λ text v. IsDeviceName unknown v text) b low (λ text v h. device_name_above unknown v text h)
+
+pub param_lacking : (b : ℕ) → b ≤ 32 → Lacking (λ text v. IsParam v text) b
+param_lacking b low = above_lacking (λ text v. IsParam v text) b low (λ text v h. param_above v text h)
 
 pub word_lacking : (b : ℕ) (controller : Bool) → b ≤ 32 → Lacking (SpellsWord controller) b
 word_lacking b controller low = above_lacking (SpellsWord controller) b low (λ text word h. word_text_above controller text h.1)

@@ -12,6 +12,8 @@ pub mod CompositeLaws
 pub mod Composites
 pub mod CutLaws
 pub mod DeviceLaws
+pub mod DeviceNameLaws
+pub mod DeviceNameState
 pub mod DeviceState
 pub mod DisjointLaws
 pub mod Distinct
@@ -46,6 +48,8 @@ pub mod Pairs
 pub mod PairsLaws
 pub mod PairsState
 pub mod PairsStateLaws
+pub mod ParamLaws
+pub mod ParamState
 pub mod PartRunLaws
 pub mod Proper
 pub mod ProperLaws

@@ -3,17 +3,26 @@ ghost use Rattle.std.specs.Prelude.{◌≡◌, false, refl};
 ghost use Rattle.cg_text.specs.Token.{Spells};
 ghost use Rattle.cg_text.specs.Amount.{IsAmount};
 
+use crate::bounded::decimal_in;
 use crate::choice::{Choice, Either};
 use crate::mapped::{Mapped, Turn};
+use crate::sequence::Sequence;
 use cg_text::{
-    Amount, DecimalText, Form, Hundredths, HundredthsText, Keyword, KeywordText, OutOfMemory, Token,
+    Amount, ByteText, DecimalText, Form, Hundredths, HundredthsText, Keyword, KeywordText,
+    OutOfMemory, Token,
 };
+
+/// A minus sign, and a number.
+type Negated = Sequence<ByteText, DecimalText>;
+
+// Most amounts are numbers, so these come first.
+type AnyAmount = Choice<Choice<DecimalText, HundredthsText>, Choice<KeywordText, Negated>>;
 
 /// The amount of a choice.
 #[derive(Clone, Copy)]
 struct ToAmount;
 
-impl Turn<Choice<Choice<DecimalText, HundredthsText>, KeywordText>> for ToAmount {
+impl Turn<AnyAmount> for ToAmount {
     type To = Amount;
 
     ghost use Rattle.cg_join.specs.AmountState.{amount_of};
@@ -22,11 +31,12 @@ impl Turn<Choice<Choice<DecimalText, HundredthsText>, KeywordText>> for ToAmount
 
     ghost value_size = { λ _. 0 };
 
-    fn turn(value: Either<Either<u64, Hundredths>, ()>) -> Amount {
+    fn turn(value: Either<Either<u64, Hundredths>, Either<(), ((), u64)>>) -> Amount {
         match value {
             Either::Left(Either::Left(n)) => Amount::Whole(n),
             Either::Left(Either::Right(hundredths)) => Amount::Decimal(hundredths),
-            Either::Right(_) => Amount::Max,
+            Either::Right(Either::Left(_)) => Amount::Max,
+            Either::Right(Either::Right((_, n))) => Amount::Below(n),
         }
     }
 
@@ -39,28 +49,27 @@ impl Turn<Choice<Choice<DecimalText, HundredthsText>, KeywordText>> for ToAmount
     ghost no_more = { λ v. Prim.omega arith };
 }
 
-// Most amounts are numbers, so these come first.
-type Parts = Mapped<Choice<Choice<DecimalText, HundredthsText>, KeywordText>, ToAmount>;
+type Parts = Mapped<AnyAmount, ToAmount>;
 
-/// The word `max`, a whole number, or a number with two digits after the dot, whose whole part is at most 999999999.
+/// The word `max`, a whole number, or a number with two digits after the dot, whose whole part is at most 999999999;
+/// also a number from -2147483648 to -1, where such are allowed.
 #[derive(Drop)]
 pub struct AmountText {
     parts: Parts,
 }
 
 impl AmountText {
-    /// A token of amounts.
-    pub fn new() -> AmountText
-        ensures spells { Spells ⟦<AmountText as Token>⟧.means result (λ rest v. IsAmount v rest) }
+    /// A token of amounts, also of those below 0 where `signed`.
+    pub fn new(signed: bool) -> AmountText
+        ensures spells { Spells ⟦<AmountText as Token>⟧.means result (λ rest v. IsAmount signed v rest) }
         ensures size { ⟦<AmountText as Token>⟧.size result ≡ 0 }
     {
-        let whole = match DecimalText::new(0, u64::MAX) {
-            Some(whole) => whole,
-            None => unreachable!(),
-        };
+        let whole = decimal_in(0, u64::MAX);
         let number = Choice::new(whole, HundredthsText::new(Form::Read, 99999999999));
+        let negated = Sequence::new(ByteText::new(b'-'), decimal_in(1, 2147483648));
+        let other = Choice::conditional(KeywordText::new(Keyword::Max), negated, signed);
         AmountText {
-            parts: Mapped::new(Choice::new(number, KeywordText::new(Keyword::Max))),
+            parts: Mapped::new(Choice::new(number, other)),
         }
     }
 }

@@ -7,5 +7,7 @@ invariant_of-self c =
     let s = c.args.self.now in
     let new = c.run.new.self in
     let run = take c.run.result c.args.bytes.now in
-    record { front = front_after s.word.controller new.controller s.word.bytes.items new.bytes.items run new.sound s.front
-        (some_taken s.word.bytes.items run (sym c.can_end.ensures ∙ c.if-not-can_end.false)) c.run.ensures.follows }
+    record {
+      front = front_after s.word.controller new.controller s.word.bytes.items new.bytes.items run new.sound s.front
+          (some_taken s.word.bytes.items run (sym c.can_end.ensures ∙ c.if-not-can_end.false)) c.run.ensures.follows;
+    }
