@@ -1,10 +1,10 @@
 //! Texts of single tokens.
 use crate::escape::bytes_of;
 use crate::row::RowFault;
-use cg_join::{AmountText, ClampText, DeviceText, LimitText};
+use cg_join::{AmountText, ClampText, DeviceText, LimitText, device_name, param};
 use cg_text::{
     DecimalText, FixedText, Form, HundredthsText, LooseListText, NumberSet, OutOfMemory,
-    SignedText, SizeText, StrictListText, Token, WordText,
+    ParamValue, SignedText, SizeText, StrictListText, Token, WordText,
 };
 use std::alloc::Global;
 use std::fmt::Debug;
@@ -57,6 +57,15 @@ fn said_word(alloc: Global, controller: bool, text: &[u8]) -> Result<String, Row
     }
 }
 
+/// A parameter, as a row spells it.
+fn said_param(alloc: Global, text: &[u8]) -> Result<String, RowFault> {
+    match spelled(param(alloc), text)? {
+        Some(ParamValue::Name(name)) => Ok(format!(in alloc; "Name({:?})", name.bytes())?),
+        Some(number) => Ok(format!(in alloc; "{number:?}")?),
+        None => Ok(String::from_str(alloc, NONE)?),
+    }
+}
+
 /// How many numbers a set has, and its ranges.
 fn said_set(alloc: Global, set: Option<NumberSet>) -> Result<String, RowFault> {
     match set {
@@ -73,6 +82,8 @@ fn said_number(alloc: Global, name: &str, text: &[u8]) -> Option<Result<String, 
         "limit" => said_within(alloc, LimitText::new(1000, u64::MAX), text),
         "size" => said(alloc, SizeText::new(), text),
         "device" => said(alloc, DeviceText::new(), text),
+        "device_name" => said(alloc, device_name(true), text),
+        "known_device_name" => said(alloc, device_name(false), text),
         _ => return None,
     })
 }
@@ -84,7 +95,8 @@ fn said_fraction(alloc: Global, name: &str, text: &[u8]) -> Option<Result<String
         "written_hundredths" => said(alloc, HundredthsText::new(Form::Written, 10000), text),
         "clamp" => said(alloc, ClampText::new(Form::Read), text),
         "written_clamp" => said(alloc, ClampText::new(Form::Written), text),
-        "amount" => said(alloc, AmountText::new(), text),
+        "amount" => said(alloc, AmountText::new(false), text),
+        "signed_amount" => said(alloc, AmountText::new(true), text),
         _ => return None,
     })
 }
@@ -94,6 +106,7 @@ fn said_list(alloc: Global, name: &str, text: &[u8]) -> Result<String, RowFault>
     match name {
         "word" => said_word(alloc, false, text),
         "controller" => said_word(alloc, true, text),
+        "param" => said_param(alloc, text),
         "strict" => said_set(alloc, spelled(StrictListText::new(alloc, 65535), text)?),
         "wide_strict" => said_set(alloc, spelled(StrictListText::new(alloc, 1048575), text)?),
         "loose" => said_set(alloc, spelled(LooseListText::new(alloc, 65535), text)?),
