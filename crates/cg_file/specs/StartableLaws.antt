@@ -1,5 +1,5 @@
 -- What the tokens of a repetition ask of the texts of one, by their parts.
-use Rattle.std.proofs.Common.{◌≡◌, ◌≤◌, ℕ, ◌↔◌, true, false, List, [], ◌∷◌, refl, sym, ◌∙◌, ap, arith, codes}
+use Rattle.std.proofs.Common.{◌≡◌, ◌≤◌, ℕ, ◌↔◌, Bool, true, false, List, [], ◌∷◌, refl, sym, ◌∙◌, ap, arith, codes}
 use Rattle.cg_text.specs.Amount.{IsAmount}
 use Rattle.cg_text.specs.Decimal.{IsDecimal}
 use Rattle.cg_text.specs.Device.{IsDevice}
@@ -13,8 +13,9 @@ use Rattle.cg_text.specs.declared.decimal.Progress.TheVariants.{Start}
 use Rattle.cg_text.specs.declared.hundredths.Form.TheVariants.{Read}
 use Rattle.cg_text.specs.declared.hundredths.Part.TheVariants.{Whole}
 use Rattle.cg_text.specs.declared.keyword.Keyword.TheVariants.{Max}
-use Rattle.cg_join.specs.AmountLaws.{whole_not_fraction, max_apart, amount_is}
+use Rattle.cg_join.specs.AmountLaws.{whole_not_fraction, max_not_negated, others_apart, amount_is}
 use Rattle.cg_join.specs.AmountState.{amount_of}
+use Rattle.cg_join.specs.ApartLaws.{fixed_apart}
 use Rattle.cg_join.specs.ByteLaws.{sequence_bytes}
 use Rattle.cg_join.specs.DeviceLaws.{colon_apart, major_apart, device_is, device_of}
 use Rattle.cg_join.specs.DeviceState.{numbers_of}
@@ -23,7 +24,7 @@ use Rattle.cg_join.specs.LimitLaws.{limit_is}
 use Rattle.cg_join.specs.LimitState.{limit_of}
 use Rattle.cg_join.specs.MaxLaws.{max_not_decimal}
 use Rattle.cg_join.specs.SequenceLaws.{sequence_completes, sequence_one, both_same}
-use Rattle.cg_join.specs.Spelling.{IsConcat, IsEither, IsTurned, Apart, Disjoint}
+use Rattle.cg_join.specs.Spelling.{IsAllowed, IsConcat, IsEither, IsTurned, Apart, Disjoint}
 use Rattle.cg_join.specs.StartLaws.{some_decimal, one_decimal, decimal_bytes}
 use Rattle.cg_join.specs.TextBytes.{IsFixed}
 use Rattle.cg_join.specs.declared.choice.Either.{Either}
@@ -83,6 +84,20 @@ module _ {V W : Type 0} {R : List ℕ → V → Type 0} {Q : List ℕ → W → 
       either_bytes text (Left v) h = a.bytes text v h
       either_bytes text (Right w) h = b.bytes text w h
 
+  -- Where the other is allowed, or not.
+  pub conditional_startable : (allowed : Bool) → Disjoint R Q → Startable R → Startable Q → Startable (IsEither R (IsAllowed allowed Q))
+  conditional_startable allowed none a b =
+      let either = either_startable none a b in
+      record {
+        some = (let s = a.some in (s.0, Left s.1, s.2));
+        one = λ text v w h k. either.one text v w (as_allowed text v h) (as_allowed text w k);
+        bytes = λ text v h. either.bytes text v (as_allowed text v h);
+      }
+    where
+      as_allowed : (text : List ℕ) (v : Either V W) → IsEither R (IsAllowed allowed Q) text v → IsEither R Q text v
+      as_allowed text (Left v) h = h
+      as_allowed text (Right w) h = h.1
+
 pub fixed_startable : (fixed : List ℕ) → AreBytes fixed → Startable (IsFixed fixed)
 fixed_startable fixed bytes = record {
   some = (fixed, tt, refl);
@@ -105,10 +120,11 @@ hundredths_startable most = startable_as (hundredths_new Read most (WholePart mo
       bytes = hundredths_bytes Read most (Whole Start);
     }
 
-pub amount_startable : Startable (λ text v. IsAmount v text)
-amount_startable = startable_as amount_is (turned_startable amount_of (either_startable max_apart
+pub amount_startable : (signed : Bool) → Startable (λ text v. IsAmount signed v text)
+amount_startable signed = startable_as (amount_is signed) (turned_startable amount_of (either_startable (others_apart signed)
     (either_startable whole_not_fraction (decimal_startable (omega arith)) (hundredths_startable 99999999999))
-    (fixed_startable (codes "max") (keyword_bytes Max))))
+    (conditional_startable signed max_not_negated (fixed_startable (codes "max") (keyword_bytes Max))
+    (concat_startable (fixed_apart (45 ∷ []) (λ text n. IsDecimal 1 2147483648 n text)) (fixed_startable (45 ∷ []) (omega arith, tt)) (decimal_startable (omega arith))))))
 
 pub device_startable : Startable (λ text device. IsDevice device text)
 device_startable =

@@ -54,37 +54,37 @@ no_less n = omega arith
 -- ---- The pairs of a line
 
 abbrev pub PairText : List ℕ → StatPair → Type 0
-PairText text p = IsPairText (λ q. q.key) (λ q. q.amount) (SpellsWord false) (λ t v. IsAmount v t) 61 text p
+PairText text p = IsPairText (λ q. q.key) (λ q. q.amount) (SpellsWord false) (λ t v. IsAmount false v t) 61 text p
 
 -- One or more pairs with a space between.
 abbrev pub AreStatPairs : List ℕ → List StatPair → Type 0
 AreStatPairs text ps = AreJoinedPairs (λ q. q.key) PairText 32 text ps
 
 pair_is : (text : List ℕ) (p : StatPair) → PairText text p ↔ IsStatPair p text
-pair_is = key_parts (λ p. p.key) (λ p. p.amount) 61 IsAmount
+pair_is = key_parts (λ p. p.key) (λ p. p.amount) 61 (IsAmount false)
 
 key_lacks_mark : LacksByte (SpellsWord false) 61
 key_lacks_mark = word_only false 61 (λ h. h.2 refl)
 
-pub amount_lacks_space : LacksByte (λ t v. IsAmount v t) 32
-amount_lacks_space = (amount_lacking 32 (omega arith)).is
+pub amount_lacks_space : LacksByte (λ t v. IsAmount false v t) 32
+amount_lacks_space = (amount_lacking 32 false (omega arith)).is
 
 pairs_one : HasOneText AreStatPairs
-pairs_one = joined_one (λ p. p.key) (λ p. p.amount) (SpellsWord false) (λ t v. IsAmount v t) 61 32 (λ key amount. record { key = key; amount = amount }) (λ p. refl)
-    key_lacks_mark (lacks_stops (λ t v. IsAmount v t) 32 amount_lacks_space) (one_word false) amount_startable.one
+pairs_one = joined_one (λ p. p.key) (λ p. p.amount) (SpellsWord false) (λ t v. IsAmount false v t) 61 32 (λ key amount. record { key = key; amount = amount }) (λ p. refl)
+    key_lacks_mark (lacks_stops (λ t v. IsAmount false v t) 32 amount_lacks_space) (one_word false) (amount_startable false).one
 
 pairs_bytes : (text : List ℕ) (ps : List StatPair) → AreStatPairs text ps → AreBytes text
-pairs_bytes = joined_bytes (λ p. p.key) (λ p. p.amount) (SpellsWord false) (λ t v. IsAmount v t) 61 32 (omega arith) (omega arith) (word_text_bytes false) amount_startable.bytes
+pairs_bytes = joined_bytes (λ p. p.key) (λ p. p.amount) (SpellsWord false) (λ t v. IsAmount false v t) 61 32 (omega arith) (omega arith) (word_text_bytes false) (amount_startable false).bytes
 
 pair_filled : Filled PairText
-pair_filled = record { is = pair_nil (λ p. p.key) (λ p. p.amount) 61 (SpellsWord false) (λ t v. IsAmount v t) }
+pair_filled = record { is = pair_nil (λ p. p.key) (λ p. p.amount) 61 (SpellsWord false) (λ t v. IsAmount false v t) }
 
 no_mark : ◌≡◌ {A = ℕ} 32 61 → ⊥
 no_mark e = omega (arith, e)
 
 pair_begins : BeginsBy (λ c. c ≢ 32) PairText
 pair_begins = record {
-  is = λ byte back p h e. (let k = word_begun (λ q. q.key) (λ q. q.amount) 61 (SpellsWord false) (λ t v. IsAmount v t) 32 no_mark back p (rw e at h) in
+  is = λ byte back p h e. (let k = word_begun (λ q. q.key) (λ q. q.amount) 61 (SpellsWord false) (λ t v. IsAmount false v t) 32 no_mark back p (rw e at h) in
       (word_lacking 32 false (omega arith)).is [] k.0 k.1 k.2);
 }
 

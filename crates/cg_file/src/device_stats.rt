@@ -21,20 +21,21 @@ use std::alloc::Global;
 pub struct AmountStart;
 
 impl Start<AmountText> for AmountStart {
+    ghost use Rattle.std.specs.Prelude.{false};
     ghost use Rattle.cg_text.specs.Amount.{IsAmount};
     ghost use Rattle.cg_file.specs.StartableLaws.{amount_startable};
 
-    ghost texts = { λ _ text amount. IsAmount amount text };
+    ghost texts = { λ _ text amount. IsAmount false amount text };
 
     fn start(&self) -> AmountText {
-        AmountText::new()
+        AmountText::new(false)
     }
 
-    ghost some_text = { λ _. amount_startable.some };
+    ghost some_text = { λ _. (amount_startable false).some };
 
-    ghost one_text = { λ _. amount_startable.one };
+    ghost one_text = { λ _. (amount_startable false).one };
 
-    ghost text_bytes = { λ _. amount_startable.bytes };
+    ghost text_bytes = { λ _. (amount_startable false).bytes };
 }
 
 /// Makes a pair of a sub-key and its amount.

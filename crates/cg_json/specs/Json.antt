@@ -1,5 +1,5 @@
 -- The JSON trees of what files hold (RFC 8259). An object has its keys in the order of their bytes.
-use Rattle.std.specs.Prelude.{ℕ, ℤ, Bool, List, [], ◌∷◌, Option, Some, None, map, codes, if◌then◌else◌}
+use Rattle.std.specs.Prelude.{ℕ, zero, suc, min, ℤ, pos, negsuc, Bool, List, [], ◌∷◌, Option, Some, None, map, codes, if◌then◌else◌}
 use Rattle.std.specs.List.{fold}
 use Rattle.std.specs.Str.{is_utf8}
 use Rattle.serde_json.specs.Data.{Data, null, boolean, number, unsigned, string, array, object, no_members, put}
@@ -63,10 +63,16 @@ abbrev pub clamp_data : Clamp → Data
 clamp_data clamp.Max = string (codes "max")
 clamp_data (clamp.At h) = hundredths_data h
 
+-- So much below 0, as far as 64 bits tell it.
+abbrev pub below_zero : ℕ → ℤ
+below_zero zero = pos 0
+below_zero (suc n) = negsuc (min n 9223372036854775807)
+
 abbrev pub amount_data : Amount → Data
 amount_data (amount.Whole n) = number_data n
 amount_data (amount.Decimal h) = fields ((codes "hundredths", hundredths_data h) ∷ [])
 amount_data amount.Max = string (codes "max")
+amount_data (amount.Below n) = signed_data (below_zero n)
 
 -- Major and minor, as 8:0.
 abbrev pub device_data : Device → Data

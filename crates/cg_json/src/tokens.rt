@@ -1,7 +1,7 @@
 //! Numbers, words and devices.
 ghost use Rattle.serde_json.specs.Data.{string};
 ghost use Rattle.cg_value.specs.ReadLine.{mode_text, role_text};
-ghost use Rattle.cg_json.specs.Json.{number_data, signed_data, limit_data, hundredths_data, clamp_data, amount_data, device_data, given_data};
+ghost use Rattle.cg_json.specs.Json.{number_data, signed_data, limit_data, hundredths_data, clamp_data, below_zero, amount_data, device_data, given_data};
 
 use crate::compact::{append_byte, append_bytes, append_labelled};
 use crate::json::Json;
@@ -115,6 +115,16 @@ impl Json for Clamp {
     }
 }
 
+/// The number that is so much below 0, or the lowest where it is lower still.
+fn below_zero(number: u64) -> i64
+    ensures { result ≡ below_zero number }
+{
+    match i64::try_from(number) {
+        Ok(number) => -number,
+        Err(_) => i64::MIN,
+    }
+}
+
 /// An amount: a number, an object with its hundredths, or `"max"`.
 impl Json for Amount {
     ghost tree_of = { amount_data };
@@ -128,6 +138,7 @@ impl Json for Amount {
                 Ok(Value::Object(map))
             }
             Amount::Max => string(alloc, "max"),
+            Amount::Below(number) => below_zero(*number).json(alloc),
         }
     }
 
@@ -139,6 +150,7 @@ impl Json for Amount {
                 append_byte(out, b'}')
             }
             Amount::Max => append_string(out, "max"),
+            Amount::Below(number) => below_zero(*number).append_to(out),
         }
     }
 }

@@ -79,6 +79,10 @@ impl Canonical for Amount {
             Amount::Whole(number) => number.append_to(out),
             Amount::Decimal(hundredths) => hundredths.append_to(out),
             Amount::Max => append_bytes(out, b"max"),
+            Amount::Below(number) => {
+                append_bytes(out, b"-")?;
+                number.append_to(out)
+            }
         }
     }
 }

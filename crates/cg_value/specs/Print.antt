@@ -45,6 +45,7 @@ abbrev pub print_amount : Amount → List ℕ
 print_amount (amount.Whole n) = decimal n
 print_amount (amount.Decimal h) = print_hundredths h
 print_amount amount.Max = codes "max"
+print_amount (amount.Below n) = 45 ∷ decimal n
 
 abbrev pub print_device : Device → List ℕ
 print_device d = decimal d.major ++ 58 ∷ decimal d.minor

@@ -58,10 +58,11 @@ pub clamp_text_is : (c : Clamp) (text : List ℕ) → IsClamp Read c text → te
 clamp_text_is clamp.Max text h = h
 clamp_text_is (clamp.At v) text h = hundredths_text_is 10000 v text (omega arith) h
 
-pub amount_text_is : (a : Amount) (text : List ℕ) → IsAmount a text → text ≡ print_amount a
-amount_text_is amount.Max text h = h
-amount_text_is (amount.Whole n) text h = decimal_text_is 0 any_u64 n text (omega arith) h
-amount_text_is (amount.Decimal v) text h = hundredths_text_is 99999999999 v text (omega arith) h
+pub amount_text_is : (signed : Bool) (a : Amount) (text : List ℕ) → IsAmount signed a text → text ≡ print_amount a
+amount_text_is signed amount.Max text h = h
+amount_text_is signed (amount.Whole n) text h = decimal_text_is 0 any_u64 n text (omega arith) h
+amount_text_is signed (amount.Decimal v) text h = hundredths_text_is 99999999999 v text (omega arith) h
+amount_text_is signed (amount.Below n) text h = h.1.text_is ∙ ap (λ t. 45 ∷ t) (decimal_text_is 1 2147483648 n h.1.digits (omega arith) h.1.digits_are)
 
 pub device_text_is : (d : Device) (text : List ℕ) → IsDevice d text → text ≡ print_device d
 device_text_is d text h =
@@ -120,7 +121,7 @@ pub flat_line_is : (p : FlatPair) (line : List ℕ) → IsFlatLine p line → li
 flat_line_is p line h = parts_are IsKey 32 (IsDecimal 0 any_u64) p.key p.number line p.key (decimal p.number) (λ t k. k.0) (any_decimal p.number) h
 
 pub stat_pair_is : (p : StatPair) (text : List ℕ) → IsStatPair p text → text ≡ print_stat_pair p
-stat_pair_is p text h = parts_are IsKey 61 IsAmount p.key p.amount text p.key (print_amount p.amount) (λ t k. k.0) (amount_text_is p.amount) h
+stat_pair_is p text h = parts_are IsKey 61 (IsAmount false) p.key p.amount text p.key (print_amount p.amount) (λ t k. k.0) (amount_text_is false p.amount) h
 
 pub stat_line_is : (s : StatLine) (line : List ℕ) → IsStatLine s line → line ≡ print_stat_line s
 stat_line_is s line h =

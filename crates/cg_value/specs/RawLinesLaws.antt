@@ -5,7 +5,7 @@ use Rattle.std.proofs.lemmas.List.Elements.{recursion_from_All}
 use Rattle.std.specs.List.{AllZip, AllByRecursion, list_all}
 use Rattle.cg_text.specs.AboveSpace.{AreAboveSpace}
 use Rattle.cg_text.specs.AboveSpaceLaws.{numeral_above}
-use Rattle.cg_text.specs.Amount.{IsAmount}
+use Rattle.cg_text.specs.Amount.{IsAmount, IsBelow}
 use Rattle.cg_text.specs.Clamp.{IsClamp}
 use Rattle.cg_text.specs.Decimal.{IsNumeral, IsDecimal}
 use Rattle.cg_text.specs.Device.{IsDevice}
@@ -97,10 +97,14 @@ pub clamp_raw : (c : Clamp) (text : List ℕ) → IsClamp Read c text → IsRawL
 clamp_raw clamp.Max text h = max_raw text h
 clamp_raw (clamp.At v) text h = hundredths_raw 10000 v text h
 
-pub amount_raw : (a : Amount) (text : List ℕ) → IsAmount a text → IsRawLine text
-amount_raw amount.Max text h = max_raw text h
-amount_raw (amount.Whole n) text h = decimal_raw 0 any_u64 n text h
-amount_raw (amount.Decimal v) text h = hundredths_raw 99999999999 v text h
+below_raw : (n : ℕ) (text : List ℕ) → IsBelow n text → IsRawLine text
+below_raw n text h = along (45 ∷ h.digits) text h.text_is (omega arith, omega arith, (λ e. omega (arith, e)), decimal_raw 1 2147483648 n h.digits h.digits_are)
+
+pub amount_raw : (signed : Bool) (a : Amount) (text : List ℕ) → IsAmount signed a text → IsRawLine text
+amount_raw signed amount.Max text h = max_raw text h
+amount_raw signed (amount.Whole n) text h = decimal_raw 0 any_u64 n text h
+amount_raw signed (amount.Decimal v) text h = hundredths_raw 99999999999 v text h
+amount_raw signed (amount.Below n) text h = below_raw n text h.1
 
 pub device_raw : (d : Device) (text : List ℕ) → IsDevice d text → IsRawLine text
 device_raw d text h =
@@ -159,7 +163,7 @@ flat_raw : (p : FlatPair) (line : List ℕ) → IsFlatLine p line → IsRawLine 
 flat_raw p line h = parts_raw IsKey (codes " ") (IsDecimal 0 any_u64) p.key p.number line (key_raw p.key) (printable (codes " ") refl) (any_decimal p.number) h
 
 stat_pair_raw : (p : StatPair) (text : List ℕ) → IsStatPair p text → IsRawLine text
-stat_pair_raw p text h = parts_raw IsKey (codes "=") IsAmount p.key p.amount text (key_raw p.key) (printable (codes "=") refl) (amount_raw p.amount) h
+stat_pair_raw p text h = parts_raw IsKey (codes "=") (IsAmount false) p.key p.amount text (key_raw p.key) (printable (codes "=") refl) (amount_raw false p.amount) h
 
 pad_raw : (pad : Bool) → IsRawLine (pad_text pad)
 pad_raw true = printable (codes " ") refl

@@ -67,7 +67,7 @@ pub record AreFlatLines (pairs : List FlatPair) (lines : List (List ℕ)) : Type
 
 -- device_stats: io.stat. A device, at most one space of its own, and pairs, no sub-key twice in a line.
 abbrev pub IsStatPair : StatPair → List ℕ → Type 0
-IsStatPair p text = HasParts IsKey (codes "=") IsAmount p.key p.amount text
+IsStatPair p text = HasParts IsKey (codes "=") (IsAmount false) p.key p.amount text
 
 abbrev pub pad_text : Bool → List ℕ
 pad_text true = codes " "

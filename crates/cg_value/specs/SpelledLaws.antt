@@ -108,7 +108,7 @@ pub max_clamp : (c : Clamp) → c ≡ clamp.Max → HasText (IsClamp Read c)
 max_clamp clamp.Max e = record { text = codes "max"; spelled = refl }
 max_clamp (clamp.At h) e = absurd (cc)
 
-pub max_amount : (a : Amount) → a ≡ amount.Max → HasText (IsAmount a)
+pub max_amount : (a : Amount) → a ≡ amount.Max → HasText (IsAmount false a)
 max_amount a e = rw e (record { text = codes "max"; spelled = refl })
 
 pub parts_text : {V W : Type 0} (P : V → List ℕ → Type 0) (mark : List ℕ) (Q : W → List ℕ → Type 0) (v : V) (w : W) → (HasText (P v) × HasText (Q w)) ↔ HasText (HasParts P mark Q v w)
@@ -174,8 +174,8 @@ device_text d = (
 pub flat_text : (p : FlatPair) → (HasText (IsKey p.key) × HasText (IsDecimal 0 any_u64 p.number)) ↔ HasText (IsFlatLine p)
 flat_text p = parts_text IsKey (codes " ") (IsDecimal 0 any_u64) p.key p.number
 
-pub stat_pair_text : (p : StatPair) → (HasText (IsKey p.key) × HasText (IsAmount p.amount)) ↔ HasText (IsStatPair p)
-stat_pair_text p = parts_text IsKey (codes "=") IsAmount p.key p.amount
+pub stat_pair_text : (p : StatPair) → (HasText (IsKey p.key) × HasText (IsAmount false p.amount)) ↔ HasText (IsStatPair p)
+stat_pair_text p = parts_text IsKey (codes "=") (IsAmount false) p.key p.amount
 
 pub stat_text : (s : StatLine) → (HasText (IsDevice s.device) × (HasLines (AllZip IsStatPair s.pairs) × AreDistinct (map (λ p. p.key) s.pairs))) ↔ HasText (IsStatLine s)
 stat_text s = (

@@ -121,7 +121,7 @@ impl Spelled for Clamp {
 }
 
 impl Spelled for Amount {
-    ghost spells = { IsAmount };
+    ghost spells = { IsAmount false };
 
     #[tactic(auto, using(crate::specs::SpelledLaws::max_amount))]
     fn is_spelled(&self) -> bool {
@@ -129,6 +129,7 @@ impl Spelled for Amount {
             Amount::Whole(number) => number.is_spelled(),
             Amount::Decimal(number) => is_at_most(99_999_999_999, *number),
             Amount::Max => true,
+            Amount::Below(_) => false,
         }
     }
 }
