@@ -1,5 +1,5 @@
 -- What holds of what is left of a name value.
-use Rattle.std.proofs.Common.{◌≡◌, ℕ, zero, suc, ◌≤◌, ◌<◌, ◌↔◌, Bool, true, false, Ok, Err, List, [], ◌∷◌, ◌++◌, length, take, IsTrue, nat_lt, refl, sym, ◌∙◌, append_assoc, arith, lt-ltb}
+use Rattle.std.proofs.Common.{◌≡◌, ℕ, zero, suc, ◌↔◌, Bool, true, false, Ok, Err, List, [], ◌∷◌, ◌++◌, length, take, IsTrue, nat_lt, refl, sym, ◌∙◌, append_assoc, arith}
 use Rattle.std.proofs.Props.{props}
 use Rattle.std.proofs.lemmas.List.{append_cancel_right}
 use Rattle.std.specs.Coded.{Unit-prop}
