@@ -11,9 +11,9 @@ use Rattle.cg_text.specs.declared.values.Device.{Device}
 use Rattle.cg_text.specs.declared.values.Limit.{Limit}
 use Rattle.cg_join.specs.ApartLaws.{label_apart, fixed_apart}
 use Rattle.cg_join.specs.CutLaws.{parts_is}
-use Rattle.cg_join.specs.LackingLaws.{device_lacking, decimal_lacking, fixed_lacking, limit_lacking, concat_lacking, turned_lacking, keyword_lacking}
+use Rattle.cg_join.specs.LackingLaws.{device_lacking, decimal_lacking, fixed_lacking, limit_lacking, concat_lacking, mapped_text_lacking, keyword_lacking}
 use Rattle.cg_join.specs.Line.{LacksByte}
-use Rattle.cg_join.specs.Spelling.{IsConcat, IsTurned, Apart}
+use Rattle.cg_join.specs.Spelling.{IsConcat, IsMappedText, Apart}
 use Rattle.cg_join.specs.TextBytes.{IsFixed, Lacking}
 use Rattle.cg_value.specs.Kind.{any_u64}
 use Rattle.cg_value.specs.Lines.{HasParts}
@@ -24,7 +24,7 @@ use Rattle.cg_value.specs.declared.value.WeightLine.{WeightLine}
 use Rattle.cg_value.specs.declared.value.Value.{Value}
 use Rattle.cg_value.specs.declared.value.Value.TheVariants.{DeviceLimits, DeviceTargets}
 use Rattle.cg_file.specs.FourLaws.{AreTwo, AreThree, AreFour, IsLabelled, first_apart, second_apart, third_apart, four_to, four_from, four_startable, before_apart}
-use Rattle.cg_file.specs.StartableLaws.{Startable, startable_as, turned_startable, concat_startable, fixed_startable, decimal_startable, limit_startable, device_startable}
+use Rattle.cg_file.specs.StartableLaws.{Startable, startable_as, mapped_text_startable, concat_startable, fixed_startable, decimal_startable, limit_startable, device_startable}
 
 -- The texts of devices, and of numbers.
 abbrev pub DeviceText : List ℕ → Device → Type 0
@@ -34,10 +34,10 @@ abbrev pub NumberText : ℕ → ℕ → List ℕ → ℕ → Type 0
 NumberText lo hi text n = IsDecimal lo hi n text
 
 -- Two texts with a mark between, turned into a value whose parts are theirs.
-pub parts_turned : {V W X : Type 0} (P : V → List ℕ → Type 0) (mark : List ℕ) (Q : W → List ℕ → Type 0) (make : V × (Unit {0} × W) → X) (first : X → V) (second : X → W) →
+pub parts_mapped : {V W X : Type 0} (P : V → List ℕ → Type 0) (mark : List ℕ) (Q : W → List ℕ → Type 0) (make : V × (Unit {0} × W) → X) (first : X → V) (second : X → W) →
     ((v : V) (w : W) → first (make (v, (tt, w))) ≡ v) → ((v : V) (w : W) → second (make (v, (tt, w))) ≡ w) → ((x : X) → make (first x, (tt, second x)) ≡ x) →
-    (text : List ℕ) (x : X) → IsTurned (IsConcat (λ t v. P v t) (IsConcat (IsFixed mark) (λ t w. Q w t))) make text x ↔ HasParts P mark Q (first x) (second x) text
-parts_turned P mark Q make first second e f g text x = (
+    (text : List ℕ) (x : X) → IsMappedText (IsConcat (λ t v. P v t) (IsConcat (IsFixed mark) (λ t w. Q w t))) make text x ↔ HasParts P mark Q (first x) (second x) text
+parts_mapped P mark Q make first second e f g text x = (
   λ h. (let k = (parts_is mark (λ t w. Q w t) (λ t v. P v t) text h.0).0 h.1 in
       rw (← h.2) record { front = k.0; back = k.1; text_is = k.2; front_is = rw (e (h.0.0) (h.0.1.1)) k.3; back_is = rw (f (h.0.0) (h.0.1.1)) k.4 }),
   λ h. ((first x, (tt, second x)), (parts_is mark (λ t w. Q w t) (λ t v. P v t) text (first x, (tt, second x))).1 (h.front, h.back, h.text_is, h.front_is, h.back_is), g x),
@@ -58,18 +58,18 @@ TargetParts = IsConcat DeviceText (IsConcat (IsFixed (text_of Target)) (NumberTe
 abbrev pub targets_value : List TargetLine → Value
 targets_value lines = DeviceTargets lines
 
-pub target_is : (text : List ℕ) (line : TargetLine) → IsTurned TargetParts target_line text line ↔ IsTargetLine line text
-target_is = parts_turned IsDevice (codes " target=") (IsDecimal 0 any_u64) target_line (λ x. x.device) (λ x. x.target) (λ v w. refl) (λ v w. refl) (λ x. refl)
+pub target_is : (text : List ℕ) (line : TargetLine) → IsMappedText TargetParts target_line text line ↔ IsTargetLine line text
+target_is = parts_mapped IsDevice (codes " target=") (IsDecimal 0 any_u64) target_line (λ x. x.device) (λ x. x.target) (λ v w. refl) (λ v w. refl) (λ x. refl)
 
 pub target_apart : Apart DeviceText (IsConcat (IsFixed (text_of Target)) (NumberText 0 any_u64))
 target_apart = label_apart (device_lacking 32 (omega arith))
 
 pub target_startable : Startable (λ text line. IsTargetLine line text)
-target_startable = startable_as target_is (turned_startable target_line (concat_startable target_apart device_startable
+target_startable = startable_as target_is (mapped_text_startable target_line (concat_startable target_apart device_startable
     (concat_startable (fixed_apart (text_of Target) (NumberText 0 any_u64)) (fixed_startable (text_of Target) (keyword_bytes Target)) (decimal_startable (omega arith)))))
 
 pub target_lacks : LacksByte (λ text line. IsTargetLine line text) 10
-target_lacks = (lacking_as target_is (turned_lacking (concat_lacking (device_lacking 10 (omega arith)) (concat_lacking (keyword_lacking Target) (decimal_lacking 10 0 any_u64 (omega arith)))))).is
+target_lacks = (lacking_as target_is (mapped_text_lacking (concat_lacking (device_lacking 10 (omega arith)) (concat_lacking (keyword_lacking Target) (decimal_lacking 10 0 any_u64 (omega arith)))))).is
 
 -- ---- Limits
 
@@ -133,7 +133,7 @@ limits_from text l h =
       };
     }
 
-pub limits_is : (text : List ℕ) (line : LimitLine) → IsTurned (IsConcat DeviceText LimitTexts) limit_line text line ↔ IsLimitLine line text
+pub limits_is : (text : List ℕ) (line : LimitLine) → IsMappedText (IsConcat DeviceText LimitTexts) limit_line text line ↔ IsLimitLine line text
 limits_is text line = (
   λ h. rw (← h.2) (limits_to text h.0 h.1),
   λ h. ((line.device, ((tt, line.rbps), ((tt, line.wbps), ((tt, line.riops), (tt, line.wiops))))), limits_from text line h, refl),
@@ -158,7 +158,7 @@ any_startable : Startable AnyLimit
 any_startable = limit_startable 0 any_u64 (omega arith)
 
 pub limits_startable : Startable (λ text line. IsLimitLine line text)
-limits_startable = startable_as limits_is (turned_startable limit_line (concat_startable device_before_limits device_startable
+limits_startable = startable_as limits_is (mapped_text_startable limit_line (concat_startable device_before_limits device_startable
     (four_startable AnyLimit AnyLimit AnyLimit AnyLimit (codes "rbps=") (codes "wbps=") (codes "riops=") (codes "wiops=") (keyword_bytes Rbps).1 (keyword_bytes Wbps).1 (keyword_bytes Riops).1 (keyword_bytes Wiops).1
     spaceless spaceless spaceless any_startable any_startable any_startable any_startable)))
 
@@ -166,7 +166,7 @@ labelled_limit : (label : Keyword) → Lacking (IsLabelled (text_of label) AnyLi
 labelled_limit label = concat_lacking (keyword_lacking label) (limit_lacking 10 0 any_u64 (omega arith))
 
 pub limits_lack : LacksByte (λ text line. IsLimitLine line text) 10
-limits_lack = (lacking_as limits_is (turned_lacking (concat_lacking (device_lacking 10 (omega arith))
+limits_lack = (lacking_as limits_is (mapped_text_lacking (concat_lacking (device_lacking 10 (omega arith))
     (concat_lacking (labelled_limit Rbps) (concat_lacking (labelled_limit Wbps) (concat_lacking (labelled_limit Riops) (labelled_limit Wiops))))))).is
 
 -- ---- Weights
@@ -177,15 +177,15 @@ weight_line v = record { device = v.0; weight = v.1.1 }
 abbrev pub WeightParts : ℕ → List ℕ → Device × (Unit {0} × ℕ) → Type 0
 WeightParts most = IsConcat DeviceText (IsConcat (IsFixed (32 ∷ [])) (NumberText 1 most))
 
-pub weight_is : (most : ℕ) (text : List ℕ) (line : WeightLine) → IsTurned (WeightParts most) weight_line text line ↔ IsWeightLine most line text
-weight_is most = parts_turned IsDevice (codes " ") (IsDecimal 1 most) weight_line (λ x. x.device) (λ x. x.weight) (λ v w. refl) (λ v w. refl) (λ x. refl)
+pub weight_is : (most : ℕ) (text : List ℕ) (line : WeightLine) → IsMappedText (WeightParts most) weight_line text line ↔ IsWeightLine most line text
+weight_is most = parts_mapped IsDevice (codes " ") (IsDecimal 1 most) weight_line (λ x. x.device) (λ x. x.weight) (λ v w. refl) (λ v w. refl) (λ x. refl)
 
 pub weight_apart : (most : ℕ) → Apart DeviceText (IsConcat (IsFixed (32 ∷ [])) (NumberText 1 most))
 weight_apart most = label_apart (device_lacking 32 (omega arith))
 
 pub weight_startable : (most : ℕ) → 1 ≤ most → Startable (λ text line. IsWeightLine most line text)
-weight_startable most b = startable_as (weight_is most) (turned_startable weight_line (concat_startable (weight_apart most) device_startable
+weight_startable most b = startable_as (weight_is most) (mapped_text_startable weight_line (concat_startable (weight_apart most) device_startable
     (concat_startable (fixed_apart (32 ∷ []) (NumberText 1 most)) (fixed_startable (32 ∷ []) (omega arith, tt)) (decimal_startable b))))
 
 pub weight_lacks : (most : ℕ) → LacksByte (λ text line. IsWeightLine most line text) 10
-weight_lacks most = (lacking_as (weight_is most) (turned_lacking (concat_lacking (device_lacking 10 (omega arith)) (concat_lacking (fixed_lacking 10 (32 ∷ []) refl) (decimal_lacking 10 1 most (omega arith)))))).is
+weight_lacks most = (lacking_as (weight_is most) (mapped_text_lacking (concat_lacking (device_lacking 10 (omega arith)) (concat_lacking (fixed_lacking 10 (32 ∷ []) refl) (decimal_lacking 10 1 most (omega arith)))))).is

@@ -1,7 +1,7 @@
 -- What holds of the tokens over whole files.
 use Rattle.std.proofs.Common.{ℕ, ◌↔◌, List, [], ◌∷◌, refl, sym, ◌∙◌, ap}
 use Rattle.cg_join.specs.Line.{IsLine}
-use Rattle.cg_join.specs.Spelling.{IsTurned}
+use Rattle.cg_join.specs.Spelling.{IsMappedText}
 use Rattle.cg_value.specs.Files.{ReadLines, KindText}
 use Rattle.cg_value.specs.Lines.{unlines, IsOneLine}
 use Rattle.cg_value.specs.declared.kind.ReadForm.{ReadForm}
@@ -10,7 +10,7 @@ use Rattle.cg_value.specs.declared.value.Value.{Value}
 -- A line by P and its newline, turned into a value, are a file of a kind whose value is one such line.
 pub one_is : {X : Type 0} (kind : ReadForm) (P : X → List ℕ → Type 0) (make : X → Value) →
     ((v : Value) (lines : List (List ℕ)) → ReadLines kind v lines ↔ IsOneLine P make v lines) →
-    (text : List ℕ) (v : Value) → IsTurned (IsLine (λ t x. P x t)) (λ x. make x.0) text v ↔ KindText kind v text
+    (text : List ℕ) (v : Value) → IsMappedText (IsLine (λ t x. P x t)) (λ x. make x.0) text v ↔ KindText kind v text
 one_is kind P make reads text v = (
   λ h. record {
     lines = h.1.front ∷ [];

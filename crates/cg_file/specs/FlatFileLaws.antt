@@ -9,7 +9,7 @@ use Rattle.cg_text.specs.WordState.{is_taken}
 use Rattle.cg_join.specs.Distinct.{LacksValue, any_value}
 use Rattle.cg_join.specs.Keyed.{AreKeyedLines}
 use Rattle.cg_join.specs.Pairs.{IsPairText}
-use Rattle.cg_join.specs.Spelling.{IsTurned}
+use Rattle.cg_join.specs.Spelling.{IsMappedText}
 use Rattle.cg_join.specs.TakenLaws.{taken_some as among_some}
 use Rattle.cg_join.specs.WordStartLaws.{SpellsWord}
 use Rattle.cg_value.specs.Files.{KindText}
@@ -66,7 +66,7 @@ LineText text p = IsPairText (λ q. q.key) (λ q. q.number) (SpellsWord false) (
 pub flat_line_is : (text : List ℕ) (p : FlatPair) → LineText text p ↔ IsFlatLine p text
 flat_line_is = key_parts (λ p. p.key) (λ p. p.number) 32 (IsDecimal 0 any_u64)
 
-pub flat_file_is : (text : List ℕ) (v : Value) → IsTurned (AreKeyedLines (λ p. p.key) (λ t p. IsFlatLine p t) 10) flat_value text v ↔ KindText FlatForm v text
+pub flat_file_is : (text : List ℕ) (v : Value) → IsMappedText (AreKeyedLines (λ p. p.key) (λ t p. IsFlatLine p t) 10) flat_value text v ↔ KindText FlatForm v text
 flat_file_is = keyed_is FlatForm IsFlatLine (λ p. p.key) flat_value AreFlatLines
     (λ xs lines. (λ h. (h.each, h.distinct), λ h. record { each = h.0; distinct = h.1 })) (λ v lines. (λ h. h, λ h. h))
 

@@ -14,7 +14,7 @@ use Rattle.cg_join.specs.Lawful.{KeywordRest}
 use Rattle.cg_join.specs.Maybe.{maybe_size}
 use Rattle.cg_join.specs.Pairs.{pair_size}
 use Rattle.cg_join.specs.Repeat.{items_size}
-use Rattle.cg_join.specs.SettledLaws.{joined_bound, keyed_settled, lines_settled, list_settled, maybe_settled, or_ready_settled, ranges_settled, reason_settled, same_settled, sequence_settled, turned_settled, word_settled, zero_least}
+use Rattle.cg_join.specs.SettledLaws.{joined_bound, keyed_settled, lines_settled, list_settled, maybe_settled, or_ready_settled, ranges_settled, reason_settled, same_settled, sequence_settled, mapped_text_settled, word_settled, zero_least}
 use Rattle.cg_join.specs.WordStartLaws.{SpellsWord}
 use Rattle.cg_value.specs.Flat.{flat_size}
 use Rattle.cg_value.specs.Print.{print_default_line, print_weight_line}
@@ -28,14 +28,14 @@ use Rattle.cg_file.specs.FlatFileLaws.{flat_value}
 use Rattle.cg_file.specs.Kinds.{held_of_whole}
 use Rattle.cg_file.specs.ManyFileLaws.{numbers_value}
 use Rattle.cg_file.specs.NestedFileLaws.{nested_value}
-use Rattle.cg_file.specs.OneLineTurned.{set_value}
+use Rattle.cg_file.specs.OneLineMapped.{set_value}
 use Rattle.cg_file.specs.PartitionFileLaws.{partition_held}
-use Rattle.cg_file.specs.PartitionTurned.{InvalidValue, ReasonValue, RootValue, partition_value}
+use Rattle.cg_file.specs.PartitionMapped.{InvalidValue, ReasonValue, RootValue, partition_value}
 use Rattle.cg_file.specs.StatFileLaws.{stat_size, stats_value, stats_held}
 use Rattle.cg_file.specs.RawFileLaws.{raw_file_held}
 use Rattle.cg_file.specs.LineHeldLaws.{bare_lines_held, bare_lines_held_after, flat_held, line_held, nested_held, words_held}
 use Rattle.cg_file.specs.WeightFileLaws.{weights_value}
-use Rattle.cg_file.specs.WordsTurned.{words_value}
+use Rattle.cg_file.specs.WordsMapped.{words_value}
 use Rattle.cg_file.specs.contracts.device_stats.StatLineTextToken.TheImpl as stat_line
 use Rattle.cg_file.specs.contracts.partition.InvalidTextToken.TheImpl as invalid
 use Rattle.cg_file.specs.contracts.partition.RootTextToken.TheImpl as root
@@ -82,9 +82,9 @@ use Rattle.cg_file.specs.declared.raw.RawFile.{RawFile}
 use Rattle.cg_file.specs.declared.set.SetFile.{SetFile}
 use Rattle.cg_file.specs.declared.signed.SignedFile.{SignedFile}
 use Rattle.cg_file.specs.declared.words.WordsFile.{WordsFile}
-use Rattle.cg_file.specs.FileText.{file_rests, file_size}
-use Rattle.cg_file.specs.declared.file_text.FileText.{FileText}
-use Rattle.cg_file.specs.declared.file_text.FileText.TheVariants as text
+use Rattle.cg_file.specs.AnyFile.{file_rests, file_size}
+use Rattle.cg_file.specs.declared.any_file.AnyFile.{AnyFile}
+use Rattle.cg_file.specs.declared.any_file.AnyFile.TheVariants as text
 
 number_settled : (s : NumberFile) (v : Value) → number.ghosts.means s [] v → number.ghosts.size s ≤ held_of_whole v
 number_settled s v h = zero_least (held_of_whole v)
@@ -107,7 +107,7 @@ clamp_settled s v h = zero_least (held_of_whole v)
 numbers_settled : (s : NumbersFile) (v : Value) → numbers.ghosts.means s [] v → numbers.ghosts.size s ≤ held_of_whole v
 numbers_settled s v h =
     let l = s.text.token in
-    turned_settled numbers_value _ (items_size (λ _. 0)) held_of_whole h.0 v h.2 (lines_settled _ _ l.end l.items.items l.begun (λ _. 0) 0 l.fresh h.0 h.1) (bare_lines_held _ h.0)
+    mapped_text_settled numbers_value _ (items_size (λ _. 0)) held_of_whole h.0 v h.2 (lines_settled _ _ l.end l.items.items l.begun (λ _. 0) 0 l.fresh h.0 h.1) (bare_lines_held _ h.0)
 
 spaced_settled : (s : SpacedWords) (ws : List (List ℕ)) → spaced.ghosts.means s [] ws → spaced.ghosts.size s ≤ joined_bound length length ws
 spaced_settled s ws h =
@@ -123,7 +123,7 @@ words_settled s v h =
     let o = s.text.token in
     let q = o.token in
     let line : List ℕ → List (List ℕ) × Unit {0} → Type 0 = λ rest x. IsSequence spaced.ghosts.means byte.ghosts.means q.in_second q.first q.second rest x.0 x.1 in
-    turned_settled words_value _ (λ x. joined_bound length length x.0 + 0) held_of_whole h.0 v h.2
+    mapped_text_settled words_value _ (λ x. joined_bound length length x.0 + 0) held_of_whole h.0 v h.2
     (or_ready_settled o.begun line o.value (spaced.ghosts.size q.first + 0) (λ x. joined_bound length length x.0 + 0) o.fresh
     (λ x k. sequence_settled spaced.ghosts.means byte.ghosts.means q.in_second q.first q.second (spaced.ghosts.size q.first) 0 (joined_bound length length) (λ _. 0) (spaced_settled q.first) (λ u j. zero_least 0) x.0 x.1 k) h.0 h.1)
     (words_held h.0.0)
@@ -132,7 +132,7 @@ flat_settled : (s : FlatFile) (v : Value) → flat.ghosts.means s [] v → flat.
 flat_settled s v h =
     let k = s.text.token in
     let pairs = k.pairs.building.pairs in
-    turned_settled flat_value _ flat_size held_of_whole h.0 v h.2
+    mapped_text_settled flat_value _ flat_size held_of_whole h.0 v h.2
     (keyed_settled (λ (p : FlatPair). p.key) (λ ps. ps) pairs _ _ k.end k.stage k.ended.items length flat_size
     (flat_size pairs) (length k.key.bytes.items) 0 k.kept k.new_key k.new_value
     (same_settled (flat_size pairs) (flat_size pairs) refl) h.0 h.1)
@@ -141,31 +141,31 @@ flat_settled s v h =
 device_stats_settled : (s : DeviceStatsFile) (v : Value) → device_stats.ghosts.means s [] v → device_stats.ghosts.size s ≤ held_of_whole v
 device_stats_settled s v h =
     let l = s.text.token in
-    turned_settled stats_value _ (items_size stat_size) held_of_whole h.0 v h.2 (lines_settled _ _ l.end l.items.items l.begun stat_size (stat_line.ghosts.size l.current) l.fresh h.0 h.1) (stats_held h.0)
+    mapped_text_settled stats_value _ (items_size stat_size) held_of_whole h.0 v h.2 (lines_settled _ _ l.end l.items.items l.begun stat_size (stat_line.ghosts.size l.current) l.fresh h.0 h.1) (stats_held h.0)
 
 device_limits_settled : (s : DeviceLimitsFile) (v : Value) → device_limits.ghosts.means s [] v → device_limits.ghosts.size s ≤ held_of_whole v
 device_limits_settled s v h =
     let l = s.text.token in
-    turned_settled limits_value _ (items_size (λ _. 0)) held_of_whole h.0 v h.2 (lines_settled _ _ l.end l.items.items l.begun (λ _. 0) 0 l.fresh h.0 h.1) (bare_lines_held _ h.0)
+    mapped_text_settled limits_value _ (items_size (λ _. 0)) held_of_whole h.0 v h.2 (lines_settled _ _ l.end l.items.items l.begun (λ _. 0) 0 l.fresh h.0 h.1) (bare_lines_held _ h.0)
 
 device_weights_settled : (s : DeviceWeightsFile) (v : Value) → device_weights.ghosts.means s [] v → device_weights.ghosts.size s ≤ held_of_whole v
 device_weights_settled s v h =
     let q = s.text.token in
     let l = q.second in
-    turned_settled weights_value _ (λ x. 0 + items_size (λ _. 0) x.1) held_of_whole h.0 v h.2
+    mapped_text_settled weights_value _ (λ x. 0 + items_size (λ _. 0) x.1) held_of_whole h.0 v h.2
     (sequence_settled _ _ q.in_second q.first l 0 (items_size (λ _. 0) l.items.items + 0) (λ _. 0) (items_size (λ _. 0)) (λ x k. zero_least 0) (λ ws k. lines_settled _ _ l.end l.items.items l.begun (λ _. 0) 0 l.fresh ws k) h.0.0 h.0.1 h.1)
     (bare_lines_held_after print_weight_line (print_default_line h.0.0.0.1.1) h.0.1 0 refl)
 
 device_targets_settled : (s : DeviceTargetsFile) (v : Value) → device_targets.ghosts.means s [] v → device_targets.ghosts.size s ≤ held_of_whole v
 device_targets_settled s v h =
     let l = s.text.token in
-    turned_settled targets_value _ (items_size (λ _. 0)) held_of_whole h.0 v h.2 (lines_settled _ _ l.end l.items.items l.begun (λ _. 0) 0 l.fresh h.0 h.1) (bare_lines_held _ h.0)
+    mapped_text_settled targets_value _ (items_size (λ _. 0)) held_of_whole h.0 v h.2 (lines_settled _ _ l.end l.items.items l.begun (λ _. 0) 0 l.fresh h.0 h.1) (bare_lines_held _ h.0)
 
 set_settled : (s : SetFile) (v : Value) → set.ghosts.means s [] v → set.ghosts.size s ≤ held_of_whole v
 set_settled s v h =
     let q = s.text.token in
     let list = q.first.list.list in
-    turned_settled set_value _ (λ x. length x.0 + 0) held_of_whole h.0 v h.2
+    mapped_text_settled set_value _ (λ x. length x.0 + 0) held_of_whole h.0 v h.2
     (sequence_settled list_text.ghosts.means byte.ghosts.means q.in_second q.first q.second (length list.ranges.items) 0 length (λ _. 0)
     (λ all k. ranges_settled list.strict list.ranges.items list.most list.low (number_rest list.number) all k) (λ u k. zero_least 0) h.0.0 h.0.1 h.1)
     (line_held (length h.0.0) 0 refl)
@@ -190,7 +190,7 @@ partition_settled s v h =
     let q = s.text.token in
     let b = q.first in
     let bound : RootValue × Option InvalidValue → ℕ = λ w. 0 + maybe_size (λ (x : InvalidValue). maybe_size (λ (y : ReasonValue). length y.1 + 1) x.1) w.1 in
-    turned_settled partition_value _ (λ x. either_size (λ _. 0) bound x.0 + 0) held_of_whole h.0 v h.2
+    mapped_text_settled partition_value _ (λ x. either_size (λ _. 0) bound x.0 + 0) held_of_whole h.0 v h.2
     (sequence_settled _ byte.ghosts.means q.in_second b q.second (0 + root.ghosts.size b.second) 0 (either_size (λ _. 0) bound) (λ _. 0)
     (λ x k. branch_settled keyword.ghosts.means root.ghosts.means b.place b.first b.second 0 (root.ghosts.size b.second) bound refl b.fresh (root_settled b.second) x k) (λ u k. zero_least 0) h.0.0 h.0.1 h.1)
     (partition_held h.0)
@@ -203,7 +203,7 @@ nested_settled s v h =
     let k = s.text.token in
     let lines = k.pairs.pairs.items in
     let size : List NestedLine → ℕ = items_size (pair_size (λ (q : NestedLine). q.key) (λ q. q.pairs) length (items_size (pair_size (λ (p : NestedPair). p.key) (λ p. p.number) length (λ _. 0)))) in
-    turned_settled nested_value _ size held_of_whole h.0 v h.2
+    mapped_text_settled nested_value _ size held_of_whole h.0 v h.2
     (keyed_settled (λ (q : NestedLine). q.key) (λ ps. ps) lines _ _ k.end k.stage k.ended.items length size (size lines) (length k.key.bytes.items) _ k.kept k.new_key k.new_value (same_settled (size lines) (size lines) refl) h.0 h.1)
     (nested_held h.0)
 
@@ -211,7 +211,7 @@ raw_file_settled : (s : RawFile) (v : Value) → raw.ghosts.means s [] v → raw
 raw_file_settled s v h = rw h.value (raw_file_held s.text.items h.whole)
 
 -- Of a file of any kind.
-pub file_settled : (s : FileText) (v : Value) → file_rests s [] v → file_size s ≤ held_of_whole v
+pub file_settled : (s : AnyFile) (v : Value) → file_rests s [] v → file_size s ≤ held_of_whole v
 file_settled (text.Number t) = number_settled t
 file_settled (text.Signed t) = signed_settled t
 file_settled (text.Limit t) = limit_settled t

@@ -5,7 +5,7 @@ use Rattle.cg_text.specs.Raw.{IsRawLine}
 use Rattle.cg_text.specs.Token.{HasOneText}
 use Rattle.cg_join.specs.Line.{LacksByte}
 use Rattle.cg_join.specs.Lines.{AreLines}
-use Rattle.cg_join.specs.Spelling.{IsTurned}
+use Rattle.cg_join.specs.Spelling.{IsMappedText}
 use Rattle.cg_value.specs.Files.{ReadLines, KindText}
 use Rattle.cg_value.specs.Lines.{unlines, AreLinesOf}
 use Rattle.cg_value.specs.ReadLine.{IsRaw}
@@ -36,7 +36,7 @@ module _ {X : Type 0} (P : X → List ℕ → Type 0) where
 -- Lines by P, turned into a value, are a file of a kind whose value is made of such lines.
 pub all_is : {X : Type 0} (kind : ReadForm) (P : X → List ℕ → Type 0) (make : List X → Value) →
     ((v : Value) (lines : List (List ℕ)) → ReadLines kind v lines ↔ AreLinesOf P make v lines) →
-    (text : List ℕ) (v : Value) → IsTurned (AreLines (λ t x. P x t) 10) make text v ↔ KindText kind v text
+    (text : List ℕ) (v : Value) → IsMappedText (AreLines (λ t x. P x t) 10) make text v ↔ KindText kind v text
 all_is kind P make reads text v = (
   λ h. (let k = lines_to P text h.0 h.1 in
       record { lines = k.0; spelled = (reads v k.0).1 (record { xs = h.0; value = sym h.2; spelled = k.1 }); text_is = k.2 }),

@@ -4,7 +4,7 @@ use Rattle.cg_text.specs.Decimal.{IsDecimal}
 use Rattle.cg_join.specs.Keyed.{AreKeyedLines, IsKeyThen}
 use Rattle.cg_join.specs.Pairs.{ArePairs, IsPairText}
 use Rattle.cg_join.specs.Pairs as joined
-use Rattle.cg_join.specs.Spelling.{IsTurned}
+use Rattle.cg_join.specs.Spelling.{IsMappedText}
 use Rattle.cg_join.specs.WordStartLaws.{SpellsWord}
 use Rattle.cg_value.specs.Files.{KindText}
 use Rattle.cg_value.specs.Kind.{any_u64}
@@ -70,6 +70,6 @@ line_from text l h = record {
 pub nested_line_is : (text : List ℕ) (l : NestedLine) → LineText text l ↔ IsNestedLine l text
 nested_line_is text l = (line_to text l, line_from text l)
 
-pub nested_file_is : (text : List ℕ) (v : Value) → IsTurned (AreKeyedLines (λ l. l.key) (λ t l. IsNestedLine l t) 10) nested_value text v ↔ KindText NestedForm v text
+pub nested_file_is : (text : List ℕ) (v : Value) → IsMappedText (AreKeyedLines (λ l. l.key) (λ t l. IsNestedLine l t) 10) nested_value text v ↔ KindText NestedForm v text
 nested_file_is = keyed_is NestedForm IsNestedLine (λ l. l.key) nested_value AreNestedLines
     (λ xs lines. (λ h. (h.each, h.distinct), λ h. record { each = h.0; distinct = h.1 })) (λ v lines. (λ h. h, λ h. h))

@@ -18,7 +18,7 @@ use Rattle.cg_text.specs.Texts.{Lacks}
 use Rattle.cg_text.specs.Token.{HasOneText}
 use Rattle.cg_text.specs.Word.{IsControllerWord}
 use Rattle.cg_text.specs.declared.decimal.Progress.TheVariants.{Start}
-use Rattle.cg_text.specs.declared.hundredths.Form.TheVariants.{Read}
+use Rattle.cg_text.specs.declared.hundredths.Spelling.TheVariants.{Read}
 use Rattle.cg_text.specs.declared.keyword.Keyword.TheVariants as word
 use Rattle.cg_text.specs.declared.values.Clamp.TheVariants.{Max as MaxClamp, At as AtClamp}
 use Rattle.cg_text.specs.declared.values.Limit.{Limit}
@@ -38,7 +38,7 @@ use Rattle.cg_join.specs.RepeatLaws as repeat
 use Rattle.cg_join.specs.StartLaws.{lacks_stops, one_decimal}
 use Rattle.cg_join.specs.SequenceLaws.{both_same}
 use Rattle.cg_join.specs.Maybe.{IsMaybe}
-use Rattle.cg_join.specs.OneTextLaws.{concat_one, either_one, fixed_one, maybe_one, one_as, turned_one}
+use Rattle.cg_join.specs.OneTextLaws.{concat_one, either_one, fixed_one, maybe_one, one_as, mapped_text_one}
 use Rattle.cg_join.specs.Spelling.{Disjoint}
 use Rattle.cg_join.specs.TextBytes.{IsFixed}
 use Rattle.cg_join.specs.WordStartLaws.{SpellsWord, one_word, word_only}
@@ -70,10 +70,10 @@ use Rattle.cg_file.specs.Laws.{OneValue, OneValueOfName, ReadBack, ReadBackOfNam
 use Rattle.cg_file.specs.ManyFileLaws.{one_raw}
 use Rattle.cg_file.specs.NestedFileLaws.{PairText, nested_line_is}
 use Rattle.cg_file.specs.OneLineFileLaws.{cpu_max_is}
-use Rattle.cg_file.specs.OneLineTurned.{quota_of}
+use Rattle.cg_file.specs.OneLineMapped.{quota_of}
 use Rattle.cg_file.specs.OneOrBoth.{Differ}
 use Rattle.cg_file.specs.PartitionFileLaws.{member_differs, partition_is}
-use Rattle.cg_file.specs.PartitionTurned.{IsInvalidText, IsReasonText, IsRootText, IsRootWord, partition_parts}
+use Rattle.cg_file.specs.PartitionMapped.{IsInvalidText, IsReasonText, IsRootText, IsRootWord, partition_parts}
 use Rattle.cg_file.specs.PressureFileLaws.{AveragesValues, averages_from, line_averages, values_of}
 use Rattle.cg_file.specs.StartableLaws.{Startable, decimal_startable, device_startable, hundredths_startable, limit_startable}
 use Rattle.cg_file.specs.StatFileLaws.{stat_startable}
@@ -156,7 +156,7 @@ mode_one : HasOneText (λ line mode. IsMode mode line)
 mode_one line v w h k = sym (mode_back v) ∙ ap (λ t. mode_of_length (length t)) (sym h ∙ k) ∙ mode_back w
 
 cpu_max_one : HasOneText (λ line (x : Limit × ℕ). IsCpuMax x line)
-cpu_max_one = one_as cpu_max_is (turned_one quota_of
+cpu_max_one = one_as cpu_max_is (mapped_text_one quota_of
     (concat_proper (limit_proper 0 any_u64 (omega arith)) (label_proper space_proper (decimal_proper 0 any_u64 (omega arith))) (label_apart (limit_lacking 32 0 any_u64 (omega arith)))).one_text)
 
 clamp_one : HasOneText (λ line c. IsClamp Read c line)
@@ -215,7 +215,7 @@ default_one most m n line h k =
     one_decimal 1 most k.0 m n (rw same at h.2) k.2
 
 weight_one : (most : ℕ) → HasOneText (λ line w. IsWeightLine most w line)
-weight_one most = one_as (weight_is most) (turned_one weight_line (concat_one (weight_apart most) device_startable.one
+weight_one most = one_as (weight_is most) (mapped_text_one weight_line (concat_one (weight_apart most) device_startable.one
     (concat_one (fixed_apart (32 ∷ []) (NumberText 1 most)) (fixed_one (32 ∷ [])) (one_decimal 1 most))))
 
 weights_one : (most : ℕ) (v w : Value) (lines : List (List ℕ)) → AreWeightLines most v lines → AreWeightLines most w lines → v ≡ w
@@ -247,7 +247,7 @@ differ_disjoint P Q differ [] v w h k = differ.0 v h
 differ_disjoint P Q differ (b ∷ more) v w h k = differ.1 b more more v w h k
 
 partition_one : HasOneText (λ line (x : Role × Bool × Option (List ℕ)). IsPartition (x.0) (x.1) (x.2) line)
-partition_one = one_as partition_is (turned_one partition_parts (either_one (differ_disjoint (IsFixed (text_of word.Member)) IsRootText member_differs) (fixed_one (text_of word.Member)) root_one))
+partition_one = one_as partition_is (mapped_text_one partition_parts (either_one (differ_disjoint (IsFixed (text_of word.Member)) IsRootText member_differs) (fixed_one (text_of word.Member)) root_one))
 
 -- ---- The lines of pressure
 

@@ -10,7 +10,7 @@ use Rattle.cg_join.specs.CutLaws.{alone_is, followed_is, label_is, parts_is}
 use Rattle.cg_join.specs.FilledLaws.{either_filled, first_filled, fixed_filled}
 use Rattle.cg_join.specs.LackingLaws.{concat_lacking, either_lacking, keyword_lacking, maybe_lacking, reason_lacking}
 use Rattle.cg_join.specs.Maybe.{IsMaybe, maybe_size}
-use Rattle.cg_join.specs.Spelling.{IsTurned}
+use Rattle.cg_join.specs.Spelling.{IsMappedText}
 use Rattle.cg_join.specs.TextBytes.{Filled, IsFixed, Lacking}
 use Rattle.cg_join.specs.declared.choice.Either.TheVariants.{Left, Right}
 use Rattle.cg_value.specs.Held.{held_of_reason}
@@ -19,8 +19,8 @@ use Rattle.cg_value.specs.declared.value.Role.{Role}
 use Rattle.cg_value.specs.declared.value.Role.TheVariants.{Member, Root, Isolated}
 use Rattle.cg_file.specs.Kinds.{held_of_whole}
 use Rattle.cg_file.specs.OneOrBoth.{Differ}
-use Rattle.cg_file.specs.PartitionTurned.{RootValue, InvalidValue, PartitionValue, ReasonValue, IsRootWord, IsReasonText, IsInvalidText, IsRootText, IsPartitionText, root_role, root_parts}
-use Rattle.cg_file.specs.PartitionTurned.{partition_parts, partition_value, reason_of}
+use Rattle.cg_file.specs.PartitionMapped.{RootValue, InvalidValue, PartitionValue, ReasonValue, IsRootWord, IsReasonText, IsInvalidText, IsRootText, IsPartitionText, root_role, root_parts}
+use Rattle.cg_file.specs.PartitionMapped.{partition_parts, partition_value, reason_of}
 
 -- ---- Texts
 
@@ -78,7 +78,7 @@ partition_to : (text : List ℕ) (v : PartitionValue) → IsPartitionText text v
 partition_to text (Left u) h = h
 partition_to text (Right v) h = root_to text v.0 v.1 h
 
-partition_from : (text : List ℕ) (role : Role) (valid : Bool) (reason : Option (List ℕ)) → IsPartition role valid reason text → IsTurned IsPartitionText partition_parts text (role, valid, reason)
+partition_from : (text : List ℕ) (role : Role) (valid : Bool) (reason : Option (List ℕ)) → IsPartition role valid reason text → IsMappedText IsPartitionText partition_parts text (role, valid, reason)
 partition_from text role true (Some reason) h = absurd h
 partition_from text Member true None h = (Left tt, h, refl)
 partition_from text Root true None h = (Right (Left tt, None), valid_from text (Left tt) h, refl)
@@ -91,7 +91,7 @@ partition_from text Root false (Some reason) h = (Right (Left tt, Some (tt, Some
 partition_from text Isolated false (Some reason) h = (Right (Right tt, Some (tt, Some (tt, reason))), invalid_from text (Right tt) (Some (tt, reason)) h, refl)
 
 -- The text of a partition, turned into its parts.
-pub partition_is : (text : List ℕ) (x : Role × Bool × Option (List ℕ)) → IsTurned IsPartitionText partition_parts text x ↔ IsPartition (x.0) (x.1) (x.2) text
+pub partition_is : (text : List ℕ) (x : Role × Bool × Option (List ℕ)) → IsMappedText IsPartitionText partition_parts text x ↔ IsPartition (x.0) (x.1) (x.2) text
 partition_is text x = (
   λ h. (let k = partition_to text h.0 h.1 in rw h.2 at k),
   λ h. partition_from text (x.0) (x.1) (x.2) h,

@@ -11,7 +11,7 @@ use Rattle.cg_join.specs.CompositeLaws.{averages_are, averages_lacking}
 use Rattle.cg_join.specs.CutLaws.{label_is}
 use Rattle.cg_join.specs.LackingLaws.{concat_lacking, keyword_lacking}
 use Rattle.cg_join.specs.Line.{IsLine}
-use Rattle.cg_join.specs.Spelling.{IsConcat, IsTurned, Apart}
+use Rattle.cg_join.specs.Spelling.{IsConcat, IsMappedText, Apart}
 use Rattle.cg_join.specs.TextBytes.{IsFixed, Lacking}
 use Rattle.cg_value.specs.Files.{KindText}
 use Rattle.cg_value.specs.Lines.{unlines}
@@ -66,7 +66,7 @@ line_from word text a h = record {
   spells = (label_is (text_of word) AveragesText h.0 (tt, values_of a)).1 (h.2.0, h.2.1, averages_from h.2.0 a h.2.2);
 }
 
-pub line_is : (word : Keyword) (text : List ℕ) (a : Averages) → IsTurned (IsLine (WordAverages word)) line_averages text a ↔ PressureText word text a
+pub line_is : (word : Keyword) (text : List ℕ) (a : Averages) → IsMappedText (IsLine (WordAverages word)) line_averages text a ↔ PressureText word text a
 line_is word text a = (λ h. rw (← h.2) (line_to word text h.0 h.1), λ h. (((tt, values_of a), tt), line_from word text a h, refl))
 
 -- Nothing goes on from a line.
@@ -122,7 +122,7 @@ lines_from text (Some a) (Some b) lines h e = record {
 }
 
 -- Such lines, turned into a value, are a file of pressure.
-pub pressure_is : (text : List ℕ) (v : Value) → IsTurned SomeOrFull pressure_value text v ↔ KindText PressureForm v text
+pub pressure_is : (text : List ℕ) (v : Value) → IsMappedText SomeOrFull pressure_value text v ↔ KindText PressureForm v text
 pressure_is text v = (
   λ h. (let k = lines_to text (h.0.0) (h.0.1) h.1 in record { lines = k.0; spelled = record { x = h.0; value = sym h.2; spelled = k.1 }; text_is = k.2 }),
   λ h. (let a = h.spelled in (a.x, lines_from text (a.x.0) (a.x.1) h.lines a.spelled h.text_is, sym a.value)),

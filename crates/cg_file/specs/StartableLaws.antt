@@ -10,7 +10,7 @@ use Rattle.cg_text.specs.KeywordLaws.{keyword_bytes}
 use Rattle.cg_text.specs.Limit.{IsLimit}
 use Rattle.cg_text.specs.Token.{AreBytes, HasOneText}
 use Rattle.cg_text.specs.declared.decimal.Progress.TheVariants.{Start}
-use Rattle.cg_text.specs.declared.hundredths.Form.TheVariants.{Read}
+use Rattle.cg_text.specs.declared.hundredths.Spelling.TheVariants.{Read}
 use Rattle.cg_text.specs.declared.hundredths.Part.TheVariants.{Whole}
 use Rattle.cg_text.specs.declared.keyword.Keyword.TheVariants.{Max}
 use Rattle.cg_join.specs.AmountLaws.{whole_not_fraction, max_not_negated, others_apart, amount_is}
@@ -24,7 +24,7 @@ use Rattle.cg_join.specs.LimitLaws.{limit_is}
 use Rattle.cg_join.specs.LimitState.{limit_of}
 use Rattle.cg_join.specs.MaxLaws.{max_not_decimal}
 use Rattle.cg_join.specs.SequenceLaws.{sequence_completes, sequence_one, both_same}
-use Rattle.cg_join.specs.Spelling.{IsAllowed, IsConcat, IsEither, IsTurned, Apart, Disjoint}
+use Rattle.cg_join.specs.Spelling.{IsAllowed, IsConcat, IsEither, IsMappedText, Apart, Disjoint}
 use Rattle.cg_join.specs.StartLaws.{some_decimal, one_decimal, decimal_bytes}
 use Rattle.cg_join.specs.TextBytes.{IsFixed}
 use Rattle.cg_join.specs.declared.choice.Either.{Either}
@@ -44,8 +44,8 @@ startable_as e a = record {
   bytes = λ text v h. a.bytes text v ((e text v).1 h);
 }
 
-pub turned_startable : {V W : Type 0} {R : List ℕ → V → Type 0} (f : V → W) → Startable R → Startable (IsTurned R f)
-turned_startable f a = record {
+pub mapped_text_startable : {V W : Type 0} {R : List ℕ → V → Type 0} (f : V → W) → Startable R → Startable (IsMappedText R f)
+mapped_text_startable f a = record {
   some = (let s = a.some in (s.0, f s.1, (s.1, s.2, refl)));
   one = λ text v w h k. sym h.2 ∙ ap f (a.one text h.0 k.0 h.1 k.1) ∙ k.2;
   bytes = λ text w h. a.bytes text h.0 h.1;
@@ -110,7 +110,7 @@ decimal_startable {lo} {hi} le = record { some = some_decimal lo hi le; one = on
 
 pub limit_startable : (lo hi : ℕ) → lo ≤ hi → Startable (λ text v. IsLimit lo hi v text)
 limit_startable lo hi le =
-    startable_as (limit_is lo hi) (turned_startable limit_of (either_startable (λ text n u h k. max_not_decimal lo hi n text k h) (decimal_startable le) (fixed_startable (codes "max") (keyword_bytes Max))))
+    startable_as (limit_is lo hi) (mapped_text_startable limit_of (either_startable (λ text n u h k. max_not_decimal lo hi n text k h) (decimal_startable le) (fixed_startable (codes "max") (keyword_bytes Max))))
 
 pub hundredths_startable : (most : ℕ) → Startable (λ text h. IsHundredths Read most h text)
 hundredths_startable most = startable_as (hundredths_new Read most (WholePart most Start) (λ x n. (λ h. h, λ h. h)))
@@ -121,7 +121,7 @@ hundredths_startable most = startable_as (hundredths_new Read most (WholePart mo
     }
 
 pub amount_startable : (signed : Bool) → Startable (λ text v. IsAmount signed v text)
-amount_startable signed = startable_as (amount_is signed) (turned_startable amount_of (either_startable (others_apart signed)
+amount_startable signed = startable_as (amount_is signed) (mapped_text_startable amount_of (either_startable (others_apart signed)
     (either_startable whole_not_fraction (decimal_startable (omega arith)) (hundredths_startable 99999999999))
     (conditional_startable signed max_not_negated (fixed_startable (codes "max") (keyword_bytes Max))
     (concat_startable (fixed_apart (45 ∷ []) (λ text n. IsDecimal 1 2147483648 n text)) (fixed_startable (45 ∷ []) (omega arith, tt)) (decimal_startable (omega arith))))))

@@ -13,7 +13,7 @@ use Rattle.cg_join.specs.Line.{LacksByte}
 use Rattle.cg_join.specs.Pairs.{ArePairs, IsPairText, pair_size}
 use Rattle.cg_join.specs.PairsLaws.{pair_nil, word_begun}
 use Rattle.cg_join.specs.Repeat.{items_size}
-use Rattle.cg_join.specs.Spelling.{Apart, IsConcat, IsTurned, spells_as}
+use Rattle.cg_join.specs.Spelling.{Apart, IsConcat, IsMappedText, spells_as}
 use Rattle.cg_join.specs.StartLaws.{lacks_stops}
 use Rattle.cg_join.specs.TextBytes.{BeginsBy, Filled}
 use Rattle.cg_join.specs.WordStartLaws.{SpellsWord, one_word, word_only, word_text_bytes}
@@ -33,7 +33,7 @@ use Rattle.cg_file.specs.ManyFileLaws.{raw_lacks}
 use Rattle.cg_file.specs.NestedFileLaws as nested
 use Rattle.cg_file.specs.Pad.{IsLed, IsPadded, IsUnspaced}
 use Rattle.cg_file.specs.PadLaws.{before_refused, pad_bytes, pad_one}
-use Rattle.cg_file.specs.StartableLaws.{Startable, amount_startable, concat_startable, device_startable, startable_as, turned_startable}
+use Rattle.cg_file.specs.StartableLaws.{Startable, amount_startable, concat_startable, device_startable, startable_as, mapped_text_startable}
 use Rattle.cg_file.specs.LineHeldLaws.{items_within, lines_held}
 use Rattle.cg_file.specs.declared.pad.Padding.TheVariants.{Before}
 
@@ -148,7 +148,7 @@ line_from text line h = record {
   ends = (h.pairs, refl, pairs_from h.pairs line.pairs (nested.led_from IsStatPair PairText pair_is h.pairs line.pairs h.pairs_are, h.distinct));
 }
 
-pub stat_is : (text : List ℕ) (line : StatLine) → IsTurned (IsConcat DeviceText ArePadded) stat_line text line ↔ IsStatLine line text
+pub stat_is : (text : List ℕ) (line : StatLine) → IsMappedText (IsConcat DeviceText ArePadded) stat_line text line ↔ IsStatLine line text
 stat_is text line = (
   λ h. rw (← h.2) (line_to text h.0 h.1),
   λ h. ((line.device, (line.pad, line.pairs)), line_from text line h, refl),
@@ -165,7 +165,7 @@ padded_startable = record {
 }
 
 pub stat_startable : Startable (λ text line. IsStatLine line text)
-stat_startable = startable_as stat_is (turned_startable stat_line (concat_startable stat_apart device_startable padded_startable))
+stat_startable = startable_as stat_is (mapped_text_startable stat_line (concat_startable stat_apart device_startable padded_startable))
 
 pub stat_lacks : LacksByte (λ text line. IsStatLine line text) 10
 stat_lacks front more line h =

@@ -5,7 +5,7 @@ use Rattle.cg_text.specs.declared.keyword.Keyword.TheVariants.{Default}
 use Rattle.cg_join.specs.CutLaws.{label_is}
 use Rattle.cg_join.specs.LackingLaws.{concat_lacking, keyword_lacking, fixed_lacking, decimal_lacking}
 use Rattle.cg_join.specs.Lines.{AreLines}
-use Rattle.cg_join.specs.Spelling.{IsConcat, IsTurned, Apart}
+use Rattle.cg_join.specs.Spelling.{IsConcat, IsMappedText, Apart}
 use Rattle.cg_join.specs.TextBytes.{IsFixed, Lacking}
 use Rattle.cg_value.specs.Files.{KindText}
 use Rattle.cg_value.specs.ReadLine.{IsDefaultLine, IsWeightLine}
@@ -71,7 +71,7 @@ default_from most text n h =
     (32 ∷ h.0, h.1, (label_is (32 ∷ []) (NumberText 1 most) (32 ∷ h.0) (tt, n)).1 (h.0, refl, h.2))
 
 -- The line of the default, and lines of devices, turned into a value, are a file of weights.
-pub weights_are : (most : ℕ) (text : List ℕ) (v : Value) → IsTurned (IsConcat (DefaultEnded most) (WeightLines most)) weights_value text v ↔ KindText (WeightsForm most) v text
+pub weights_are : (most : ℕ) (text : List ℕ) (v : Value) → IsMappedText (IsConcat (DefaultEnded most) (WeightLines most)) weights_value text v ↔ KindText (WeightsForm most) v text
 weights_are most text v = (
   λ h. (let ended = h.1.begins in
       let k = lines_to (IsWeightLine most) h.1.back (h.0.1) h.1.ends in

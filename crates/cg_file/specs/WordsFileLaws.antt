@@ -5,14 +5,14 @@ use Rattle.std.specs.List.{All}
 use Rattle.cg_text.specs.Word.{IsControllerWord}
 use Rattle.cg_join.specs.Distinct.{AreDistinct}
 use Rattle.cg_join.specs.Repeat.{AreJoined}
-use Rattle.cg_join.specs.Spelling.{IsTurned}
+use Rattle.cg_join.specs.Spelling.{IsMappedText}
 use Rattle.cg_join.specs.WordStartLaws.{SpellsWord}
 use Rattle.cg_value.specs.Files.{KindText}
 use Rattle.cg_value.specs.Lines.{unlines}
 use Rattle.cg_value.specs.ReadLine.{AreWords, words_line}
 use Rattle.cg_value.specs.declared.kind.ReadForm.TheVariants.{Words as WordsForm}
 use Rattle.cg_value.specs.declared.value.Value.{Value}
-use Rattle.cg_file.specs.WordsTurned.{AreSpacedWords, IsWordsText, words_value}
+use Rattle.cg_file.specs.WordsMapped.{AreSpacedWords, IsWordsText, words_value}
 
 -- Joined words are their line.
 joined_line : (text : List ℕ) (words : List (List ℕ)) → AreJoined (SpellsWord true) 32 text words → All IsControllerWord words × (text ≡ words_line words)
@@ -57,7 +57,7 @@ of_words text words lines h e = of_lines h.lines_are
     of_lines (inr k) = inr (e ∙ ap unlines k.1, ap (λ ws. (ws, tt)) k.0)
 
 -- The words and their newline, or no byte, turned into the file's value.
-pub words_is : (text : List ℕ) (v : Value) → IsTurned IsWordsText words_value text v ↔ KindText WordsForm v text
+pub words_is : (text : List ℕ) (v : Value) → IsMappedText IsWordsText words_value text v ↔ KindText WordsForm v text
 words_is text v = (
   λ h. (let k = are_words text h.0 h.1 in rw h.2 at k),
   λ h. ((h.spelled.x, tt), of_words text h.spelled.x h.lines h.spelled.spelled h.text_is, sym h.spelled.value),

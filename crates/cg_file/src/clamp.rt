@@ -4,25 +4,25 @@ ghost use Rattle.cg_text.specs.Token.{Spells};
 ghost use Rattle.cg_value.specs.Files.{KindText};
 ghost use Rattle.cg_value.specs.declared.kind.ReadForm.TheVariants.{Clamp as ClampForm};
 
-use cg_join::{ClampText, Line, Sequence, Turn, one_line};
-use cg_text::{ByteText, Clamp, Form, OutOfMemory, Token};
+use cg_join::{ClampText, Line, MapValue, Sequence, one_line};
+use cg_text::{ByteText, Clamp, OutOfMemory, Spelling, Token};
 use cg_value::Value;
 
 /// A line, turned into the file's value.
 #[derive(Clone, Copy)]
 pub struct ToClamp;
 
-impl Turn<Sequence<ClampText, ByteText>> for ToClamp {
+impl MapValue<Sequence<ClampText, ByteText>> for ToClamp {
     type To = Value;
 
     ghost use Rattle.cg_join.specs.SettledLaws.{zero_least};
-    ghost use Rattle.cg_file.specs.OneLineTurned.{clamp_value};
+    ghost use Rattle.cg_file.specs.OneLineMapped.{clamp_value};
 
-    ghost turned = { clamp_value };
+    ghost mapped = { clamp_value };
 
     ghost value_size = { λ _. 0 };
 
-    fn turn(value: (Clamp, ())) -> Value {
+    fn map_value(value: (Clamp, ())) -> Value {
         Value::Clamp(value.0)
     }
 
@@ -30,7 +30,7 @@ impl Turn<Sequence<ClampText, ByteText>> for ToClamp {
         0
     }
 
-    ghost no_more = { λ v. zero_least _ };
+    ghost adds_no_memory = { λ v. zero_least _ };
 }
 
 type Text = Line<ClampText, ToClamp>;
@@ -48,7 +48,7 @@ impl ClampFile {
         ensures size { ⟦<ClampFile as Token>⟧.size result ≡ 0 }
     {
         ClampFile {
-            text: one_line(ClampText::new(Form::Read)),
+            text: one_line(ClampText::new(Spelling::Read)),
         }
     }
 }

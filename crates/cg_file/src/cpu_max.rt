@@ -4,7 +4,7 @@ ghost use Rattle.cg_text.specs.Token.{Spells};
 ghost use Rattle.cg_value.specs.Files.{KindText};
 ghost use Rattle.cg_value.specs.declared.kind.ReadForm.TheVariants.{CpuMax as CpuMaxForm};
 
-use cg_join::{Line, QuotaAndPeriod, Sequence, Turn, one_line, quota_and_period};
+use cg_join::{Line, MapValue, QuotaAndPeriod, Sequence, one_line, quota_and_period};
 use cg_text::{ByteText, Limit, OutOfMemory, Token};
 use cg_value::Value;
 
@@ -12,17 +12,17 @@ use cg_value::Value;
 #[derive(Clone, Copy)]
 pub struct ToCpuMax;
 
-impl Turn<Sequence<QuotaAndPeriod, ByteText>> for ToCpuMax {
+impl MapValue<Sequence<QuotaAndPeriod, ByteText>> for ToCpuMax {
     type To = Value;
 
     ghost use Rattle.cg_join.specs.SettledLaws.{zero_least};
-    ghost use Rattle.cg_file.specs.OneLineTurned.{cpu_max_value};
+    ghost use Rattle.cg_file.specs.OneLineMapped.{cpu_max_value};
 
-    ghost turned = { cpu_max_value };
+    ghost mapped = { cpu_max_value };
 
     ghost value_size = { λ _. 0 };
 
-    fn turn(value: ((Limit, ((), u64)), ())) -> Value {
+    fn map_value(value: ((Limit, ((), u64)), ())) -> Value {
         let (quota, (_, period)) = value.0;
         Value::CpuMax { quota, period }
     }
@@ -31,7 +31,7 @@ impl Turn<Sequence<QuotaAndPeriod, ByteText>> for ToCpuMax {
         0
     }
 
-    ghost no_more = { λ v. zero_least _ };
+    ghost adds_no_memory = { λ v. zero_least _ };
 }
 
 type Text = Line<QuotaAndPeriod, ToCpuMax>;

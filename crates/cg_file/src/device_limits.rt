@@ -6,8 +6,8 @@ ghost use Rattle.cg_value.specs.declared.kind.ReadForm.TheVariants.{DeviceLimits
 ghost use Rattle.cg_value.specs.ReadLine.{IsLimitLine};
 
 use cg_join::{
-    DeviceText, LabelText, LimitText, Lines, Mapped, Sequence, Start, Turn, WholeLines, labelled,
-    limit_in,
+    DeviceText, LabelText, LimitText, Lines, MakeToken, MapValue, Mapped, Sequence, WholeLines,
+    labelled, limit_in,
 };
 use cg_text::{Device, Items, Keyword, Limit, OutOfMemory, Token};
 use cg_value::{LimitLine, Value};
@@ -26,17 +26,17 @@ type FourLimitValues = (((), Limit), (((), Limit), (((), Limit), ((), Limit))));
 #[derive(Clone, Copy)]
 pub struct ToLimitLine;
 
-impl Turn<Sequence<DeviceText, FourLimits>> for ToLimitLine {
+impl MapValue<Sequence<DeviceText, FourLimits>> for ToLimitLine {
     type To = LimitLine;
 
     ghost use Rattle.cg_join.specs.SettledLaws.{zero_least};
     ghost use Rattle.cg_file.specs.DeviceLineLaws.{limit_line};
 
-    ghost turned = { limit_line };
+    ghost mapped = { limit_line };
 
     ghost value_size = { λ _. 0 };
 
-    fn turn(value: (Device, FourLimitValues)) -> LimitLine {
+    fn map_value(value: (Device, FourLimitValues)) -> LimitLine {
         let (device, ((_, rbps), ((_, wbps), ((_, riops), (_, wiops))))) = value;
         LimitLine {
             device,
@@ -51,7 +51,7 @@ impl Turn<Sequence<DeviceText, FourLimits>> for ToLimitLine {
         0
     }
 
-    ghost no_more = { λ v. zero_least _ };
+    ghost adds_no_memory = { λ v. zero_least _ };
 }
 
 type LineParts = Mapped<Sequence<DeviceText, FourLimits>, ToLimitLine>;
@@ -141,7 +141,7 @@ impl Token for LimitLineText {
 #[derive(Clone, Copy)]
 pub struct LimitStart;
 
-impl Start<LimitLineText> for LimitStart {
+impl MakeToken<LimitLineText> for LimitStart {
     ghost use Rattle.cg_file.specs.DeviceLineLaws.{limits_startable};
 
     ghost texts = { λ _ text line. IsLimitLine line text };
@@ -161,17 +161,17 @@ impl Start<LimitLineText> for LimitStart {
 #[derive(Clone, Copy)]
 pub struct ToDeviceLimits;
 
-impl Turn<Lines<LimitLineText, LimitStart>> for ToDeviceLimits {
+impl MapValue<Lines<LimitLineText, LimitStart>> for ToDeviceLimits {
     type To = Value;
 
     ghost use Rattle.cg_join.specs.SettledLaws.{zero_least};
     ghost use Rattle.cg_file.specs.DeviceLineLaws.{limits_value};
 
-    ghost turned = { limits_value };
+    ghost mapped = { limits_value };
 
     ghost value_size = { λ _. 0 };
 
-    fn turn(value: Items<LimitLine>) -> Value {
+    fn map_value(value: Items<LimitLine>) -> Value {
         Value::DeviceLimits(value)
     }
 
@@ -179,7 +179,7 @@ impl Turn<Lines<LimitLineText, LimitStart>> for ToDeviceLimits {
         0
     }
 
-    ghost no_more = { λ v. zero_least _ };
+    ghost adds_no_memory = { λ v. zero_least _ };
 }
 
 type Text = Mapped<Lines<LimitLineText, LimitStart>, ToDeviceLimits>;

@@ -9,7 +9,7 @@ ghost use Rattle.cg_file.specs.StatFileLaws.{AreStatPairs};
 use crate::pad::PadText;
 use cg_index::KeyedItems;
 use cg_join::{
-    AmountText, DeviceText, DistinctPairs, Lines, Mapped, Pairing, Sequence, Start, Turn,
+    AmountText, DeviceText, DistinctPairs, Lines, MakeToken, MapValue, Mapped, Pairing, Sequence,
     WholeLines, WordStart, run_parts,
 };
 use cg_text::{Amount, Device, Items, Key, OutOfMemory, Token};
@@ -20,7 +20,7 @@ use std::alloc::Global;
 #[derive(Clone, Copy)]
 pub struct AmountStart;
 
-impl Start<AmountText> for AmountStart {
+impl MakeToken<AmountText> for AmountStart {
     ghost use Rattle.std.specs.Prelude.{false};
     ghost use Rattle.cg_text.specs.Amount.{IsAmount};
     ghost use Rattle.cg_file.specs.StartableLaws.{amount_startable};
@@ -157,16 +157,16 @@ impl Token for StatPairs {
 #[derive(Clone, Copy)]
 pub struct ToStatLine;
 
-impl Turn<Sequence<DeviceText, PadText<StatPairs>>> for ToStatLine {
+impl MapValue<Sequence<DeviceText, PadText<StatPairs>>> for ToStatLine {
     type To = StatLine;
 
     ghost use Rattle.cg_file.specs.StatFileLaws.{stat_line, stat_size, no_less};
 
-    ghost turned = { stat_line };
+    ghost mapped = { stat_line };
 
     ghost value_size = { stat_size };
 
-    fn turn(value: (Device, (bool, KeyedItems<StatPair>))) -> StatLine {
+    fn map_value(value: (Device, (bool, KeyedItems<StatPair>))) -> StatLine {
         let (device, (pad, pairs)) = value;
         StatLine { device, pad, pairs }
     }
@@ -175,7 +175,7 @@ impl Turn<Sequence<DeviceText, PadText<StatPairs>>> for ToStatLine {
         StatPairs::held_in(&value.pairs)
     }
 
-    ghost no_more = { λ v. no_less (stat_size (stat_line v)) };
+    ghost adds_no_memory = { λ v. no_less (stat_size (stat_line v)) };
 }
 
 type LineParts = Mapped<Sequence<DeviceText, PadText<StatPairs>>, ToStatLine>;
@@ -271,7 +271,7 @@ impl StatStart {
     }
 }
 
-impl Start<StatLineText> for StatStart {
+impl MakeToken<StatLineText> for StatStart {
     ghost use Rattle.cg_file.specs.StatFileLaws.{stat_startable};
 
     ghost texts = { λ _ text line. IsStatLine line text };
@@ -291,17 +291,17 @@ impl Start<StatLineText> for StatStart {
 #[derive(Clone, Copy)]
 pub struct ToDeviceStats;
 
-impl Turn<Lines<StatLineText, StatStart>> for ToDeviceStats {
+impl MapValue<Lines<StatLineText, StatStart>> for ToDeviceStats {
     type To = Value;
 
     ghost use Rattle.cg_join.specs.SettledLaws.{zero_least};
     ghost use Rattle.cg_file.specs.StatFileLaws.{stats_value};
 
-    ghost turned = { stats_value };
+    ghost mapped = { stats_value };
 
     ghost value_size = { λ _. 0 };
 
-    fn turn(value: Items<StatLine>) -> Value {
+    fn map_value(value: Items<StatLine>) -> Value {
         Value::DeviceStats(value)
     }
 
@@ -309,7 +309,7 @@ impl Turn<Lines<StatLineText, StatStart>> for ToDeviceStats {
         0
     }
 
-    ghost no_more = { λ v. zero_least _ };
+    ghost adds_no_memory = { λ v. zero_least _ };
 }
 
 type Text = Mapped<Lines<StatLineText, StatStart>, ToDeviceStats>;

@@ -6,7 +6,8 @@ ghost use Rattle.cg_value.specs.declared.kind.ReadForm.TheVariants.{DeviceTarget
 ghost use Rattle.cg_value.specs.ReadLine.{IsTargetLine};
 
 use cg_join::{
-    DeviceText, LabelText, Lines, Mapped, Sequence, Start, Turn, WholeLines, decimal_in, labelled,
+    DeviceText, LabelText, Lines, MakeToken, MapValue, Mapped, Sequence, WholeLines, decimal_in,
+    labelled,
 };
 use cg_text::{DecimalText, Device, Items, Keyword, OutOfMemory, Token};
 use cg_value::{TargetLine, Value};
@@ -16,17 +17,17 @@ use std::alloc::Global;
 #[derive(Clone, Copy)]
 pub struct ToTargetLine;
 
-impl Turn<Sequence<DeviceText, LabelText<DecimalText>>> for ToTargetLine {
+impl MapValue<Sequence<DeviceText, LabelText<DecimalText>>> for ToTargetLine {
     type To = TargetLine;
 
     ghost use Rattle.cg_join.specs.SettledLaws.{zero_least};
     ghost use Rattle.cg_file.specs.DeviceLineLaws.{target_line};
 
-    ghost turned = { target_line };
+    ghost mapped = { target_line };
 
     ghost value_size = { λ _. 0 };
 
-    fn turn(value: (Device, ((), u64))) -> TargetLine {
+    fn map_value(value: (Device, ((), u64))) -> TargetLine {
         TargetLine {
             device: value.0,
             target: value.1.1,
@@ -37,7 +38,7 @@ impl Turn<Sequence<DeviceText, LabelText<DecimalText>>> for ToTargetLine {
         0
     }
 
-    ghost no_more = { λ v. zero_least _ };
+    ghost adds_no_memory = { λ v. zero_least _ };
 }
 
 type LineParts = Mapped<Sequence<DeviceText, LabelText<DecimalText>>, ToTargetLine>;
@@ -121,7 +122,7 @@ impl Token for TargetLineText {
 #[derive(Clone, Copy)]
 pub struct TargetStart;
 
-impl Start<TargetLineText> for TargetStart {
+impl MakeToken<TargetLineText> for TargetStart {
     ghost use Rattle.cg_file.specs.DeviceLineLaws.{target_startable};
 
     ghost texts = { λ _ text line. IsTargetLine line text };
@@ -141,17 +142,17 @@ impl Start<TargetLineText> for TargetStart {
 #[derive(Clone, Copy)]
 pub struct ToDeviceTargets;
 
-impl Turn<Lines<TargetLineText, TargetStart>> for ToDeviceTargets {
+impl MapValue<Lines<TargetLineText, TargetStart>> for ToDeviceTargets {
     type To = Value;
 
     ghost use Rattle.cg_join.specs.SettledLaws.{zero_least};
     ghost use Rattle.cg_file.specs.DeviceLineLaws.{targets_value};
 
-    ghost turned = { targets_value };
+    ghost mapped = { targets_value };
 
     ghost value_size = { λ _. 0 };
 
-    fn turn(value: Items<TargetLine>) -> Value {
+    fn map_value(value: Items<TargetLine>) -> Value {
         Value::DeviceTargets(value)
     }
 
@@ -159,7 +160,7 @@ impl Turn<Lines<TargetLineText, TargetStart>> for ToDeviceTargets {
         0
     }
 
-    ghost no_more = { λ v. zero_least _ };
+    ghost adds_no_memory = { λ v. zero_least _ };
 }
 
 type Text = Mapped<Lines<TargetLineText, TargetStart>, ToDeviceTargets>;

@@ -6,8 +6,8 @@ ghost use Rattle.cg_value.specs.declared.kind.ReadForm.TheVariants.{DeviceWeight
 ghost use Rattle.cg_value.specs.ReadLine.{IsWeightLine};
 
 use cg_join::{
-    DeviceText, LabelText, Lines, Mapped, Sequence, Spaced, Start, Turn, decimal_in, labelled,
-    spaced,
+    DeviceText, LabelText, Lines, MakeToken, MapValue, Mapped, Sequence, Spaced, decimal_in,
+    labelled, spaced,
 };
 use cg_text::{ByteText, DecimalText, Device, Items, Keyword, OutOfMemory, Token};
 use cg_value::{Value, WeightLine};
@@ -17,17 +17,17 @@ use std::alloc::Global;
 #[derive(Clone, Copy)]
 pub struct ToWeightLine;
 
-impl Turn<Sequence<DeviceText, Spaced<DecimalText>>> for ToWeightLine {
+impl MapValue<Sequence<DeviceText, Spaced<DecimalText>>> for ToWeightLine {
     type To = WeightLine;
 
     ghost use Rattle.cg_join.specs.SettledLaws.{zero_least};
     ghost use Rattle.cg_file.specs.DeviceLineLaws.{weight_line};
 
-    ghost turned = { weight_line };
+    ghost mapped = { weight_line };
 
     ghost value_size = { λ _. 0 };
 
-    fn turn(value: (Device, ((), u64))) -> WeightLine {
+    fn map_value(value: (Device, ((), u64))) -> WeightLine {
         WeightLine {
             device: value.0,
             weight: value.1.1,
@@ -38,7 +38,7 @@ impl Turn<Sequence<DeviceText, Spaced<DecimalText>>> for ToWeightLine {
         0
     }
 
-    ghost no_more = { λ v. zero_least _ };
+    ghost adds_no_memory = { λ v. zero_least _ };
 }
 
 type LineParts = Mapped<Sequence<DeviceText, Spaced<DecimalText>>, ToWeightLine>;
@@ -126,7 +126,7 @@ pub struct WeightStart {
     ghost range: { 1 ≤ most },
 }
 
-impl Start<WeightLineText> for WeightStart {
+impl MakeToken<WeightLineText> for WeightStart {
     ghost use Rattle.cg_file.specs.DeviceLineLaws.{weight_startable};
 
     ghost texts = { λ s text line. IsWeightLine s.most line text };
@@ -149,17 +149,17 @@ type DefaultLine = Sequence<LabelText<Spaced<DecimalText>>, ByteText>;
 #[derive(Clone, Copy)]
 pub struct ToDeviceWeights;
 
-impl Turn<Sequence<DefaultLine, Lines<WeightLineText, WeightStart>>> for ToDeviceWeights {
+impl MapValue<Sequence<DefaultLine, Lines<WeightLineText, WeightStart>>> for ToDeviceWeights {
     type To = Value;
 
     ghost use Rattle.cg_join.specs.SettledLaws.{zero_least};
     ghost use Rattle.cg_file.specs.WeightFileLaws.{weights_value};
 
-    ghost turned = { weights_value };
+    ghost mapped = { weights_value };
 
     ghost value_size = { λ _. 0 };
 
-    fn turn(value: ((((), ((), u64)), ()), Items<WeightLine>)) -> Value {
+    fn map_value(value: ((((), ((), u64)), ()), Items<WeightLine>)) -> Value {
         Value::DeviceWeights {
             default: value.0.0.1.1,
             lines: value.1,
@@ -170,7 +170,7 @@ impl Turn<Sequence<DefaultLine, Lines<WeightLineText, WeightStart>>> for ToDevic
         0
     }
 
-    ghost no_more = { λ v. zero_least _ };
+    ghost adds_no_memory = { λ v. zero_least _ };
 }
 
 type Text = Mapped<Sequence<DefaultLine, Lines<WeightLineText, WeightStart>>, ToDeviceWeights>;

@@ -3,9 +3,9 @@ ghost use Rattle.std.specs.Prelude.{◌≡◌, ◌<◌, [], ◌∷◌, IfSome, I
 ghost use Rattle.cg_file.specs.Front.{IsFileFront};
 ghost use Rattle.cg_value.specs.Kind.{IsReadForm};
 
+use crate::any_file::AnyFile;
 use crate::clamp::ClampFile;
 use crate::cpu_max::CpuMaxFile;
-use crate::file_text::FileText;
 use crate::limit::LimitFile;
 use crate::mode::ModeFile;
 use crate::number::NumberFile;
@@ -24,7 +24,7 @@ fn begins_empty(bytes: &[u8]) -> bool
     }
 }
 
-/// What `FileText::read_front` finds of a kind of this form.
+/// What `AnyFile::read_front` finds of a kind of this form.
 fn value_in_front(alloc: Global, form: ReadForm, bytes: &[u8]) -> Option<(Value, usize)>
     requires { IsReadForm form }
     ensures { IfSome result (λ r. IsFileFront form bytes.now r.0 r.1) }
@@ -43,7 +43,7 @@ fn value_in_front(alloc: Global, form: ReadForm, bytes: &[u8]) -> Option<(Value,
     }
 }
 
-impl FileText {
+impl AnyFile {
     /// The value of a file of this kind with which the bytes begin, and its length, where it is one line with which no
     /// longer file of the kind begins, and its value holds nothing. It may find none where there is one. It takes no
     /// memory.

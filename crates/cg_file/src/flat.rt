@@ -4,7 +4,7 @@ ghost use Rattle.cg_text.specs.Token.{Spells};
 ghost use Rattle.cg_value.specs.Files.{KindText};
 ghost use Rattle.cg_value.specs.declared.kind.ReadForm.TheVariants.{Flat as FlatForm};
 
-use cg_join::{Collection, KeyedLines, Mapped, NumberStart, Turn, WholeLines, WordStart};
+use cg_join::{Collection, KeyedLines, MapValue, Mapped, NumberStart, WholeLines, WordStart};
 use cg_text::{DecimalText, Key, OutOfMemory, Token, WordText};
 use cg_value::{Flat, FlatBuilder, FlatPair, Value};
 use std::alloc::Global;
@@ -97,17 +97,17 @@ type FlatLines = KeyedLines<DecimalText, NumberStart, FlatPairs>;
 #[derive(Clone, Copy)]
 pub struct ToFlat;
 
-impl Turn<FlatLines> for ToFlat {
+impl MapValue<FlatLines> for ToFlat {
     type To = Value;
 
     ghost use Rattle.cg_join.specs.SettledLaws.{zero_least};
     ghost use Rattle.cg_file.specs.FlatFileLaws.{flat_value};
 
-    ghost turned = { flat_value };
+    ghost mapped = { flat_value };
 
     ghost value_size = { λ _. 0 };
 
-    fn turn(value: Flat) -> Value {
+    fn map_value(value: Flat) -> Value {
         Value::Flat(value)
     }
 
@@ -115,7 +115,7 @@ impl Turn<FlatLines> for ToFlat {
         0
     }
 
-    ghost no_more = { λ v. zero_least _ };
+    ghost adds_no_memory = { λ v. zero_least _ };
 }
 
 type Text = Mapped<FlatLines, ToFlat>;

@@ -1,6 +1,7 @@
 //! The text of a whole file of each kind, as a token.
 #![tactic(auto)]
 
+pub mod any_file;
 pub mod branch;
 pub mod clamp;
 pub mod cpu_max;
@@ -9,7 +10,6 @@ pub mod device_stats;
 pub mod device_targets;
 pub mod device_weights;
 pub mod file_front;
-pub mod file_text;
 pub mod flat;
 pub mod laws;
 pub mod limit;
@@ -26,4 +26,4 @@ pub mod set;
 pub mod signed;
 pub mod words;
 
-pub use file_text::FileText;
+pub use any_file::AnyFile;

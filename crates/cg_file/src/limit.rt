@@ -4,7 +4,7 @@ ghost use Rattle.cg_text.specs.Token.{Spells};
 ghost use Rattle.cg_value.specs.Files.{KindText};
 ghost use Rattle.cg_value.specs.declared.kind.ReadForm.TheVariants.{Limit as LimitForm};
 
-use cg_join::{LimitText, Line, Sequence, Turn, one_line};
+use cg_join::{LimitText, Line, MapValue, Sequence, one_line};
 use cg_text::{ByteText, Limit, OutOfMemory, Token};
 use cg_value::Value;
 
@@ -12,17 +12,17 @@ use cg_value::Value;
 #[derive(Clone, Copy)]
 pub struct ToLimit;
 
-impl Turn<Sequence<LimitText, ByteText>> for ToLimit {
+impl MapValue<Sequence<LimitText, ByteText>> for ToLimit {
     type To = Value;
 
     ghost use Rattle.cg_join.specs.SettledLaws.{zero_least};
-    ghost use Rattle.cg_file.specs.Turned.{limit_value};
+    ghost use Rattle.cg_file.specs.Mapped.{limit_value};
 
-    ghost turned = { limit_value };
+    ghost mapped = { limit_value };
 
     ghost value_size = { λ _. 0 };
 
-    fn turn(value: (Limit, ())) -> Value {
+    fn map_value(value: (Limit, ())) -> Value {
         Value::Limit(value.0)
     }
 
@@ -30,7 +30,7 @@ impl Turn<Sequence<LimitText, ByteText>> for ToLimit {
         0
     }
 
-    ghost no_more = { λ v. zero_least _ };
+    ghost adds_no_memory = { λ v. zero_least _ };
 }
 
 type Text = Line<LimitText, ToLimit>;

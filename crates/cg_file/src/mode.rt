@@ -3,9 +3,9 @@ ghost use Rattle.std.specs.Prelude.{◌≡◌};
 ghost use Rattle.cg_text.specs.Token.{Spells};
 ghost use Rattle.cg_value.specs.Files.{KindText};
 ghost use Rattle.cg_value.specs.declared.kind.ReadForm.TheVariants.{Mode as ModeForm};
-ghost use Rattle.cg_file.specs.OneLineTurned.{IsModeWord};
+ghost use Rattle.cg_file.specs.OneLineMapped.{IsModeWord};
 
-use cg_join::{Choice, Either, Line, Sequence, Turn, one_line};
+use cg_join::{Choice, Either, Line, MapValue, Sequence, one_line};
 use cg_text::{ByteText, Keyword, KeywordText, OutOfMemory, Token};
 use cg_value::{GroupMode, Value};
 
@@ -33,17 +33,17 @@ fn mode_text() -> ModeText
 #[derive(Clone, Copy)]
 pub struct ToMode;
 
-impl Turn<Sequence<ModeText, ByteText>> for ToMode {
+impl MapValue<Sequence<ModeText, ByteText>> for ToMode {
     type To = Value;
 
     ghost use Rattle.cg_join.specs.SettledLaws.{zero_least};
-    ghost use Rattle.cg_file.specs.OneLineTurned.{mode_value};
+    ghost use Rattle.cg_file.specs.OneLineMapped.{mode_value};
 
-    ghost turned = { mode_value };
+    ghost mapped = { mode_value };
 
     ghost value_size = { λ _. 0 };
 
-    fn turn(value: (Either<Either<(), ()>, Either<(), ()>>, ())) -> Value {
+    fn map_value(value: (Either<Either<(), ()>, Either<(), ()>>, ())) -> Value {
         Value::Mode(match value.0 {
             Either::Left(Either::Left(_)) => GroupMode::Domain,
             Either::Left(Either::Right(_)) => GroupMode::DomainThreaded,
@@ -56,7 +56,7 @@ impl Turn<Sequence<ModeText, ByteText>> for ToMode {
         0
     }
 
-    ghost no_more = { λ v. zero_least _ };
+    ghost adds_no_memory = { λ v. zero_least _ };
 }
 
 type Text = Line<ModeText, ToMode>;

@@ -6,8 +6,8 @@ ghost use Rattle.cg_value.specs.declared.kind.ReadForm.TheVariants.{Nested as Ne
 
 use cg_index::KeyedItems;
 use cg_join::{
-    DistinctPairs, KeyedLines, MakePair, Mapped, NumberStart, PairList, Pairing, PairsStart, Turn,
-    WholeLines, WordStart,
+    DistinctPairs, KeyedLines, MakePair, MapValue, Mapped, NumberStart, PairList, Pairing,
+    PairsStart, WholeLines, WordStart,
 };
 use cg_text::{DecimalText, Key, OutOfMemory, Token};
 use cg_value::{NestedLine, NestedPair, Value};
@@ -100,7 +100,7 @@ fn nested_start(alloc: Global) -> NestedStart
     ensures low { result.values.lo ≡ 0 }
     ensures high { result.values.hi ≡ 18446744073709551615 }
     ensures separator { result.separator ≡ 32 }
-    ensures mark { result.mark ≡ 61 }
+    ensures delimiter { result.delimiter ≡ 61 }
 {
     let words = WordStart::new(alloc, false);
     let numbers = NumberStart::new(0, u64::MAX);
@@ -111,17 +111,17 @@ fn nested_start(alloc: Global) -> NestedStart
 #[derive(Clone, Copy)]
 pub struct ToNested;
 
-impl Turn<NestedLines> for ToNested {
+impl MapValue<NestedLines> for ToNested {
     type To = Value;
 
     ghost use Rattle.cg_join.specs.SettledLaws.{zero_least};
     ghost use Rattle.cg_file.specs.NestedFileLaws.{nested_value};
 
-    ghost turned = { nested_value };
+    ghost mapped = { nested_value };
 
     ghost value_size = { λ _. 0 };
 
-    fn turn(value: KeyedItems<NestedLine>) -> Value {
+    fn map_value(value: KeyedItems<NestedLine>) -> Value {
         Value::Nested(value)
     }
 
@@ -129,7 +129,7 @@ impl Turn<NestedLines> for ToNested {
         0
     }
 
-    ghost no_more = { λ v. zero_least _ };
+    ghost adds_no_memory = { λ v. zero_least _ };
 }
 
 type Text = Mapped<NestedLines, ToNested>;

@@ -4,7 +4,7 @@ ghost use Rattle.cg_text.specs.Token.{Spells};
 ghost use Rattle.cg_value.specs.Files.{KindText};
 ghost use Rattle.cg_value.specs.declared.kind.ReadForm.TheVariants.{Number as NumberForm};
 
-use cg_join::{Line, Sequence, Turn, one_line};
+use cg_join::{Line, MapValue, Sequence, one_line};
 use cg_text::{ByteText, DecimalText, OutOfMemory, Token};
 use cg_value::Value;
 
@@ -12,17 +12,17 @@ use cg_value::Value;
 #[derive(Clone, Copy)]
 pub struct ToNumber;
 
-impl Turn<Sequence<DecimalText, ByteText>> for ToNumber {
+impl MapValue<Sequence<DecimalText, ByteText>> for ToNumber {
     type To = Value;
 
     ghost use Rattle.cg_join.specs.SettledLaws.{zero_least};
-    ghost use Rattle.cg_file.specs.Turned.{number_value};
+    ghost use Rattle.cg_file.specs.Mapped.{number_value};
 
-    ghost turned = { number_value };
+    ghost mapped = { number_value };
 
     ghost value_size = { λ _. 0 };
 
-    fn turn(value: (u64, ())) -> Value {
+    fn map_value(value: (u64, ())) -> Value {
         Value::Number(value.0)
     }
 
@@ -30,7 +30,7 @@ impl Turn<Sequence<DecimalText, ByteText>> for ToNumber {
         0
     }
 
-    ghost no_more = { λ v. zero_least _ };
+    ghost adds_no_memory = { λ v. zero_least _ };
 }
 
 type Text = Line<DecimalText, ToNumber>;

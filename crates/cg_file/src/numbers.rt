@@ -4,7 +4,7 @@ ghost use Rattle.cg_text.specs.Token.{Spells};
 ghost use Rattle.cg_value.specs.Files.{KindText};
 ghost use Rattle.cg_value.specs.declared.kind.ReadForm.TheVariants.{Numbers as NumbersForm};
 
-use cg_join::{Lines, Mapped, NumberStart, Turn, WholeLines};
+use cg_join::{Lines, MapValue, Mapped, NumberStart, WholeLines};
 use cg_text::{DecimalText, Items, OutOfMemory, Token};
 use cg_value::Value;
 use std::alloc::Global;
@@ -13,17 +13,17 @@ use std::alloc::Global;
 #[derive(Clone, Copy)]
 pub struct ToNumbers;
 
-impl Turn<Lines<DecimalText, NumberStart>> for ToNumbers {
+impl MapValue<Lines<DecimalText, NumberStart>> for ToNumbers {
     type To = Value;
 
     ghost use Rattle.cg_join.specs.SettledLaws.{zero_least};
     ghost use Rattle.cg_file.specs.ManyFileLaws.{numbers_value};
 
-    ghost turned = { numbers_value };
+    ghost mapped = { numbers_value };
 
     ghost value_size = { λ _. 0 };
 
-    fn turn(value: Items<u64>) -> Value {
+    fn map_value(value: Items<u64>) -> Value {
         Value::Numbers(value)
     }
 
@@ -31,7 +31,7 @@ impl Turn<Lines<DecimalText, NumberStart>> for ToNumbers {
         0
     }
 
-    ghost no_more = { λ v. zero_least _ };
+    ghost adds_no_memory = { λ v. zero_least _ };
 }
 
 type Text = Mapped<Lines<DecimalText, NumberStart>, ToNumbers>;

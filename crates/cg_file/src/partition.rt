@@ -4,10 +4,10 @@ ghost use Rattle.cg_text.specs.Token.{Spells};
 ghost use Rattle.cg_value.specs.Files.{KindText};
 ghost use Rattle.cg_value.specs.declared.kind.ReadForm.TheVariants.{Partition as PartitionForm};
 ghost use Rattle.cg_join.specs.Maybe.{IsMaybe};
-ghost use Rattle.cg_file.specs.PartitionTurned.{IsInvalidText, IsPartitionText, IsReasonText, IsRootText};
+ghost use Rattle.cg_file.specs.PartitionMapped.{IsInvalidText, IsPartitionText, IsReasonText, IsRootText};
 
 use crate::branch::Branch;
-use cg_join::{Choice, Either, LabelText, Line, Maybe, Sequence, Turn, labelled, one_line};
+use cg_join::{Choice, Either, LabelText, Line, MapValue, Maybe, Sequence, labelled, one_line};
 use cg_text::{ByteText, Items, Keyword, KeywordText, OutOfMemory, ReasonText, Token};
 use cg_value::{Role, Value};
 use std::alloc::Global;
@@ -249,17 +249,17 @@ fn partition_text(alloc: Global) -> PartitionText
 #[derive(Clone, Copy)]
 pub struct ToPartition;
 
-impl Turn<Sequence<PartitionText, ByteText>> for ToPartition {
+impl MapValue<Sequence<PartitionText, ByteText>> for ToPartition {
     type To = Value;
 
     ghost use Rattle.cg_join.specs.SettledLaws.{zero_least};
-    ghost use Rattle.cg_file.specs.PartitionTurned.{partition_value};
+    ghost use Rattle.cg_file.specs.PartitionMapped.{partition_value};
 
-    ghost turned = { partition_value };
+    ghost mapped = { partition_value };
 
     ghost value_size = { λ _. 0 };
 
-    fn turn(value: (Either<(), RootValue>, ())) -> Value {
+    fn map_value(value: (Either<(), RootValue>, ())) -> Value {
         match value.0 {
             Either::Left(_) => Value::Partition {
                 role: Role::Member,
@@ -289,7 +289,7 @@ impl Turn<Sequence<PartitionText, ByteText>> for ToPartition {
         0
     }
 
-    ghost no_more = { λ v. zero_least _ };
+    ghost adds_no_memory = { λ v. zero_least _ };
 }
 
 type Text = Line<PartitionText, ToPartition>;

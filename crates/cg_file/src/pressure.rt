@@ -7,7 +7,8 @@ ghost use Rattle.cg_file.specs.PressureFileLaws.{PressureText};
 
 use crate::one_or_both::OneOrBoth;
 use cg_join::{
-    Averages as AveragesText, LabelText, Line, Mapped, Sequence, Turn, averages, labelled, one_line,
+    Averages as AveragesText, LabelText, Line, MapValue, Mapped, Sequence, averages, labelled,
+    one_line,
 };
 use cg_text::{ByteText, Hundredths, Keyword, OutOfMemory, Token};
 use cg_value::{Averages, Value};
@@ -22,17 +23,17 @@ type AveragesValues = (
 #[derive(Clone, Copy)]
 pub struct ToAverages;
 
-impl Turn<Sequence<LabelText<AveragesText>, ByteText>> for ToAverages {
+impl MapValue<Sequence<LabelText<AveragesText>, ByteText>> for ToAverages {
     type To = Averages;
 
     ghost use Rattle.cg_join.specs.SettledLaws.{zero_least};
     ghost use Rattle.cg_file.specs.PressureFileLaws.{line_averages};
 
-    ghost turned = { line_averages };
+    ghost mapped = { line_averages };
 
     ghost value_size = { λ _. 0 };
 
-    fn turn(value: (((), AveragesValues), ())) -> Averages {
+    fn map_value(value: (((), AveragesValues), ())) -> Averages {
         let ((_, ((_, avg10), ((_, avg60), ((_, avg300), (_, total))))), _) = value;
         Averages {
             avg10,
@@ -46,7 +47,7 @@ impl Turn<Sequence<LabelText<AveragesText>, ByteText>> for ToAverages {
         0
     }
 
-    ghost no_more = { λ v. zero_least _ };
+    ghost adds_no_memory = { λ v. zero_least _ };
 }
 
 type LineParts = Line<LabelText<AveragesText>, ToAverages>;
@@ -125,17 +126,17 @@ impl Token for PressureLine {
 #[derive(Clone, Copy)]
 pub struct ToPressure;
 
-impl Turn<OneOrBoth<PressureLine, PressureLine>> for ToPressure {
+impl MapValue<OneOrBoth<PressureLine, PressureLine>> for ToPressure {
     type To = Value;
 
     ghost use Rattle.cg_join.specs.SettledLaws.{zero_least};
     ghost use Rattle.cg_file.specs.PressureFileLaws.{pressure_value};
 
-    ghost turned = { pressure_value };
+    ghost mapped = { pressure_value };
 
     ghost value_size = { λ _. 0 };
 
-    fn turn(value: (Option<Averages>, Option<Averages>)) -> Value {
+    fn map_value(value: (Option<Averages>, Option<Averages>)) -> Value {
         Value::Pressure {
             some: value.0,
             full: value.1,
@@ -146,7 +147,7 @@ impl Turn<OneOrBoth<PressureLine, PressureLine>> for ToPressure {
         0
     }
 
-    ghost no_more = { λ v. zero_least _ };
+    ghost adds_no_memory = { λ v. zero_least _ };
 }
 
 type Text = Mapped<OneOrBoth<PressureLine, PressureLine>, ToPressure>;

@@ -5,7 +5,7 @@ ghost use Rattle.cg_text.specs.Token.{Spells};
 ghost use Rattle.cg_value.specs.Files.{KindText};
 ghost use Rattle.cg_value.specs.declared.kind.ReadForm.TheVariants.{Set as SetForm};
 
-use cg_join::{Line, Sequence, Turn, one_line, run_parts};
+use cg_join::{Line, MapValue, Sequence, one_line, run_parts};
 use cg_text::{ByteText, NumberSet, OutOfMemory, StrictListText, Token};
 use cg_value::Value;
 use std::alloc::Global;
@@ -84,17 +84,17 @@ impl Token for ListText {
 #[derive(Clone, Copy)]
 pub struct ToSet;
 
-impl Turn<Sequence<ListText, ByteText>> for ToSet {
+impl MapValue<Sequence<ListText, ByteText>> for ToSet {
     type To = Value;
 
     ghost use Rattle.cg_join.specs.SettledLaws.{zero_least};
-    ghost use Rattle.cg_file.specs.OneLineTurned.{set_value};
+    ghost use Rattle.cg_file.specs.OneLineMapped.{set_value};
 
-    ghost turned = { set_value };
+    ghost mapped = { set_value };
 
     ghost value_size = { λ _. 0 };
 
-    fn turn(value: (NumberSet, ())) -> Value {
+    fn map_value(value: (NumberSet, ())) -> Value {
         Value::Set(value.0)
     }
 
@@ -102,7 +102,7 @@ impl Turn<Sequence<ListText, ByteText>> for ToSet {
         0
     }
 
-    ghost no_more = { λ v. zero_least _ };
+    ghost adds_no_memory = { λ v. zero_least _ };
 }
 
 type Text = Line<ListText, ToSet>;

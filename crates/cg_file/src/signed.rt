@@ -4,7 +4,7 @@ ghost use Rattle.cg_text.specs.Token.{Spells};
 ghost use Rattle.cg_value.specs.Files.{KindText};
 ghost use Rattle.cg_value.specs.declared.kind.ReadForm.TheVariants.{Signed as SignedForm};
 
-use cg_join::{Line, Sequence, Turn, one_line};
+use cg_join::{Line, MapValue, Sequence, one_line};
 use cg_text::{ByteText, OutOfMemory, SignedText, Token};
 use cg_value::Value;
 
@@ -12,17 +12,17 @@ use cg_value::Value;
 #[derive(Clone, Copy)]
 pub struct ToSigned;
 
-impl Turn<Sequence<SignedText, ByteText>> for ToSigned {
+impl MapValue<Sequence<SignedText, ByteText>> for ToSigned {
     type To = Value;
 
     ghost use Rattle.cg_join.specs.SettledLaws.{zero_least};
-    ghost use Rattle.cg_file.specs.OneLineTurned.{signed_value};
+    ghost use Rattle.cg_file.specs.OneLineMapped.{signed_value};
 
-    ghost turned = { signed_value };
+    ghost mapped = { signed_value };
 
     ghost value_size = { λ _. 0 };
 
-    fn turn(value: (i64, ())) -> Value {
+    fn map_value(value: (i64, ())) -> Value {
         Value::Signed(value.0)
     }
 
@@ -30,7 +30,7 @@ impl Turn<Sequence<SignedText, ByteText>> for ToSigned {
         0
     }
 
-    ghost no_more = { λ v. zero_least _ };
+    ghost adds_no_memory = { λ v. zero_least _ };
 }
 
 type Text = Line<SignedText, ToSigned>;

@@ -3,10 +3,10 @@ ghost use Rattle.std.specs.Prelude.{◌≡◌, true};
 ghost use Rattle.cg_text.specs.Token.{Spells};
 ghost use Rattle.cg_value.specs.Files.{KindText};
 ghost use Rattle.cg_value.specs.declared.kind.ReadForm.TheVariants.{Words as WordsForm};
-ghost use Rattle.cg_file.specs.WordsTurned.{AreSpacedWords, IsWordsText};
+ghost use Rattle.cg_file.specs.WordsMapped.{AreSpacedWords, IsWordsText};
 
 use cg_index::KeyedItems;
-use cg_join::{DistinctWords, Mapped, OrReady, Sequence, Turn, WordStart};
+use cg_join::{DistinctWords, MapValue, Mapped, OrReady, Sequence, WordStart};
 use cg_text::{ByteText, Key, OutOfMemory, Token};
 use cg_value::Value;
 use std::alloc::Global;
@@ -100,17 +100,17 @@ fn words_line(alloc: Global) -> WordsLine
 #[derive(Clone, Copy)]
 pub struct ToWords;
 
-impl Turn<WordsLine> for ToWords {
+impl MapValue<WordsLine> for ToWords {
     type To = Value;
 
     ghost use Rattle.cg_join.specs.SettledLaws.{zero_least};
-    ghost use Rattle.cg_file.specs.WordsTurned.{words_value};
+    ghost use Rattle.cg_file.specs.WordsMapped.{words_value};
 
-    ghost turned = { words_value };
+    ghost mapped = { words_value };
 
     ghost value_size = { λ _. 0 };
 
-    fn turn(value: (KeyedItems<Key>, ())) -> Value {
+    fn map_value(value: (KeyedItems<Key>, ())) -> Value {
         Value::Words(value.0)
     }
 
@@ -118,7 +118,7 @@ impl Turn<WordsLine> for ToWords {
         0
     }
 
-    ghost no_more = { λ v. zero_least _ };
+    ghost adds_no_memory = { λ v. zero_least _ };
 }
 
 type Text = Mapped<WordsLine, ToWords>;

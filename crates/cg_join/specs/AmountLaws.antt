@@ -5,7 +5,7 @@ use Rattle.cg_text.specs.Decimal.{IsDecimal, AreDigits}
 use Rattle.cg_text.specs.DecimalLaws.{number_digits}
 use Rattle.cg_text.specs.Hundredths.{IsHundredths}
 use Rattle.cg_text.specs.declared.decimal.Progress.TheVariants.{Start}
-use Rattle.cg_text.specs.declared.hundredths.Form.TheVariants.{Read}
+use Rattle.cg_text.specs.declared.hundredths.Spelling.TheVariants.{Read}
 use Rattle.cg_text.specs.declared.values.Amount.{Amount}
 use Rattle.cg_text.specs.declared.values.Amount.TheVariants.{Whole, Decimal, Max, Below}
 use Rattle.cg_text.specs.declared.values.Hundredths.{Hundredths}
@@ -17,7 +17,7 @@ use Rattle.cg_join.specs.Composites.{IsNumberIn}
 use Rattle.cg_join.specs.DisjointLaws.{allowed_disjoint, begins_disjoint, digits_disjoint, disjoint_swap, either_disjoint}
 use Rattle.cg_join.specs.FilledLaws.{first_filled, fixed_filled}
 use Rattle.cg_join.specs.MaxLaws.{max_not_decimal, max_not_hundredths}
-use Rattle.cg_join.specs.Spelling.{IsAllowed, IsConcat, IsEither, IsTurned, Disjoint}
+use Rattle.cg_join.specs.Spelling.{IsAllowed, IsConcat, IsEither, IsMappedText, Disjoint}
 use Rattle.cg_join.specs.TextBytes.{IsFixed}
 
 dot_no_digit : (front back : List ℕ) → AreDigits (front ++ 46 ∷ back) → ⊥
@@ -77,12 +77,12 @@ amount_from signed text (Left (Right n)) h = h
 amount_from signed text (Right (Left u)) h = h
 amount_from signed text (Right (Right v)) h = (h.0, below_from text v h.1)
 
-amount_to : (signed : Bool) (text : List ℕ) (v : Amount) → IsAmount signed v text → IsTurned (IsAnAmount signed) amount_of text v
+amount_to : (signed : Bool) (text : List ℕ) (v : Amount) → IsAmount signed v text → IsMappedText (IsAnAmount signed) amount_of text v
 amount_to signed text Max h = (Right (Left tt), h, refl)
 amount_to signed text (Whole n) h = (Left (Left n), h, refl)
 amount_to signed text (Decimal n) h = (Left (Right n), h, refl)
 amount_to signed text (Below n) h = (Right (Right (tt, n)), (h.0, below_to text n h.1), refl)
 
 -- The alternatives of an amount, turned into its values.
-pub amount_is : (signed : Bool) (text : List ℕ) (v : Amount) → IsTurned (IsAnAmount signed) amount_of text v ↔ IsAmount signed v text
+pub amount_is : (signed : Bool) (text : List ℕ) (v : Amount) → IsMappedText (IsAnAmount signed) amount_of text v ↔ IsAmount signed v text
 amount_is signed text v = (λ h. (let k = amount_from signed text h.0 h.1 in rw h.2 at k), λ h. amount_to signed text v h)

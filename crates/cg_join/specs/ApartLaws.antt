@@ -6,7 +6,7 @@ use Rattle.cg_text.specs.TextsLaws.{only_at_end}
 use Rattle.cg_join.specs.Line.{IsLine}
 use Rattle.cg_text.specs.Token.{Spells}
 use Rattle.cg_join.specs.Join.{AreApart}
-use Rattle.cg_join.specs.Spelling.{IsConcat, IsTurned, Apart, apart_spells}
+use Rattle.cg_join.specs.Spelling.{IsConcat, IsMappedText, Apart, apart_spells}
 use Rattle.cg_join.specs.TextBytes.{IsFixed, BeginsBy, Lacking}
 use Rattle.cg_join.specs.BeginsLaws.{label_begins}
 
@@ -57,7 +57,7 @@ ended_apart {b = b} Q lacks front more back byte v u w h k l =
     ended lacks h.front k.front front more byte u.0 k.begins (rw h.ends at h.whole) (rw k.ends at k.whole)
 
 -- A line goes on with nothing.
-pub lines_apart : {V W X : Type 0} {R : List ℕ → V → Type 0} (f : V × Unit {0} → X) (Q : List ℕ → W → Type 0) → Lacking R 10 → Apart (IsTurned (IsLine R) f) Q
+pub lines_apart : {V W X : Type 0} {R : List ℕ → V → Type 0} (f : V × Unit {0} → X) (Q : List ℕ → W → Type 0) → Lacking R 10 → Apart (IsMappedText (IsLine R) f) Q
 lines_apart f Q lacks front more back byte v u w h k l = ended lacks h.1.front k.1.front front more byte k.0.0 k.1.spells h.1.whole k.1.whole
 
 pub fixed_spells : {S T W : Type 0} {A : S → List ℕ → Unit {0} → Type 0} {B : T → List ℕ → W → Type 0} {s : S} {t : T} {Q : List ℕ → W → Type 0} {fixed : List ℕ} → Spells A s (IsFixed fixed) → Spells B t Q → AreApart A B s t

@@ -6,12 +6,12 @@ use Rattle.cg_text.specs.Hundredths.{IsHundredths}
 use Rattle.cg_text.specs.Name.{IsLower, IsNameValue}
 use Rattle.cg_text.specs.Size.{HasSize, IsSize}
 use Rattle.cg_text.specs.declared.decimal.Progress.TheVariants.{Start}
-use Rattle.cg_text.specs.declared.hundredths.Form.TheVariants.{Read}
+use Rattle.cg_text.specs.declared.hundredths.Spelling.TheVariants.{Read}
 use Rattle.cg_join.specs.FilledLaws.{fixed_filled, first_filled}
 use Rattle.cg_join.specs.Maybe.{IsMaybe}
 use Rattle.cg_join.specs.Repeat.{AreJoined}
 use Rattle.cg_join.specs.Distinct.{AreDistinctJoined}
-use Rattle.cg_join.specs.Spelling.{IsConcat, IsEither, IsTurned}
+use Rattle.cg_join.specs.Spelling.{IsConcat, IsEither, IsMappedText}
 use Rattle.cg_join.specs.StartLaws.{digit_inside}
 use Rattle.cg_join.specs.TextBytes.{IsFixed, HasOnly, BeginsBy, Filled}
 use Rattle.cg_join.specs.declared.choice.Either.{Either}
@@ -100,8 +100,8 @@ pub lead_begins : {V W : Type 0} {Q : List ℕ → V → Type 0} {R : List ℕ �
 lead_begins b more = concat_begins (first_filled (fixed_filled b more)) (label_begins b more)
 
 module _ {V : Type 0} {F : ℕ → Type 0} {R : List ℕ → V → Type 0} where
-  pub turned_begins : {W : Type 0} {f : V → W} → BeginsBy F R → BeginsBy F (IsTurned R f)
-  turned_begins k = record { is = λ byte back w h. k.is byte back h.0 h.1 }
+  pub mapped_text_begins : {W : Type 0} {f : V → W} → BeginsBy F R → BeginsBy F (IsMappedText R f)
+  mapped_text_begins k = record { is = λ byte back w h. k.is byte back h.0 h.1 }
 
   pub maybe_begins_by : BeginsBy F R → BeginsBy F (IsMaybe R)
   maybe_begins_by f = record { is = at_maybe }

@@ -1,6 +1,6 @@
 -- What holds of texts of several values.
 use Rattle.std.proofs.Common.{◌≡◌, ℕ, ◌↔◌, List, [], ◌∷◌, ◌++◌, refl, codes, arith}
-use Rattle.cg_text.specs.declared.hundredths.Form.TheVariants.{Read}
+use Rattle.cg_text.specs.declared.hundredths.Spelling.TheVariants.{Read}
 use Rattle.cg_text.specs.declared.keyword.Keyword.TheVariants as keyword
 use Rattle.cg_text.specs.declared.values.Limit.{Limit}
 use Rattle.cg_join.specs.Composites.{IsAnyLimit, IsAnyNumber, IsAverage, IsQuotaAndPeriod, IsWrittenQuota, IsDeviceTarget, AreAverages}

@@ -5,7 +5,7 @@ use Rattle.cg_text.specs.Device.{IsDevice}
 use Rattle.cg_text.specs.Hundredths.{IsHundredths}
 use Rattle.cg_text.specs.Keyword.{text_of}
 use Rattle.cg_text.specs.Limit.{IsLimit}
-use Rattle.cg_text.specs.declared.hundredths.Form.TheVariants.{Read}
+use Rattle.cg_text.specs.declared.hundredths.Spelling.TheVariants.{Read}
 use Rattle.cg_text.specs.declared.keyword.Keyword.{Keyword}
 use Rattle.cg_text.specs.declared.keyword.Keyword.TheVariants as keyword
 use Rattle.cg_text.specs.declared.values.Device.{Device}

@@ -25,29 +25,29 @@ pub label_spells : {S X V : Type 0} {A : S → List ℕ → V → Type 0} {s : S
 label_spells a m = spells_as m (concat_as (λ text u. (λ h. h, λ h. h)) a.is)
 
 -- A fixed text stands before a text.
-module _ {W : Type 0} (mark : List ℕ) (Q : List ℕ → W → Type 0) where
-  pub label_is : (text : List ℕ) (v : Unit {0} × W) → IsConcat (IsFixed mark) Q text v ↔ ((back : List ℕ) × (text ≡ mark ++ back) × Q back v.1)
+module _ {W : Type 0} (delimiter : List ℕ) (Q : List ℕ → W → Type 0) where
+  pub label_is : (text : List ℕ) (v : Unit {0} × W) → IsConcat (IsFixed delimiter) Q text v ↔ ((back : List ℕ) × (text ≡ delimiter ++ back) × Q back v.1)
   label_is text v = (
     λ h. (h.back, (rw h.begins at h.whole), h.ends),
-    λ h. record { front = mark; back = h.0; whole = h.1; begins = refl; ends = h.2 },
+    λ h. record { front = delimiter; back = h.0; whole = h.1; begins = refl; ends = h.2 },
   )
 
   -- The same between two texts.
   pub parts_is : {V : Type 0} (R : List ℕ → V → Type 0) (text : List ℕ) (v : V × (Unit {0} × W)) →
-      IsConcat R (IsConcat (IsFixed mark) Q) text v ↔
-      ((front : List ℕ) × (back : List ℕ) × (text ≡ front ++ mark ++ back) × R front v.0 × Q back v.1.1)
+      IsConcat R (IsConcat (IsFixed delimiter) Q) text v ↔
+      ((front : List ℕ) × (back : List ℕ) × (text ≡ front ++ delimiter ++ back) × R front v.0 × Q back v.1.1)
   parts_is R text v = (
-    λ h. (let k = (label_is h.back v.1).0 h.ends in (h.front, k.0, h.whole ∙ ap (λ x. h.front ++ x) k.1 ∙ sym (append_assoc h.front mark k.0), h.begins, k.2)),
-    λ h. record { front = h.0; back = mark ++ h.1; whole = h.2 ∙ append_assoc h.0 mark h.1; begins = h.3; ends = (label_is (mark ++ h.1) v.1).1 (h.1, refl, h.4) },
+    λ h. (let k = (label_is h.back v.1).0 h.ends in (h.front, k.0, h.whole ∙ ap (λ x. h.front ++ x) k.1 ∙ sym (append_assoc h.front delimiter k.0), h.begins, k.2)),
+    λ h. record { front = h.0; back = delimiter ++ h.1; whole = h.2 ∙ append_assoc h.0 delimiter h.1; begins = h.3; ends = (label_is (delimiter ++ h.1) v.1).1 (h.1, refl, h.4) },
   )
 
   -- A fixed text and a text before a third.
   pub lead_is : {V : Type 0} (R : List ℕ → V → Type 0) (text : List ℕ) (v : (Unit {0} × W) × V) →
-      IsConcat (IsConcat (IsFixed mark) Q) R text v ↔
-      ((middle : List ℕ) × (back : List ℕ) × (text ≡ mark ++ middle ++ back) × Q middle v.0.1 × R back v.1)
+      IsConcat (IsConcat (IsFixed delimiter) Q) R text v ↔
+      ((middle : List ℕ) × (back : List ℕ) × (text ≡ delimiter ++ middle ++ back) × Q middle v.0.1 × R back v.1)
   lead_is R text v = (
     λ h. (let k = (label_is h.front v.0).0 h.begins in (k.0, h.back, h.whole ∙ ap (λ x. x ++ h.back) k.1, k.2, h.ends)),
-    λ h. record { front = mark ++ h.0; back = h.1; whole = h.2; begins = (label_is (mark ++ h.0) v.0).1 (h.0, refl, h.3); ends = h.4 },
+    λ h. record { front = delimiter ++ h.0; back = h.1; whole = h.2; begins = (label_is (delimiter ++ h.0) v.0).1 (h.0, refl, h.3); ends = h.4 },
   )
 
 -- What may follow a text does, or doesn't.

@@ -6,7 +6,7 @@ use Rattle.cg_join.specs.Composites.{IsADevice}
 use Rattle.cg_join.specs.DeviceNameState.{device_named}
 use Rattle.cg_join.specs.DisjointLaws.{device_has, disjoint_swap, lacking_disjoint}
 use Rattle.cg_join.specs.LackingLaws.{fixed_lacking}
-use Rattle.cg_join.specs.Spelling.{IsAllowed, IsEither, IsTurned, Disjoint}
+use Rattle.cg_join.specs.Spelling.{IsAllowed, IsEither, IsMappedText, Disjoint}
 use Rattle.cg_join.specs.TextBytes.{IsFixed}
 use Rattle.cg_join.specs.declared.choice.Either.{Either}
 use Rattle.cg_join.specs.declared.choice.Either.TheVariants.{Left, Right}
@@ -22,10 +22,10 @@ name_from : (unknown : Bool) (text : List ℕ) (x : Either Device (Unit {0})) �
 name_from unknown text (Left device) h = h
 name_from unknown text (Right u) h = h
 
-name_to : (unknown : Bool) (text : List ℕ) (v : Option Device) → IsDeviceName unknown v text → IsTurned (IsEither IsADevice (IsAllowed unknown IsGone)) device_named text v
+name_to : (unknown : Bool) (text : List ℕ) (v : Option Device) → IsDeviceName unknown v text → IsMappedText (IsEither IsADevice (IsAllowed unknown IsGone)) device_named text v
 name_to unknown text None h = (Right tt, h, refl)
 name_to unknown text (Some device) h = (Left device, h, refl)
 
 -- The two alternatives of a device's name, turned into its values.
-pub device_name_is : (unknown : Bool) (text : List ℕ) (v : Option Device) → IsTurned (IsEither IsADevice (IsAllowed unknown IsGone)) device_named text v ↔ IsDeviceName unknown v text
+pub device_name_is : (unknown : Bool) (text : List ℕ) (v : Option Device) → IsMappedText (IsEither IsADevice (IsAllowed unknown IsGone)) device_named text v ↔ IsDeviceName unknown v text
 device_name_is unknown text v = (λ h. (let k = name_from unknown text h.0 h.1 in rw h.2 at k), λ h. name_to unknown text v h)

@@ -31,26 +31,26 @@ list_lacks P R separator b ne p r (x ∷ y ∷ ps) front more h =
       | inr (inr q) ↦ (let t : h.1 ≡ q.1 ++ b ∷ more = (let e = q.3 in cc) in let m = rw t at h.4 in list_lacks R R separator b ne r r (y ∷ ps) q.1 more m)
     ]
 
-module _ {V W X : Type 0} (word : X → V) (value : X → W) (K : List ℕ → V → Type 0) (D : List ℕ → W → Type 0) (mark separator : ℕ) where
+module _ {V W X : Type 0} (word : X → V) (value : X → W) (K : List ℕ → V → Type 0) (D : List ℕ → W → Type 0) (delimiter separator : ℕ) where
   abbrev Joined : List ℕ → List X → Type 0
-  Joined = AreJoinedPairs word (IsPairText word value K D mark) separator
+  Joined = AreJoinedPairs word (IsPairText word value K D delimiter) separator
 
-  pub joined_lacks : (b : ℕ) → (mark ≡ b → ⊥) → (separator ≡ b → ⊥) → LacksByte K b → LacksByte D b → LacksByte Joined b
+  pub joined_lacks : (b : ℕ) → (delimiter ≡ b → ⊥) → (separator ≡ b → ⊥) → LacksByte K b → LacksByte D b → LacksByte Joined b
   joined_lacks b ne ne' k d front more ps h =
-      let lacks = pair_lacks word value mark K D b ne k d in
-      list_lacks (IsPairText word value K D mark) (IsPairText word value K D mark) separator b ne' lacks lacks ps front more h.0
+      let lacks = pair_lacks word value delimiter K D b ne k d in
+      list_lacks (IsPairText word value K D delimiter) (IsPairText word value K D delimiter) separator b ne' lacks lacks ps front more h.0
 
-  pub joined_one : (paired : V → W → X) → ((p : X) → paired (word p) (value p) ≡ p) → LacksByte K mark → Stops D separator → HasOneText K → HasOneText D → HasOneText Joined
+  pub joined_one : (paired : V → W → X) → ((p : X) → paired (word p) (value p) ≡ p) → LacksByte K delimiter → Stops D separator → HasOneText K → HasOneText D → HasOneText Joined
   joined_one paired whole lacks stops one two text ps qs h k =
-      let R : List ℕ → X → Type 0 = IsPairText word value K D mark in
-      let apart = pair_stops word value mark K D separator lacks stops in
-      let each = pair_one word value K mark paired whole D lacks one two in
+      let R : List ℕ → X → Type 0 = IsPairText word value K D delimiter in
+      let apart = pair_stops word value delimiter K D separator lacks stops in
+      let each = pair_one word value K delimiter paired whole D lacks one two in
       list_one separator R R apart apart each each text ps qs h.0 k.0
 
-  pub joined_bytes : mark < 256 → separator < 256 → ((text : List ℕ) (v : V) → K text v → AreBytes text) → ((text : List ℕ) (w : W) → D text w → AreBytes text) → (text : List ℕ) (ps : List X) → Joined text ps → AreBytes text
+  pub joined_bytes : delimiter < 256 → separator < 256 → ((text : List ℕ) (v : V) → K text v → AreBytes text) → ((text : List ℕ) (w : W) → D text w → AreBytes text) → (text : List ℕ) (ps : List X) → Joined text ps → AreBytes text
   joined_bytes small small_separator f g text ps h =
-      let R : List ℕ → X → Type 0 = IsPairText word value K D mark in
-      let each = pair_bytes word value mark K D small f g in
+      let R : List ℕ → X → Type 0 = IsPairText word value K D delimiter in
+      let each = pair_bytes word value delimiter K D small f g in
       list_bytes R R separator small_separator each each text ps h.0
 
   pub joined_some : (paired : V → W → X) → ((v : V) (w : W) → word (paired v w) ≡ v) →
@@ -59,7 +59,7 @@ module _ {V W X : Type 0} (word : X → V) (value : X → W) (K : List ℕ → V
       ((text : List ℕ) × (w : W) × D text w) →
       (text : List ℕ) × (ps : List X) × Joined text ps
   joined_some paired has_word has_value new some =
-      let q = new_pair word value paired has_word has_value mark K D new some [] in
+      let q = new_pair word value paired has_word has_value delimiter K D new some [] in
       (q.0, q.1 ∷ [], (q.2, (tt, tt)))
 
 pub no_pairs : {X : Type 0} (f : X → ℕ) (ps : List X) → Some [] ≡ Some ps → items_size f ps ≡ 0

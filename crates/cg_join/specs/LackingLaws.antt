@@ -21,13 +21,13 @@ use Rattle.cg_text.specs.Size.{IsSize}
 use Rattle.cg_text.specs.Texts.{Lacks}
 use Rattle.cg_text.specs.TextsLaws.{lacks_inside}
 use Rattle.cg_text.specs.Trigger.{AreTimes}
-use Rattle.cg_text.specs.declared.hundredths.Form.{Form}
+use Rattle.cg_text.specs.declared.hundredths.Spelling.{Spelling}
 use Rattle.cg_text.specs.declared.keyword.Keyword.{Keyword}
 use Rattle.cg_join.specs.Distinct.{AreDistinctJoined}
 use Rattle.cg_join.specs.Maybe.{IsMaybe}
 use Rattle.cg_join.specs.Ready.{IsOrReady}
 use Rattle.cg_join.specs.Repeat.{IsList, AreJoined}
-use Rattle.cg_join.specs.Spelling.{IsConcat, IsEither, IsTurned}
+use Rattle.cg_join.specs.Spelling.{IsConcat, IsEither, IsMappedText}
 use Rattle.cg_join.specs.StartLaws.{decimal_only}
 use Rattle.cg_join.specs.TextBytes.{IsFixed, Lacking}
 use Rattle.cg_join.specs.WordStartLaws.{SpellsWord}
@@ -51,16 +51,16 @@ not_inside b [] more e = cc
 not_inside b (c ∷ front) more e = cc
 
 -- The same with a byte between that is another.
-inside_parts : (b mark : ℕ) → mark ≢ b → (xs ys front more : List ℕ) → front ++ b ∷ more ≡ xs ++ mark ∷ ys → ((m : List ℕ) × (xs ≡ front ++ b ∷ m)) ⊎ ((f : List ℕ) × (ys ≡ f ++ b ∷ more))
-inside_parts b mark n xs ys front more e =
-    elim (inside_both b xs (mark ∷ ys) front more e) [
+inside_parts : (b delimiter : ℕ) → delimiter ≢ b → (xs ys front more : List ℕ) → front ++ b ∷ more ≡ xs ++ delimiter ∷ ys → ((m : List ℕ) × (xs ≡ front ++ b ∷ m)) ⊎ ((f : List ℕ) × (ys ≡ f ++ b ∷ more))
+inside_parts b delimiter n xs ys front more e =
+    elim (inside_both b xs (delimiter ∷ ys) front more e) [
       | inl h ↦ inl h
-      | inr h ↦ inr (after b mark n ys more h.0 h.1)
+      | inr h ↦ inr (after b delimiter n ys more h.0 h.1)
     ]
   where
-    after : (b mark : ℕ) → mark ≢ b → (ys more f : List ℕ) → mark ∷ ys ≡ f ++ b ∷ more → (f : List ℕ) × (ys ≡ f ++ b ∷ more)
-    after b mark n ys more [] e = absurd (n (cc))
-    after b mark n ys more (c ∷ f) e = (f, cc)
+    after : (b delimiter : ℕ) → delimiter ≢ b → (ys more f : List ℕ) → delimiter ∷ ys ≡ f ++ b ∷ more → (f : List ℕ) × (ys ≡ f ++ b ∷ more)
+    after b delimiter n ys more [] e = absurd (n (cc))
+    after b delimiter n ys more (c ∷ f) e = (f, cc)
 
 -- Where each text lacks it.
 pub each_lacking : {V : Type 0} (R : List ℕ → V → Type 0) (b : ℕ) → ((text : List ℕ) (v : V) → R text v → Lacks b text) → Lacking R b
@@ -90,10 +90,10 @@ signed_lacking b lo hi low = above_lacking (λ text z. IsSigned lo hi z text) b 
 pub limit_lacking : (b lo hi : ℕ) → b ≤ 32 → Lacking (λ text v. IsLimit lo hi v text) b
 limit_lacking b lo hi low = above_lacking (λ text v. IsLimit lo hi v text) b low (λ text v h. limit_above lo hi v text h)
 
-pub hundredths_lacking : (b : ℕ) (form : Form) (most : ℕ) → b ≤ 32 → Lacking (λ text v. IsHundredths form most v text) b
+pub hundredths_lacking : (b : ℕ) (form : Spelling) (most : ℕ) → b ≤ 32 → Lacking (λ text v. IsHundredths form most v text) b
 hundredths_lacking b form most low = above_lacking (λ text v. IsHundredths form most v text) b low (λ text v h. hundredths_above form most v text h)
 
-pub clamp_lacking : (b : ℕ) (form : Form) → b ≤ 32 → Lacking (λ text v. IsClamp form v text) b
+pub clamp_lacking : (b : ℕ) (form : Spelling) → b ≤ 32 → Lacking (λ text v. IsClamp form v text) b
 clamp_lacking b form low = above_lacking (λ text v. IsClamp form v text) b low (λ text v h. clamp_above form v text h)
 
 pub amount_lacking : (b : ℕ) (signed : Bool) → b ≤ 32 → Lacking (λ text v. IsAmount signed v text) b
@@ -150,8 +150,8 @@ module _ {V W : Type 0} {R : List ℕ → V → Type 0} {Q : List ℕ → W → 
       at_either front more (Right w) h = g.is front more w h
 
 module _ {V : Type 0} {R : List ℕ → V → Type 0} {b : ℕ} where
-  pub turned_lacking : {W : Type 0} {f : V → W} → Lacking R b → Lacking (IsTurned R f) b
-  turned_lacking k = record { is = λ front more w h. k.is front more h.0 h.1 }
+  pub mapped_text_lacking : {W : Type 0} {f : V → W} → Lacking R b → Lacking (IsMappedText R f) b
+  mapped_text_lacking k = record { is = λ front more w h. k.is front more h.0 h.1 }
 
   pub maybe_lacking : Lacking R b → Lacking (IsMaybe R) b
   maybe_lacking f = record { is = λ front more v h. at_maybe front more v h }

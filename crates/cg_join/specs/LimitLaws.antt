@@ -6,17 +6,17 @@ use Rattle.cg_text.specs.declared.values.Limit.{Limit}
 use Rattle.cg_text.specs.declared.values.Limit.TheVariants.{Max, At}
 use Rattle.cg_join.specs.declared.choice.Either.{Either}
 use Rattle.cg_join.specs.declared.choice.Either.TheVariants.{Left, Right}
-use Rattle.cg_join.specs.Spelling.{IsEither, IsTurned}
+use Rattle.cg_join.specs.Spelling.{IsEither, IsMappedText}
 use Rattle.cg_join.specs.LimitState.{limit_of}
 
 limit_from : (lo hi : ℕ) (text : List ℕ) (x : Either ℕ (Unit {0})) → IsEither (λ t n. IsDecimal lo hi n t) (λ t _. t ≡ codes "max") text x → IsLimit lo hi (limit_of x) text
 limit_from lo hi text (Left n) h = h
 limit_from lo hi text (Right u) h = h
 
-limit_to : (lo hi : ℕ) (text : List ℕ) (v : Limit) → IsLimit lo hi v text → IsTurned (IsEither (λ t n. IsDecimal lo hi n t) (λ t (_ : Unit {0}). t ≡ codes "max")) limit_of text v
+limit_to : (lo hi : ℕ) (text : List ℕ) (v : Limit) → IsLimit lo hi v text → IsMappedText (IsEither (λ t n. IsDecimal lo hi n t) (λ t (_ : Unit {0}). t ≡ codes "max")) limit_of text v
 limit_to lo hi text Max h = (Right tt, h, refl)
 limit_to lo hi text (At n) h = (Left n, h, refl)
 
 -- The two alternatives of a limit, turned into its values.
-pub limit_is : (lo hi : ℕ) (text : List ℕ) (v : Limit) → IsTurned (IsEither (λ t n. IsDecimal lo hi n t) (λ t (_ : Unit {0}). t ≡ codes "max")) limit_of text v ↔ IsLimit lo hi v text
+pub limit_is : (lo hi : ℕ) (text : List ℕ) (v : Limit) → IsMappedText (IsEither (λ t n. IsDecimal lo hi n t) (λ t (_ : Unit {0}). t ≡ codes "max")) limit_of text v ↔ IsLimit lo hi v text
 limit_is lo hi text v = (λ h. (let k = limit_from lo hi text h.0 h.1 in rw h.2 at k), λ h. limit_to lo hi text v h)

@@ -3,7 +3,7 @@ use Rattle.std.proofs.Common.{ℕ, ◌↔◌, List, Some, None, refl, sym, ◌�
 use Rattle.cg_text.specs.Token.{HasOneText}
 use Rattle.cg_join.specs.Maybe.{IsMaybe}
 use Rattle.cg_join.specs.SequenceLaws.{sequence_one, both_same}
-use Rattle.cg_join.specs.Spelling.{IsConcat, IsEither, IsTurned, Apart, Disjoint}
+use Rattle.cg_join.specs.Spelling.{IsConcat, IsEither, IsMappedText, Apart, Disjoint}
 use Rattle.cg_join.specs.TextBytes.{IsFixed, Filled}
 use Rattle.cg_join.specs.declared.choice.Either.TheVariants.{Left, Right}
 
@@ -13,8 +13,8 @@ one_as e one text v w h k = one text v w ((e text v).1 h) ((e text w).1 k)
 pub fixed_one : (fixed : List ℕ) → HasOneText (IsFixed fixed)
 fixed_one fixed text v w h k = refl
 
-pub turned_one : {V W : Type 0} {R : List ℕ → V → Type 0} (f : V → W) → HasOneText R → HasOneText (IsTurned R f)
-turned_one f one text v w h k = sym h.2 ∙ ap f (one text h.0 k.0 h.1 k.1) ∙ k.2
+pub mapped_text_one : {V W : Type 0} {R : List ℕ → V → Type 0} (f : V → W) → HasOneText R → HasOneText (IsMappedText R f)
+mapped_text_one f one text v w h k = sym h.2 ∙ ap f (one text h.0 k.0 h.1 k.1) ∙ k.2
 
 module _ {V W : Type 0} {R : List ℕ → V → Type 0} {Q : List ℕ → W → Type 0} where
   pub concat_one : Apart R Q → HasOneText R → HasOneText Q → HasOneText (IsConcat R Q)

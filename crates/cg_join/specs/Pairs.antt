@@ -1,4 +1,4 @@
--- Pairs of a word and a value, with a mark between the two texts, and a separator before each pair.
+-- Pairs of a word and a value, with a delimiter between the two texts, and a separator before each pair.
 use Rattle.std.specs.Prelude.{◌≡◌, ℕ, ◌+◌, ◌≤◌, List, [], ◌∷◌, ◌++◌, length, take, map}
 use Rattle.cg_join.specs.Repeat.{IsList, IsListAfter}
 use Rattle.cg_join.specs.Distinct.{AreDistinct}
@@ -6,23 +6,23 @@ use Rattle.cg_join.specs.declared.pairs.Stage.{Stage}
 use Rattle.cg_join.specs.declared.pairs.Stage.TheVariants.{Before, InWord, InValue}
 
 module _ {V W X : Type 0} (word : X → V) (value : X → W) (K : List ℕ → V → Type 0) (D : List ℕ → W → Type 0) where
-  -- A text of the pair's word, the mark, and a text of its value.
-  pub record IsPairText (mark : ℕ) (text : List ℕ) (p : X) : Type 0 where
+  -- A text of the pair's word, the delimiter, and a text of its value.
+  pub record IsPairText (delimiter : ℕ) (text : List ℕ) (p : X) : Type 0 where
     pub front : List ℕ
     pub back : List ℕ
-    pub whole : text ≡ front ++ mark ∷ back
+    pub whole : text ≡ front ++ delimiter ∷ back
     pub begins : K front (word p)
     pub ends : D back (value p)
 
   -- The pair's text is in front of the bytes, and is so long.
   abbrev pub IsPairFront : ℕ → List ℕ → X × ℕ → Type 0
-  IsPairFront mark bytes found = (found.1 ≤ length bytes) × IsPairText mark (take found.1 bytes) found.0
+  IsPairFront delimiter bytes found = (found.1 ≤ length bytes) × IsPairText delimiter (take found.1 bytes) found.0
 
   -- What is left of a pair, where its word isn't ended, or where it is.
   abbrev pub PairRest : Stage → ℕ → List ℕ → X → Type 0
-  PairRest Before mark rest p = IsPairText mark rest p
-  PairRest InWord mark rest p = IsPairText mark rest p
-  PairRest InValue mark rest p = K [] (word p) × D rest (value p)
+  PairRest Before delimiter rest p = IsPairText delimiter rest p
+  PairRest InWord delimiter rest p = IsPairText delimiter rest p
+  PairRest InValue delimiter rest p = K [] (word p) × D rest (value p)
 
 -- Any number of texts, also none, with a separator before each: the first by P and the others by R.
 abbrev pub AreLedFrom : {X : Type 0} → (List ℕ → X → Type 0) → (List ℕ → X → Type 0) → ℕ → List ℕ → List X → Type 0

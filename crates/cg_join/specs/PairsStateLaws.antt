@@ -6,7 +6,7 @@ use Rattle.cg_join.specs.Repeat.{Stops, items_size}
 use Rattle.cg_join.specs.RepeatLaws.{size_pushed}
 use Rattle.cg_join.specs.Distinct.{LacksValue, AreDistinct}
 use Rattle.cg_join.specs.Pairs.{IsPairText, PairRest, ArePairsAfter, pair_size}
-use Rattle.cg_join.specs.PairsLaws.{ends_at, mark_step, pair_bytes, pair_one, pair_stops, paired_ended, pairs_completes, pairs_ends, value_one, value_stops}
+use Rattle.cg_join.specs.PairsLaws.{ends_at, delimiter_step, pair_bytes, pair_one, pair_stops, paired_ended, pairs_completes, pairs_ends, value_one, value_stops}
 use Rattle.cg_join.specs.PairsState.{IsCompleted, IsLastWord, WordAtHand, before_last, last_size, whole_pairs}
 use Rattle.cg_join.specs.declared.pairs.Stage.{Stage}
 use Rattle.cg_join.specs.declared.pairs.Stage.TheVariants.{Before, InWord, InValue}
@@ -105,26 +105,26 @@ module _ {V W X : Type 0} (word : X → V) (value : X → W) where
         omega (arith, e, f, g, none)
 
 -- The relations of a state, whatever the stage is.
-module _ {V W X : Type 0} (word : X → V) (value : X → W) (K : List ℕ → V → Type 0) (mark : ℕ) (items : List X) where
-  pub state_stops : (D : List ℕ → W → Type 0) (stage : Stage) (separator : ℕ) → LacksByte K mark → Stops D separator → Stops (PairRest word value (WordAtHand word stage items K) D stage mark) separator
-  state_stops D Before separator lacks stops = pair_stops word value mark K D separator lacks stops
-  state_stops D InWord separator lacks stops = pair_stops word value mark K D separator lacks stops
-  state_stops D InValue separator lacks stops = value_stops word value (WordAtHand word InValue items K) mark D separator stops
+module _ {V W X : Type 0} (word : X → V) (value : X → W) (K : List ℕ → V → Type 0) (delimiter : ℕ) (items : List X) where
+  pub state_stops : (D : List ℕ → W → Type 0) (stage : Stage) (separator : ℕ) → LacksByte K delimiter → Stops D separator → Stops (PairRest word value (WordAtHand word stage items K) D stage delimiter) separator
+  state_stops D Before separator lacks stops = pair_stops word value delimiter K D separator lacks stops
+  state_stops D InWord separator lacks stops = pair_stops word value delimiter K D separator lacks stops
+  state_stops D InValue separator lacks stops = value_stops word value (WordAtHand word InValue items K) delimiter D separator stops
 
-  pub state_bytes : (D : List ℕ → W → Type 0) (stage : Stage) → mark < 256 →
+  pub state_bytes : (D : List ℕ → W → Type 0) (stage : Stage) → delimiter < 256 →
       ((text : List ℕ) (v : V) → K text v → AreBytes text) → ((text : List ℕ) (w : W) → D text w → AreBytes text) →
-      (text : List ℕ) (p : X) → PairRest word value (WordAtHand word stage items K) D stage mark text p →
+      (text : List ℕ) (p : X) → PairRest word value (WordAtHand word stage items K) D stage delimiter text p →
       AreBytes text
-  state_bytes D Before small f g text p h = pair_bytes word value mark K D small f g text p h
-  state_bytes D InWord small f g text p h = pair_bytes word value mark K D small f g text p h
+  state_bytes D Before small f g text p h = pair_bytes word value delimiter K D small f g text p h
+  state_bytes D InWord small f g text p h = pair_bytes word value delimiter K D small f g text p h
   state_bytes D InValue small f g text p h = g text (value p) h.1
 
   pub state_one : (paired : V → W → X) → ((p : X) → paired (word p) (value p) ≡ p) →
-      (D : List ℕ → W → Type 0) (stage : Stage) → LacksByte K mark → HasOneText K → HasOneText D →
-      HasOneText (PairRest word value (WordAtHand word stage items K) D stage mark)
-  state_one paired whole D Before lacks one two = pair_one word value K mark paired whole D lacks one two
-  state_one paired whole D InWord lacks one two = pair_one word value K mark paired whole D lacks one two
-  state_one paired whole D InValue lacks one two = value_one word value (WordAtHand word InValue items K) mark paired whole D (one_last word items) two
+      (D : List ℕ → W → Type 0) (stage : Stage) → LacksByte K delimiter → HasOneText K → HasOneText D →
+      HasOneText (PairRest word value (WordAtHand word stage items K) D stage delimiter)
+  state_one paired whole D Before lacks one two = pair_one word value K delimiter paired whole D lacks one two
+  state_one paired whole D InWord lacks one two = pair_one word value K delimiter paired whole D lacks one two
+  state_one paired whole D InValue lacks one two = value_one word value (WordAtHand word InValue items K) delimiter paired whole D (one_last word items) two
 
 before_not_value : Before ≡ InValue → ⊥
 before_not_value e = cc
@@ -133,34 +133,34 @@ word_not_value : InWord ≡ InValue → ⊥
 word_not_value e = cc
 
 module _ {V W X : Type 0} (word : X → V) (value : X → W) (paired : V → W → X) (has_word : (v : V) (w : W) → word (paired v w) ≡ v) (has_value : (v : V) (w : W) → value (paired v w) ≡ w)
-    (items : List X) (R : List ℕ → X → Type 0) (separator mark : ℕ) (K : List ℕ → V → Type 0) (D : List ℕ → W → Type 0) (d : AreDistinct (map word items)) where
+    (items : List X) (R : List ℕ → X → Type 0) (separator delimiter : ℕ) (K : List ℕ → V → Type 0) (D : List ℕ → W → Type 0) (d : AreDistinct (map word items)) where
   pub state_completes : (stage : Stage) → ((rest : List ℕ) × (v : V) × K rest v × LacksValue v (map word items)) → ((rest : List ℕ) × (w : W) × D rest w) → (stage ≡ InValue → 0 < length items) →
-      (rest : List ℕ) × (all : List X) × ArePairsAfter word stage (whole_pairs stage items) (PairRest word value (WordAtHand word stage items K) D stage mark) R separator rest all
-  state_completes Before c e f = pairs_completes word value paired has_word has_value items R separator mark K D d Before c e (λ h. absurd (before_not_value h))
-  state_completes InWord c e f = pairs_completes word value paired has_word has_value items R separator mark K D d InWord c e (λ h. absurd (word_not_value h))
+      (rest : List ℕ) × (all : List X) × ArePairsAfter word stage (whole_pairs stage items) (PairRest word value (WordAtHand word stage items K) D stage delimiter) R separator rest all
+  state_completes Before c e f = pairs_completes word value paired has_word has_value items R separator delimiter K D d Before c e (λ h. absurd (before_not_value h))
+  state_completes InWord c e f = pairs_completes word value paired has_word has_value items R separator delimiter K D d InWord c e (λ h. absurd (word_not_value h))
   state_completes InValue c e f =
       let w = last_word word items (f refl) d in
-      pairs_completes word value paired has_word has_value (before_last items) R separator mark (WordAtHand word InValue items K) D (distinct_before word items d) InValue ([], w.0, w.1, w.2) e (λ _. w)
+      pairs_completes word value paired has_word has_value (before_last items) R separator delimiter (WordAtHand word InValue items K) D (distinct_before word items d) InValue ([], w.0, w.1, w.2) e (λ _. w)
 
   pub state_ends : (stage : Stage) (e : Bool) → IsTrue e ↔ ((w : W) × D [] w) → (stage ≡ InValue → 0 < length items) →
-      IsTrue (ends_at stage e) ↔ ((all : List X) × ArePairsAfter word stage (whole_pairs stage items) (PairRest word value (WordAtHand word stage items K) D stage mark) R separator [] all)
-  state_ends Before e is f = pairs_ends word value paired has_word has_value items R separator mark K D d Before e is (λ h. absurd (before_not_value h))
-  state_ends InWord e is f = pairs_ends word value paired has_word has_value items R separator mark K D d InWord e is (λ h. absurd (word_not_value h))
-  state_ends InValue e is f = pairs_ends word value paired has_word has_value (before_last items) R separator mark (WordAtHand word InValue items K) D (distinct_before word items d) InValue e is (λ _. last_word word items (f refl) d)
+      IsTrue (ends_at stage e) ↔ ((all : List X) × ArePairsAfter word stage (whole_pairs stage items) (PairRest word value (WordAtHand word stage items K) D stage delimiter) R separator [] all)
+  state_ends Before e is f = pairs_ends word value paired has_word has_value items R separator delimiter K D d Before e is (λ h. absurd (before_not_value h))
+  state_ends InWord e is f = pairs_ends word value paired has_word has_value items R separator delimiter K D d InWord e is (λ h. absurd (word_not_value h))
+  state_ends InValue e is f = pairs_ends word value paired has_word has_value (before_last items) R separator delimiter (WordAtHand word InValue items K) D (distinct_before word items d) InValue e is (λ _. last_word word items (f refl) d)
 
--- The mark, where the pair of the word is put last.
-module _ {V W X : Type 0} (word : X → V) (value : X → W) (mark separator : ℕ) (items : List X) (R : List ℕ → X → Type 0) (K : List ℕ → V → Type 0) (D : List ℕ → W → Type 0)
+-- The delimiter, where the pair of the word is put last.
+module _ {V W X : Type 0} (word : X → V) (value : X → W) (delimiter separator : ℕ) (items : List X) (R : List ℕ → X → Type 0) (K : List ℕ → V → Type 0) (D : List ℕ → W → Type 0)
     (paired : V → W → X) (has_word : (v : V) (w : W) → word (paired v w) ≡ v) (has_value : (v : V) (w : W) → value (paired v w) ≡ w) (new : List X) (p : X) (e : new ≡ items ++ p ∷ []) (k : K [] (word p)) where
   last_is : HasOneText K → (v : V) → IsLastWord word new v ↔ K [] v
   last_is one v = rw e (λ h. rw (sym ((word_last word items p v).0 h)) k, λ h. (word_last word items p v).1 (one [] (word p) v k h))
 
-  pub mark_pushed : HasOneText K → LacksByte K mark → Stops D separator → ((rest : List ℕ) × (w : W) × D rest w) → (K' : List ℕ → V → Type 0) → (rest : List ℕ) (all : List X) →
+  pub delimiter_pushed : HasOneText K → LacksByte K delimiter → Stops D separator → ((rest : List ℕ) × (w : W) × D rest w) → (K' : List ℕ → V → Type 0) → (rest : List ℕ) (all : List X) →
       ArePairsAfter word InValue (whole_pairs InValue new)
-      (PairRest word value (WordAtHand word InValue new K') D InValue mark) R separator rest all ↔
-      ArePairsAfter word InWord items (IsPairText word value K D mark) R separator (mark ∷ rest) all
-  mark_pushed one lacks stops d K' =
+      (PairRest word value (WordAtHand word InValue new K') D InValue delimiter) R separator rest all ↔
+      ArePairsAfter word InWord items (IsPairText word value K D delimiter) R separator (delimiter ∷ rest) all
+  delimiter_pushed one lacks stops d K' =
       let front : before_last new ≡ items = ap before_last e ∙ before_pushed items p in
       let v = word p in
       let q = paired v d.1 in
-      rw front (mark_step word value mark separator items R K D (WordAtHand word InValue new K') (last_is one) lacks stops
+      rw front (delimiter_step word value delimiter separator items R K D (WordAtHand word InValue new K') (last_is one) lacks stops
       (d.0, q, paired_ended word value paired has_word has_value (WordAtHand word InValue new K') D d.0 v d.1 ((last_is one v).1 k) d.2))

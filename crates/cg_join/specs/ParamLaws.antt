@@ -11,7 +11,7 @@ use Rattle.cg_join.specs.Choice.{either_size}
 use Rattle.cg_join.specs.DisjointLaws.{begins_disjoint}
 use Rattle.cg_join.specs.FilledLaws.{name_is_filled}
 use Rattle.cg_join.specs.ParamState.{param_of, param_size}
-use Rattle.cg_join.specs.Spelling.{IsEither, IsTurned, Disjoint}
+use Rattle.cg_join.specs.Spelling.{IsEither, IsMappedText, Disjoint}
 use Rattle.cg_join.specs.declared.choice.Either.{Either}
 use Rattle.cg_join.specs.declared.choice.Either.TheVariants.{Left, Right}
 
@@ -30,13 +30,13 @@ param_from text (Left name) h = h
 param_from text (Right (Left n)) h = h
 param_from text (Right (Right n)) h = h
 
-param_to : (text : List ℕ) (v : ParamValue) → IsParam v text → IsTurned IsAnyParam param_of text v
+param_to : (text : List ℕ) (v : ParamValue) → IsParam v text → IsMappedText IsAnyParam param_of text v
 param_to text (Whole n) h = (Right (Left n), h, refl)
 param_to text (Decimal n) h = (Right (Right n), h, refl)
 param_to text (Name name) h = (Left name, h, refl)
 
 -- The three alternatives of a parameter, turned into its values.
-pub param_is : (text : List ℕ) (v : ParamValue) → IsTurned IsAnyParam param_of text v ↔ IsParam v text
+pub param_is : (text : List ℕ) (v : ParamValue) → IsMappedText IsAnyParam param_of text v ↔ IsParam v text
 param_is text v = (λ h. (let k = param_from text h.0 h.1 in rw h.2 at k), λ h. param_to text v h)
 
 pub param_no_more : (v : Either (List ℕ) (Either ℕ Hundredths)) → param_size (param_of v) ≤ either_size length (either_size (λ _. 0) (λ _. 0)) v

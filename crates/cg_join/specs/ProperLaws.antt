@@ -17,7 +17,7 @@ use Rattle.cg_join.specs.LimitState.{limit_of}
 use Rattle.cg_join.specs.MaxLaws.{max_not_decimal}
 use Rattle.cg_join.specs.Proper.{IsProper}
 use Rattle.cg_join.specs.SequenceLaws.{sequence_one, both_same}
-use Rattle.cg_join.specs.Spelling.{IsConcat, IsEither, IsTurned, Apart, Disjoint}
+use Rattle.cg_join.specs.Spelling.{IsConcat, IsEither, IsMappedText, Apart, Disjoint}
 use Rattle.cg_join.specs.StartLaws.{some_decimal, one_decimal, decimal_bytes}
 use Rattle.cg_join.specs.TextBytes.{IsFixed}
 use Rattle.cg_join.specs.declared.choice.Either.{Either}
@@ -76,8 +76,8 @@ pub label_proper : {W : Type 0} {Q : List ℕ → W → Type 0} {fixed : List �
 label_proper {Q = Q} {fixed = fixed} f q = concat_proper f q (fixed_apart fixed Q)
 
 module _ {V : Type 0} {R : List ℕ → V → Type 0} where
-  pub turned_proper : {W : Type 0} (f : V → W) → IsProper R → IsProper (IsTurned R f)
-  turned_proper f r = record {
+  pub mapped_text_proper : {W : Type 0} (f : V → W) → IsProper R → IsProper (IsMappedText R f)
+  mapped_text_proper f r = record {
     some_text = (let s = r.some_text in (s.0, f s.1, (s.1, s.2, refl)));
     one_text = λ text v w h k. sym h.2 ∙ ap f (r.one_text text h.0 k.0 h.1 k.1) ∙ k.2;
     text_bytes = λ text w h. r.text_bytes text h.0 h.1;
@@ -85,7 +85,7 @@ module _ {V : Type 0} {R : List ℕ → V → Type 0} where
 
 pub limit_proper : (lo hi : ℕ) → lo ≤ hi → IsProper (IsLimitIn lo hi)
 limit_proper lo hi le =
-    proper_as (limit_is lo hi) (turned_proper limit_of (either_proper (decimal_proper lo hi le) (keyword_proper keyword.Max) (λ text n u h k. max_not_decimal lo hi n text k h)))
+    proper_as (limit_is lo hi) (mapped_text_proper limit_of (either_proper (decimal_proper lo hi le) (keyword_proper keyword.Max) (λ text n u h k. max_not_decimal lo hi n text k h)))
 
 numbers_proper : IsProper (IsConcat IsMajor (IsConcat IsColon IsMinor))
 numbers_proper = concat_proper (decimal_proper 0 4095 (omega arith)) (concat_proper (fixed_proper (58 ∷ []) (omega arith, tt)) (decimal_proper 0 1048575 (omega arith)) colon_apart) major_apart

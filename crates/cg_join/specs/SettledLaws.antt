@@ -5,13 +5,13 @@ use Rattle.cg_text.specs.RangesState.{RangesRest, front}
 use Rattle.cg_text.specs.Raw.{IsReason}
 use Rattle.cg_text.specs.WordState.{IsWordRest}
 use Rattle.cg_join.specs.Join.{IsSequence}
-use Rattle.cg_join.specs.KeyedState.{AreKeyedAfter, is_begun, is_marked, kept_keys}
+use Rattle.cg_join.specs.KeyedState.{AreKeyedAfter, is_begun, is_delimited, kept_keys}
 use Rattle.cg_join.specs.Lines.{AreLinesFrom, AreLinesAfter}
 use Rattle.cg_join.specs.Maybe.{MaybeRest, maybe_size}
 use Rattle.cg_join.specs.Ready.{OrReadyRest}
 use Rattle.cg_join.specs.Repeat.{IsList, IsListAfter, items_size}
 use Rattle.cg_join.specs.SequenceLaws.{nil_pair}
-use Rattle.cg_join.specs.Spelling.{IsTurned}
+use Rattle.cg_join.specs.Spelling.{IsMappedText}
 use Rattle.cg_join.specs.declared.pairs.Stage.{Stage}
 use Rattle.cg_join.specs.declared.pairs.Stage.TheVariants.{Before, InWord, InValue}
 
@@ -122,7 +122,7 @@ or_ready_settled begun P value n f fresh h v (inr k) = none_settled n (f v) (fre
 pub begun_value : (stage : Stage) → stage ≡ InValue → IsFalse (is_begun stage) → ⊥
 begun_value stage e f = let k = rw e at f in cc
 
-pub marked_value : (stage : Stage) → stage ≡ InValue → IsFalse (is_marked stage) → ⊥
+pub marked_value : (stage : Stage) → stage ≡ InValue → IsFalse (is_delimited stage) → ⊥
 marked_value stage e f = let k = rw e at f in cc
 
 true_false : IsFalse true → ⊥
@@ -136,8 +136,8 @@ alone_held : (m n k v p : ℕ) → n ≡ 0 → k ≡ 0 → v ≡ 0 → m ≤ p �
 alone_held m n k v p e f g h = omega (arith, e, f, g, h)
 
 pub keyed_settled : {V X Y : Type 0} (key : X → V) (given : List X → Y) (items : List X) (P R : List ℕ → X → Type 0) (end : ℕ) (stage : Stage) (kept : List V) (f : V → ℕ) (g : Y → ℕ) (m k v : ℕ) →
-    length kept ≡ kept_keys (is_marked stage) → (IsFalse (is_begun stage) → k ≡ 0) → (IsFalse (is_marked stage) → v ≡ 0) → m ≤ g (given items) →
-    (y : Y) → IsTurned (AreKeyedAfter key items (is_begun stage) P R end) given [] y → m + items_size f kept + (k + v) ≤ g y
+    length kept ≡ kept_keys (is_delimited stage) → (IsFalse (is_begun stage) → k ≡ 0) → (IsFalse (is_delimited stage) → v ≡ 0) → m ≤ g (given items) →
+    (y : Y) → IsMappedText (AreKeyedAfter key items (is_begun stage) P R end) given [] y → m + items_size f kept + (k + v) ≤ g y
 keyed_settled key given items P R end Before kept f g m k v none new_key new_value h y t =
     let over = lines_over_all P R end false t.1.0.0 t.1.0.2 in
     let same : t.0 ≡ items = t.1.0.1 ∙ ap (λ x. items ++ x) over.1 ∙ append-nil items in
@@ -147,5 +147,5 @@ keyed_settled key given items P R end InWord kept f g m k v none new_key new_val
 keyed_settled key given items P R end InValue kept f g m k v none new_key new_value h y t = absurd (true_false (lines_over_all P R end true t.1.0.0 t.1.0.2).0)
 
 -- Of a value that is turned into another.
-pub turned_settled : {V W : Type 0} (turned : V → W) (n : ℕ) (f : V → ℕ) (g : W → ℕ) (v : V) (w : W) → turned v ≡ w → n ≤ f v → f v ≤ g (turned v) → n ≤ g w
-turned_settled turned n f g v w e h k = rw (← e) (least_most n (f v) (g (turned v)) h k)
+pub mapped_text_settled : {V W : Type 0} (mapped : V → W) (n : ℕ) (f : V → ℕ) (g : W → ℕ) (v : V) (w : W) → mapped v ≡ w → n ≤ f v → f v ≤ g (mapped v) → n ≤ g w
+mapped_text_settled mapped n f g v w e h k = rw (← e) (least_most n (f v) (g (mapped v)) h k)

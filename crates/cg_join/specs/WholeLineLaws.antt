@@ -14,7 +14,7 @@ use Rattle.cg_join.specs.Lines.{AreLinesFrom, AreLinesAfter}
 use Rattle.cg_join.specs.LinesLaws.{lines_first}
 use Rattle.cg_join.specs.Repeat.{IsList}
 use Rattle.cg_join.specs.RepeatLaws.{not_nil, same_front}
-use Rattle.cg_join.specs.Spelling.{IsTurned}
+use Rattle.cg_join.specs.Spelling.{IsMappedText}
 
 -- The line is a rest of the token at hand, and F are the texts of a new one.
 module _ {V : Type 0} (end : ℕ) (P F R : List ℕ → V → Type 0) (new : (rest : List ℕ) (v : V) → F rest v ↔ R rest v) (lacks : LacksByte P end) (one : HasOneText P) (line : List ℕ) (v : V) (h : P line v) where
@@ -36,9 +36,9 @@ module _ {V : Type 0} (end : ℕ) (P F R : List ℕ → V → Type 0) (new : (re
   pub lines_whole : (begun : Bool) (items : List V) (rest : List ℕ) (all : List V) → AreLinesAfter (items ++ v ∷ []) false F R end rest all ↔ AreLinesAfter items begun P R end ((line ++ end ∷ []) ++ rest) all
   lines_whole begun items rest all = rw (append_assoc line (end ∷ []) rest) (after begun items rest all)
 
--- The bytes in front of a mark, the mark, and bytes after it.
-pub mark_cut : (bytes : List ℕ) (n m mark : ℕ) → n < length bytes → get_or bytes n 0 ≡ mark → take (n + 1 + m) bytes ≡ take n bytes ++ mark ∷ take m (drop (n + 1) bytes)
-mark_cut bytes n m mark h e =
+-- The bytes in front of a delimiter, the delimiter, and bytes after it.
+pub delimiter_cut : (bytes : List ℕ) (n m delimiter : ℕ) → n < length bytes → get_or bytes n 0 ≡ delimiter → take (n + 1 + m) bytes ≡ take n bytes ++ delimiter ∷ take m (drop (n + 1) bytes)
+delimiter_cut bytes n m delimiter h e =
     let back = take m (drop (n + 1) bytes) in
     take-add (n + 1) m bytes ∙ ap (λ xs. xs ++ back) (take_more bytes n 0 h) ∙ append_assoc (take n bytes) (get_or bytes n 0 ∷ []) back ∙ ap (λ b. take n bytes ++ b ∷ back) e
 
@@ -54,7 +54,7 @@ pub front_longer : (bytes : List ℕ) (used count separator : ℕ) → used < le
     take (used + (1 + count)) bytes ≡ take used bytes ++ separator ∷ take count (drop (used + 1) bytes)
 front_longer bytes used count separator h e =
     let same : used + (1 + count) ≡ used + 1 + count = omega arith in
-    ap (λ n. take n bytes) same ∙ mark_cut bytes used count separator h e
+    ap (λ n. take n bytes) same ∙ delimiter_cut bytes used count separator h e
 
 -- A pair that was pushed is new, and the last one.
 pub pushed_last : {A T : Type 0} (r : Result (Unit {0}) (Refused T)) → false ≡ is_err r → OnOk r A → A
@@ -65,18 +65,18 @@ pub pushed_new : {T : Type 0} (r : Result (Unit {0}) (Refused T)) → false ≡ 
 pushed_new (Ok u) e = refl
 pushed_new (Err x) e = absurd (cc)
 
-module _ {V W X : Type 0} (key : X → V) (value : X → W) (alone : Option W) (mark : ℕ) (K : List ℕ → V → Type 0) (D : List ℕ → W → Type 0) where
+module _ {V W X : Type 0} (key : X → V) (value : X → W) (bare_value : Option W) (delimiter : ℕ) (K : List ℕ → V → Type 0) (D : List ℕ → W → Type 0) where
   -- A pair's text is one of its key and its value.
-  pub pair_text : (text : List ℕ) (p : X) (found : V × W) → key p ≡ found.0 → value p ≡ found.1 → IsPairOf K D mark text found → IsKeyed key value K D alone mark text p
+  pub pair_text : (text : List ℕ) (p : X) (found : V × W) → key p ≡ found.0 → value p ≡ found.1 → IsPairOf K D delimiter text found → IsKeyed key value K D bare_value delimiter text p
   pair_text text p found e f h = inl (record { front = h.front; back = h.back; whole = h.whole; begins = rw e h.begins; ends = rw f h.ends })
 
   abbrev Line : List ℕ → X → Type 0
-  Line = IsKeyed key value K D alone mark
+  Line = IsKeyed key value K D bare_value delimiter
 
   -- The line of a pair, and its end, are taken.
   pub keyed_whole : {Y : Type 0} (end : ℕ) (given : List X → Y) (F R : List ℕ → X → Type 0) → ((rest : List ℕ) (p : X) → F rest p ↔ R rest p) → LacksByte Line end → HasOneText Line → (line : List ℕ) (p : X) → Line line p →
       (begun : Bool) (items new : List X) → new ≡ items ++ p ∷ [] → (rest : List ℕ) (y : Y) →
-      IsTurned (AreKeyedAfter key new false F R end) given rest y ↔ IsTurned (AreKeyedAfter key items begun Line R end) given ((line ++ end ∷ []) ++ rest) y
+      IsMappedText (AreKeyedAfter key new false F R end) given rest y ↔ IsMappedText (AreKeyedAfter key items begun Line R end) given ((line ++ end ∷ []) ++ rest) y
   keyed_whole end given F R new lacks one line p h begun items all e rest y =
       let same : (ps : List X) → AreKeyedAfter key all false F R end rest ps ↔ AreKeyedAfter key items begun Line R end ((line ++ end ∷ []) ++ rest) ps =
       λ ps. rw e (with_distinct (lines_whole end Line F R new lacks one line p h begun items rest ps)) in

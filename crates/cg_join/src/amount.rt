@@ -5,11 +5,11 @@ ghost use Rattle.cg_text.specs.Amount.{IsAmount};
 
 use crate::bounded::decimal_in;
 use crate::choice::{Choice, Either};
-use crate::mapped::{Mapped, Turn};
+use crate::mapped::{MapValue, Mapped};
 use crate::sequence::Sequence;
 use cg_text::{
-    Amount, ByteText, DecimalText, Form, Hundredths, HundredthsText, Keyword, KeywordText,
-    OutOfMemory, Token,
+    Amount, ByteText, DecimalText, Hundredths, HundredthsText, Keyword, KeywordText, OutOfMemory,
+    Spelling, Token,
 };
 
 /// A minus sign, and a number.
@@ -22,16 +22,16 @@ type AnyAmount = Choice<Choice<DecimalText, HundredthsText>, Choice<KeywordText,
 #[derive(Clone, Copy)]
 struct ToAmount;
 
-impl Turn<AnyAmount> for ToAmount {
+impl MapValue<AnyAmount> for ToAmount {
     type To = Amount;
 
     ghost use Rattle.cg_join.specs.AmountState.{amount_of};
 
-    ghost turned = { amount_of };
+    ghost mapped = { amount_of };
 
     ghost value_size = { λ _. 0 };
 
-    fn turn(value: Either<Either<u64, Hundredths>, Either<(), ((), u64)>>) -> Amount {
+    fn map_value(value: Either<Either<u64, Hundredths>, Either<(), ((), u64)>>) -> Amount {
         match value {
             Either::Left(Either::Left(n)) => Amount::Whole(n),
             Either::Left(Either::Right(hundredths)) => Amount::Decimal(hundredths),
@@ -46,7 +46,7 @@ impl Turn<AnyAmount> for ToAmount {
 
     ghost use Rattle.std.proofs.Common.{arith};
 
-    ghost no_more = { λ v. Prim.omega arith };
+    ghost adds_no_memory = { λ v. Prim.omega arith };
 }
 
 type Parts = Mapped<AnyAmount, ToAmount>;
@@ -65,7 +65,7 @@ impl AmountText {
         ensures size { ⟦<AmountText as Token>⟧.size result ≡ 0 }
     {
         let whole = decimal_in(0, u64::MAX);
-        let number = Choice::new(whole, HundredthsText::new(Form::Read, 99999999999));
+        let number = Choice::new(whole, HundredthsText::new(Spelling::Read, 99999999999));
         let negated = Sequence::new(ByteText::new(b'-'), decimal_in(1, 2147483648));
         let other = Choice::conditional(KeywordText::new(Keyword::Max), negated, signed);
         AmountText {

@@ -4,23 +4,25 @@ ghost use Rattle.cg_text.specs.Token.{Spells};
 ghost use Rattle.cg_text.specs.Clamp.{IsClamp};
 
 use crate::choice::{Choice, Either};
-use crate::mapped::{Mapped, Turn};
-use cg_text::{Clamp, Form, Hundredths, HundredthsText, Keyword, KeywordText, OutOfMemory, Token};
+use crate::mapped::{MapValue, Mapped};
+use cg_text::{
+    Clamp, Hundredths, HundredthsText, Keyword, KeywordText, OutOfMemory, Spelling, Token,
+};
 
 /// The clamp of a choice.
 #[derive(Clone, Copy)]
 struct ToClamp;
 
-impl Turn<Choice<KeywordText, HundredthsText>> for ToClamp {
+impl MapValue<Choice<KeywordText, HundredthsText>> for ToClamp {
     type To = Clamp;
 
     ghost use Rattle.cg_join.specs.ClampState.{clamp_of};
 
-    ghost turned = { clamp_of };
+    ghost mapped = { clamp_of };
 
     ghost value_size = { λ _. 0 };
 
-    fn turn(value: Either<(), Hundredths>) -> Clamp {
+    fn map_value(value: Either<(), Hundredths>) -> Clamp {
         match value {
             Either::Left(_) => Clamp::Max,
             Either::Right(percentage) => Clamp::At(percentage),
@@ -33,7 +35,7 @@ impl Turn<Choice<KeywordText, HundredthsText>> for ToClamp {
 
     ghost use Rattle.std.proofs.Common.{arith};
 
-    ghost no_more = { λ v. Prim.omega arith };
+    ghost adds_no_memory = { λ v. Prim.omega arith };
 }
 
 type Parts = Mapped<Choice<KeywordText, HundredthsText>, ToClamp>;
@@ -46,7 +48,7 @@ pub struct ClampText {
 
 impl ClampText {
     /// A token of clamps, with percentages in the form.
-    pub fn new(form: Form) -> ClampText
+    pub fn new(form: Spelling) -> ClampText
         ensures spells { Spells ⟦<ClampText as Token>⟧.means result (λ rest v. IsClamp form v rest) }
         ensures size { ⟦<ClampText as Token>⟧.size result ≡ 0 }
     {

@@ -8,7 +8,7 @@ use crate::bounded::decimal_in;
 use crate::choice::{Choice, Either};
 use crate::device::DeviceText;
 use crate::label::{LabelText, labelled};
-use crate::mapped::{Mapped, Turn};
+use crate::mapped::{MapValue, Mapped};
 use crate::sequence::Sequence;
 use cg_text::{DecimalText, Device, Keyword, KeywordText, Token};
 
@@ -16,17 +16,17 @@ use cg_text::{DecimalText, Device, Keyword, KeywordText, Token};
 #[derive(Clone, Copy)]
 pub struct ToDeviceName;
 
-impl Turn<Choice<DeviceText, KeywordText>> for ToDeviceName {
+impl MapValue<Choice<DeviceText, KeywordText>> for ToDeviceName {
     type To = Option<Device>;
 
     ghost use Rattle.cg_join.specs.DeviceNameState.{device_named};
 
-    ghost turned = { device_named };
+    ghost mapped = { device_named };
 
     ghost value_size = { λ _. 0 };
 
     #[inline(always)]
-    fn turn(value: Either<Device, ()>) -> Option<Device> {
+    fn map_value(value: Either<Device, ()>) -> Option<Device> {
         match value {
             Either::Left(device) => Some(device),
             Either::Right(_) => None,
@@ -39,7 +39,7 @@ impl Turn<Choice<DeviceText, KeywordText>> for ToDeviceName {
 
     ghost use Rattle.std.proofs.Common.{arith};
 
-    ghost no_more = { λ v. Prim.omega arith };
+    ghost adds_no_memory = { λ v. Prim.omega arith };
 }
 
 /// A device with its value, or `(unknown)` with none.

@@ -9,7 +9,7 @@ ghost use Rattle.cg_join.specs.DistinctLaws.{AreDistinct_prop};
 ghost use Rattle.cg_join.specs.WordStartLaws.{SpellsWord};
 ghost use Rattle.cg_text.specs.WordState.{is_taken};
 
-use crate::start::Start;
+use crate::make_token::MakeToken;
 use crate::words::{WordStart, has};
 use cg_index::{Cell, KeyedBuilder, KeyedItems};
 use cg_text::{Key, OutOfMemory, Token, WordText};

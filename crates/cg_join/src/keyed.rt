@@ -7,19 +7,19 @@ ghost use Rattle.cg_text.specs.WordState.{is_taken};
 ghost use Rattle.cg_join.specs.Distinct.{AreDistinct, any_value};
 ghost use Rattle.cg_join.specs.DistinctLaws.{AreDistinct_prop};
 ghost use Rattle.cg_join.specs.Keyed.{AreKeyedLines, IsKeyed, IsPairOf};
-ghost use Rattle.cg_join.specs.KeyedState.{AreKeyedAfter, KeyedRest, is_begun, is_marked, kept_keys};
+ghost use Rattle.cg_join.specs.KeyedState.{AreKeyedAfter, KeyedRest, is_begun, is_delimited, kept_keys};
 ghost use Rattle.cg_join.specs.Line.{LacksByte};
 ghost use Rattle.cg_join.specs.Repeat.{items_size};
-ghost use Rattle.cg_join.specs.Spelling.{IsTurned};
+ghost use Rattle.cg_join.specs.Spelling.{IsMappedText};
 ghost use Rattle.cg_join.specs.WordStartLaws.{SpellsWord};
 ghost use Rattle.cg_join.specs.declared.pairs.Stage.TheVariants.{Before, InWord, InValue};
 
 use crate::collection::Collection;
-use crate::follow::Follow;
+use crate::make_token::MakeToken;
+use crate::make_value::MakeValue;
 use crate::pairing::renew;
 use crate::pairs::Stage;
 use crate::run::run_parts;
-use crate::start::Start;
 use crate::store::{held_in_all, put};
 use crate::whole_lines::WholeLines;
 use crate::words::WordStart;
@@ -27,54 +27,55 @@ use cg_text::{Key, OutOfMemory, Token, WordText, make_room};
 use std::alloc::Global;
 
 /// Any number of lines, also none, each a key, what follows it and an end: `KEY VAL` or `KEY SUB=VAL SUB=VAL`, and
-/// a newline. A mark, which no key has, begins what follows; where a key may stand alone, nothing follows it.
-/// No key comes twice: one may be followed by the mark or the end only where it is new.
+/// a newline. A delimiter, which no key has, begins what follows; where a key may stand alone, nothing follows it.
+/// No key comes twice: one may be followed by the delimiter or the end only where it is new.
 #[derive(Drop)]
-pub struct KeyedLines<V: Token, B: Follow<V>, C: Collection<V>> {
+pub struct KeyedLines<V: Token, B: MakeValue<V>, C: Collection<V>> {
     keys: WordStart,
     values: B,
-    mark: u8,
+    delimiter: u8,
     end: u8,
     pairs: C,
-    /// The key of the line at hand, once the mark has ended it, and nothing else.
+    /// The key of the line at hand, once the delimiter has ended it, and nothing else.
     ended: Vec<Key>,
     stage: Stage,
     key: WordText,
     value: V,
-    ghost key_mark: { LacksByte (⟦<WordText as Token>⟧.means key) mark },
+    ghost key_delimiter: { LacksByte (⟦<WordText as Token>⟧.means key) delimiter },
     ghost key_end: { LacksByte (⟦<WordText as Token>⟧.means key) end },
-    ghost keys_mark: { LacksByte (SpellsWord keys.controller) mark },
+    ghost keys_delimiter: { LacksByte (SpellsWord keys.controller) delimiter },
     ghost keys_end: { LacksByte (SpellsWord keys.controller) end },
     ghost value_end: { LacksByte (V.means value) end },
     ghost values_end: { LacksByte (B.texts values) end },
-    ghost apart: { mark ≡ end → ⊥ },
-    ghost small_mark: { mark < 256 },
+    ghost apart: { delimiter ≡ end → ⊥ },
+    ghost small_delimiter: { delimiter < 256 },
     ghost small_end: { end < 256 },
     ghost new_key: { IsFalse (is_begun stage) → ⟦<WordText as Token>⟧.size key ≡ 0 },
-    ghost new_value: { IsFalse (is_marked stage) → V.size value ≡ 0 },
-    ghost kept: { length ended.items ≡ kept_keys (is_marked stage) },
+    ghost new_value: { IsFalse (is_delimited stage) → V.size value ≡ 0 },
+    ghost kept: { length ended.items ≡ kept_keys (is_delimited stage) },
     ghost distinct: { AreDistinct (map C.key_of (C.pairs_of pairs) ++ ended.items) } by { AreDistinct_prop (map C.key_of (C.pairs_of pairs) ++ ended.items) },
 }
 
-impl<V: Token, B: Follow<V>, C: Collection<V>> KeyedLines<V, B, C> {
+impl<V: Token, B: MakeValue<V>, C: Collection<V>> KeyedLines<V, B, C> {
     /// Any number of lines of a key and a value, whose tokens are made by `keys` and `values`. The pairs are
     /// put into `pairs`, which has none.
     pub fn new(
         alloc: Global,
         keys: WordStart,
         values: B,
-        mark: u8,
+        delimiter: u8,
         end: u8,
         pairs: C,
     ) -> KeyedLines<V, B, C>
-        requires keys_mark { LacksByte (SpellsWord keys.controller) mark }
+        requires keys_delimiter { LacksByte (SpellsWord keys.controller) delimiter }
         requires keys_end { LacksByte (SpellsWord keys.controller) end }
         requires values_end { LacksByte (B.texts values) end }
-        requires apart { mark ≡ end → ⊥ }
+        requires apart { delimiter ≡ end → ⊥ }
         requires empty { C.pairs_of pairs ≡ [] }
         ensures spells { Spells ⟦<KeyedLines<V, B, C> as Token>⟧.means result
-            (IsTurned (AreKeyedLines C.key_of (IsKeyed C.key_of C.value_of (SpellsWord keys.controller) (B.texts values)
-            (B.alone values) mark) end) C.given) }
+            (IsMappedText (AreKeyedLines C.key_of
+            (IsKeyed C.key_of C.value_of (SpellsWord keys.controller) (B.texts values)
+            (B.bare_value values) delimiter) end) C.given) }
         ensures size { ⟦<KeyedLines<V, B, C> as Token>⟧.size result ≡ C.size pairs }
     {
         let key = keys.start();
@@ -82,7 +83,7 @@ impl<V: Token, B: Follow<V>, C: Collection<V>> KeyedLines<V, B, C> {
         KeyedLines {
             keys,
             values,
-            mark,
+            delimiter,
             end,
             pairs,
             ended: Vec::new(alloc),
@@ -100,18 +101,19 @@ impl<V: Token, B: Follow<V>, C: Collection<V>> KeyedLines<V, B, C> {
         self.key.can_end() && !self.pairs.has(&self.key)
     }
 
-    /// Takes the mark after a key.
+    /// Takes the delimiter after a key.
     fn end_key(&mut self) -> Result<bool, OutOfMemory>
-        requires { IsFalse (is_marked self.old.stage) }
+        requires { IsFalse (is_delimited self.old.stage) }
         ensures taken { IfTaken result
-            (Follows ⟦<KeyedLines<V, B, C> as Token>⟧.means self.old self.old.mark self.new) }
-        ensures refused { IfRefused result (NoneBegins ⟦<KeyedLines<V, B, C> as Token>⟧.means self.old self.old.mark) }
+            (Follows ⟦<KeyedLines<V, B, C> as Token>⟧.means self.old self.old.delimiter self.new) }
+        ensures refused { IfRefused result
+            (NoneBegins ⟦<KeyedLines<V, B, C> as Token>⟧.means self.old self.old.delimiter) }
         ensures same { UnlessTaken result (Same ⟦<KeyedLines<V, B, C> as Token>⟧.means self.old self.new) }
         ensures same_size { UnlessTaken result (⟦<KeyedLines<V, B, C> as Token>⟧.size self.new ≡
             ⟦<KeyedLines<V, B, C> as Token>⟧.size self.old) }
         ensures size { ⟦<KeyedLines<V, B, C> as Token>⟧.size self.new ≤ ⟦<KeyedLines<V, B, C> as Token>⟧.size self.old +
             1 }
-        ensures last { OnErr result (Begins ⟦<KeyedLines<V, B, C> as Token>⟧.means self.old self.old.mark) }
+        ensures last { OnErr result (Begins ⟦<KeyedLines<V, B, C> as Token>⟧.means self.old self.old.delimiter) }
     {
         if !self.is_new_key() {
             return Ok(false);
@@ -128,7 +130,7 @@ impl<V: Token, B: Follow<V>, C: Collection<V>> KeyedLines<V, B, C> {
 
     /// Takes the end after a key, which then stands alone.
     fn end_alone(&mut self) -> Result<bool, OutOfMemory>
-        requires { IsFalse (is_marked self.old.stage) }
+        requires { IsFalse (is_delimited self.old.stage) }
         ensures taken { IfTaken result (Follows ⟦<KeyedLines<V, B, C> as Token>⟧.means self.old self.old.end self.new) }
         ensures refused { IfRefused result (NoneBegins ⟦<KeyedLines<V, B, C> as Token>⟧.means self.old self.old.end) }
         ensures same { UnlessTaken result (Same ⟦<KeyedLines<V, B, C> as Token>⟧.means self.old self.new) }
@@ -138,7 +140,7 @@ impl<V: Token, B: Follow<V>, C: Collection<V>> KeyedLines<V, B, C> {
             1 }
         ensures last { OnErr result (Begins ⟦<KeyedLines<V, B, C> as Token>⟧.means self.old self.old.end) }
     {
-        let value = match self.values.alone() {
+        let value = match self.values.bare_value() {
             Some(value) => value,
             None => return Ok(false),
         };
@@ -158,7 +160,7 @@ impl<V: Token, B: Follow<V>, C: Collection<V>> KeyedLines<V, B, C> {
 
     /// Takes a byte where no key is ended.
     fn step_key(&mut self, byte: u8) -> Result<bool, OutOfMemory>
-        requires { IsFalse (is_marked self.old.stage) }
+        requires { IsFalse (is_delimited self.old.stage) }
         ensures taken { IfTaken result (Follows ⟦<KeyedLines<V, B, C> as Token>⟧.means self.old byte self.new) }
         ensures refused { IfRefused result (NoneBegins ⟦<KeyedLines<V, B, C> as Token>⟧.means self.old byte) }
         ensures same { UnlessTaken result (Same ⟦<KeyedLines<V, B, C> as Token>⟧.means self.old self.new) }
@@ -168,7 +170,7 @@ impl<V: Token, B: Follow<V>, C: Collection<V>> KeyedLines<V, B, C> {
             1 }
         ensures last { OnErr result (Begins ⟦<KeyedLines<V, B, C> as Token>⟧.means self.old byte) }
     {
-        if byte == self.mark {
+        if byte == self.delimiter {
             return self.end_key();
         }
         if byte == self.end {
@@ -186,14 +188,14 @@ impl<V: Token, B: Follow<V>, C: Collection<V>> KeyedLines<V, B, C> {
 
     /// Whether the byte may come where no key is ended.
     fn allows_key(&self, byte: u8) -> bool
-        requires { IsFalse (is_marked self.now.stage) }
+        requires { IsFalse (is_delimited self.now.stage) }
         ensures { IsTrue result ↔ Begins ⟦<KeyedLines<V, B, C> as Token>⟧.means self.now byte }
     {
-        if byte == self.mark {
+        if byte == self.delimiter {
             return self.is_new_key();
         }
         if byte == self.end {
-            match self.values.alone() {
+            match self.values.bare_value() {
                 Some(_) => return self.is_new_key(),
                 None => return false,
             }
@@ -236,7 +238,7 @@ impl<V: Token, B: Follow<V>, C: Collection<V>> KeyedLines<V, B, C> {
 
     /// Takes bytes of a key where none is ended.
     fn run_key(&mut self, bytes: &[u8]) -> usize
-        requires { IsFalse (is_marked self.old.stage) }
+        requires { IsFalse (is_delimited self.old.stage) }
         ensures within { result ≤ length bytes.now }
         ensures follows { FollowsRun ⟦<KeyedLines<V, B, C> as Token>⟧.means self.old (take result bytes.now) self.new }
         ensures size { ⟦<KeyedLines<V, B, C> as Token>⟧.size self.new ≤ ⟦<KeyedLines<V, B, C> as Token>⟧.size self.old +
@@ -264,9 +266,9 @@ impl<V: Token, B: Follow<V>, C: Collection<V>> KeyedLines<V, B, C> {
         run_parts(&mut self.value, bytes)
     }
 
-    /// Whether the mark has ended a key.
+    /// Whether the delimiter has ended a key.
     fn has_key(&self) -> bool
-        ensures { result ≡ is_marked self.now.stage }
+        ensures { result ≡ is_delimited self.now.stage }
     {
         match self.stage {
             Stage::Before => false,
@@ -275,11 +277,11 @@ impl<V: Token, B: Follow<V>, C: Collection<V>> KeyedLines<V, B, C> {
         }
     }
 
-    /// The key and the value, where they and the mark between them are what is left of the line. It may find none where
-    /// there is one.
+    /// The key and the value, where they and the delimiter between them are what is left of the line. It may find none
+    /// where there is one.
     fn read_line(&self, line: &[u8]) -> Option<(Key, V::Out)>
         ensures pair { IfSome result (IsPairOf (⟦<WordText as Token>⟧.means self.now.key) (V.means self.now.value)
-            self.now.mark line.now) }
+            self.now.delimiter line.now) }
         ensures size { IfSome result (λ r. ⟦<WordText as Token>⟧.value_size r.0 + (1 + V.value_size r.1)
             ≤ ⟦<WordText as Token>⟧.size self.now.key + (V.size self.now.value + length line.now)) }
     {
@@ -287,7 +289,7 @@ impl<V: Token, B: Follow<V>, C: Collection<V>> KeyedLines<V, B, C> {
             Some(found) => found,
             None => return None,
         };
-        if count == line.len() || line[count] != self.mark {
+        if count == line.len() || line[count] != self.delimiter {
             return None;
         }
         let (_, rest) = line.split_at(count + 1);
@@ -298,17 +300,18 @@ impl<V: Token, B: Follow<V>, C: Collection<V>> KeyedLines<V, B, C> {
     }
 }
 
-impl<V: Token, B: Follow<V>, C: Collection<V>> Token for KeyedLines<V, B, C> {
+impl<V: Token, B: MakeValue<V>, C: Collection<V>> Token for KeyedLines<V, B, C> {
     type Out = C::Out;
 
     ghost use Rattle.cg_join.specs.RepeatLaws.{true_not_false};
     ghost use Rattle.cg_join.specs.KeyedStateLaws.{state_bytes, state_completes, state_ends, state_one};
     ghost use Rattle.cg_join.specs.WordStartLaws.{one_word, word_new, word_text_bytes};
 
-    ghost means = { λ s. IsTurned (AreKeyedAfter C.key_of (C.pairs_of s.pairs) (is_begun s.stage)
+    ghost means = { λ s. IsMappedText (AreKeyedAfter C.key_of (C.pairs_of s.pairs) (is_begun s.stage)
         (KeyedRest C.key_of C.value_of (⟦<WordText as Token>⟧.means s.key) (V.means s.value)
-        (B.alone s.values) s.mark (is_marked s.stage) s.ended.items)
-        (IsKeyed C.key_of C.value_of (SpellsWord s.keys.controller) (B.texts s.values) (B.alone s.values) s.mark)
+        (B.bare_value s.values) s.delimiter (is_delimited s.stage) s.ended.items)
+        (IsKeyed C.key_of C.value_of (SpellsWord s.keys.controller) (B.texts s.values) (B.bare_value s.values)
+        s.delimiter)
         s.end) C.given };
 
     ghost size = { λ s. C.size s.pairs + items_size ⟦<WordText as Token>⟧.value_size s.ended.items +
@@ -376,8 +379,9 @@ impl<V: Token, B: Follow<V>, C: Collection<V>> Token for KeyedLines<V, B, C> {
 
     ghost completes = { λ s. state_completes C.key_of C.value_of C.paired C.has_key C.has_value C.given
         (C.pairs_of s.pairs) (IsKeyed C.key_of C.value_of (SpellsWord s.keys.controller) (B.texts s.values)
-        (B.alone s.values) s.mark) (⟦<WordText as Token>⟧.means s.key) (V.means s.value)
-        (B.alone s.values) s.mark s.end (is_begun s.stage) s.ended.items s.distinct (is_marked s.stage) s.kept
+        (B.bare_value s.values) s.delimiter) (⟦<WordText as Token>⟧.means s.key) (V.means s.value)
+        (B.bare_value s.values) s.delimiter s.end (is_begun s.stage) s.ended.items s.distinct (is_delimited s.stage)
+        s.kept
         (word_new s.key.controller s.key.bytes.items [] (⟦<WordText as Token>⟧.completes s.key)
         (map C.key_of (C.pairs_of s.pairs))) (V.completes s.value) };
 
@@ -385,24 +389,26 @@ impl<V: Token, B: Follow<V>, C: Collection<V>> Token for KeyedLines<V, B, C> {
 
     ghost ends_is = { λ s. state_ends C.key_of C.given (C.pairs_of s.pairs)
         (KeyedRest C.key_of C.value_of (⟦<WordText as Token>⟧.means s.key) (V.means s.value)
-        (B.alone s.values) s.mark (is_marked s.stage) s.ended.items)
-        (IsKeyed C.key_of C.value_of (SpellsWord s.keys.controller) (B.texts s.values) (B.alone s.values) s.mark)
+        (B.bare_value s.values) s.delimiter (is_delimited s.stage) s.ended.items)
+        (IsKeyed C.key_of C.value_of (SpellsWord s.keys.controller) (B.texts s.values) (B.bare_value s.values)
+        s.delimiter)
         s.end s.ended.items s.distinct (is_begun s.stage) };
 
     ghost one_value = { λ s. state_one C.key_of C.value_of C.given (C.pairs_of s.pairs)
         (⟦<WordText as Token>⟧.means s.key) (V.means s.value) (SpellsWord s.keys.controller) (B.texts s.values)
-        (B.alone s.values) s.mark s.end (is_begun s.stage) s.ended.items C.paired C.whole s.apart
-        s.key_mark s.key_end s.keys_mark s.keys_end s.value_end s.values_end (⟦<WordText as Token>⟧.one_value s.key)
-        (V.one_value s.value) (one_word s.keys.controller) (B.one_text s.values) (is_marked s.stage) };
+        (B.bare_value s.values) s.delimiter s.end (is_begun s.stage) s.ended.items C.paired C.whole s.apart
+        s.key_delimiter s.key_end s.keys_delimiter s.keys_end s.value_end s.values_end
+        (⟦<WordText as Token>⟧.one_value s.key)
+        (V.one_value s.value) (one_word s.keys.controller) (B.one_text s.values) (is_delimited s.stage) };
 
     ghost holds_bytes = { λ s. state_bytes C.key_of C.value_of C.given (C.pairs_of s.pairs)
         (⟦<WordText as Token>⟧.means s.key) (V.means s.value) (SpellsWord s.keys.controller) (B.texts s.values)
-        (B.alone s.values) s.mark s.end (is_begun s.stage) s.ended.items s.small_mark s.small_end
+        (B.bare_value s.values) s.delimiter s.end (is_begun s.stage) s.ended.items s.small_delimiter s.small_end
         (⟦<WordText as Token>⟧.holds_bytes s.key) (V.holds_bytes s.value) (word_text_bytes s.keys.controller)
-        (B.text_bytes s.values) (is_marked s.stage) };
+        (B.text_bytes s.values) (is_delimited s.stage) };
 }
 
-impl<V: Token, B: Follow<V>, C: Collection<V>> WholeLines for KeyedLines<V, B, C> {
+impl<V: Token, B: MakeValue<V>, C: Collection<V>> WholeLines for KeyedLines<V, B, C> {
     fn take_line(&mut self, line: &[u8], end: u8) -> bool {
         if self.has_key() || end != self.end {
             return false;

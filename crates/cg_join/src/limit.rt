@@ -4,23 +4,23 @@ ghost use Rattle.cg_text.specs.Token.{Spells};
 ghost use Rattle.cg_text.specs.Limit.{IsLimit};
 
 use crate::choice::{Choice, Either};
-use crate::mapped::{Mapped, Turn};
+use crate::mapped::{MapValue, Mapped};
 use cg_text::{DecimalText, Keyword, KeywordText, Limit, OutOfMemory, Token};
 
 /// The limit of a choice.
 #[derive(Clone, Copy)]
 struct ToLimit;
 
-impl Turn<Choice<DecimalText, KeywordText>> for ToLimit {
+impl MapValue<Choice<DecimalText, KeywordText>> for ToLimit {
     type To = Limit;
 
     ghost use Rattle.cg_join.specs.LimitState.{limit_of};
 
-    ghost turned = { limit_of };
+    ghost mapped = { limit_of };
 
     ghost value_size = { λ _. 0 };
 
-    fn turn(value: Either<u64, ()>) -> Limit {
+    fn map_value(value: Either<u64, ()>) -> Limit {
         match value {
             Either::Left(n) => Limit::At(n),
             Either::Right(_) => Limit::Max,
@@ -33,7 +33,7 @@ impl Turn<Choice<DecimalText, KeywordText>> for ToLimit {
 
     ghost use Rattle.std.proofs.Common.{arith};
 
-    ghost no_more = { λ v. Prim.omega arith };
+    ghost adds_no_memory = { λ v. Prim.omega arith };
 }
 
 type Parts = Mapped<Choice<DecimalText, KeywordText>, ToLimit>;

@@ -2,9 +2,9 @@
 ghost use Rattle.std.specs.Prelude.{◌≡◌};
 ghost use Rattle.cg_text.specs.Token.{Spells};
 ghost use Rattle.cg_join.specs.Line.{LacksByte, IsLine};
-ghost use Rattle.cg_join.specs.Spelling.{IsTurned};
+ghost use Rattle.cg_join.specs.Spelling.{IsMappedText};
 
-use crate::mapped::{Mapped, Turn};
+use crate::mapped::{MapValue, Mapped};
 use crate::sequence::Sequence;
 use cg_text::{ByteText, Token};
 
@@ -12,10 +12,10 @@ use cg_text::{ByteText, Token};
 pub type Line<T, F> = Mapped<Sequence<T, ByteText>, F>;
 
 /// The token's text and a newline.
-pub fn one_line<T: Token, F: Turn<Sequence<T, ByteText>>>(token: T) -> Line<T, F>
+pub fn one_line<T: Token, F: MapValue<Sequence<T, ByteText>>>(token: T) -> Line<T, F>
     requires { LacksByte (T.means token) 10 }
     ensures spells { Spells ⟦<Mapped<Sequence<T, ByteText>, F> as Token>⟧.means result
-        (IsTurned (IsLine (T.means token)) F.turned) }
+        (IsMappedText (IsLine (T.means token)) F.mapped) }
     ensures size { ⟦<Mapped<Sequence<T, ByteText>, F> as Token>⟧.size result ≡ T.size token }
 {
     Mapped::new(Sequence::new(token, ByteText::new(b'\n')))

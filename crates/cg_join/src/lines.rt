@@ -6,8 +6,8 @@ ghost use Rattle.cg_join.specs.Line.{LacksByte};
 ghost use Rattle.cg_join.specs.Lines.{AreLines, AreLinesAfter};
 ghost use Rattle.cg_join.specs.LinesState.{at_hand};
 
+use crate::make_token::MakeToken;
 use crate::run::run_parts;
-use crate::start::Start;
 use crate::store::{held_in_all, put};
 use crate::whole_lines::WholeLines;
 use cg_text::{Items, OutOfMemory, Token, make_room};
@@ -17,7 +17,7 @@ use std::mem;
 /// Any number of a token, also none, each with a byte after it that none of its texts has. The token `current` counts
 /// only where a line is begun.
 #[derive(Drop)]
-pub struct Lines<T: Token, S: Start<T>> {
+pub struct Lines<T: Token, S: MakeToken<T>> {
     start: S,
     end: u8,
     items: Vec<T::Out>,
@@ -30,7 +30,7 @@ pub struct Lines<T: Token, S: Start<T>> {
 }
 
 /// Makes the token at hand anew where no line is begun.
-fn renew<T: Token, S: Start<T>>(current: &mut T, start: &S, begun: bool)
+fn renew<T: Token, S: MakeToken<T>>(current: &mut T, start: &S, begun: bool)
     requires { IsFalse begun → T.size current.old ≡ 0 }
     ensures is { (rest : List ℕ) (v : T.Out) → T.means current.new rest v ↔
         at_hand begun (T.means current.old) (S.texts start.now) rest v }
@@ -41,7 +41,7 @@ fn renew<T: Token, S: Start<T>>(current: &mut T, start: &S, begun: bool)
     }
 }
 
-impl<T: Token, S: Start<T>> Lines<T, S> {
+impl<T: Token, S: MakeToken<T>> Lines<T, S> {
     /// Any number of texts of the tokens that `start` makes.
     pub fn new(alloc: Global, start: S, end: u8) -> Lines<T, S>
         requires { LacksByte (S.texts start) end }
@@ -59,7 +59,7 @@ impl<T: Token, S: Start<T>> Lines<T, S> {
     }
 }
 
-impl<T: Token, S: Start<T>> Token for Lines<T, S> {
+impl<T: Token, S: MakeToken<T>> Token for Lines<T, S> {
     type Out = Items<T::Out>;
 
     ghost use Rattle.cg_join.specs.RepeatLaws.{true_not_false};
@@ -158,7 +158,7 @@ impl<T: Token, S: Start<T>> Token for Lines<T, S> {
         (T.holds_bytes s.current) (S.text_bytes s.start) s.begun rest h.0 h.2 };
 }
 
-impl<T: Token, S: Start<T>> WholeLines for Lines<T, S> {
+impl<T: Token, S: MakeToken<T>> WholeLines for Lines<T, S> {
     fn take_line(&mut self, line: &[u8], end: u8) -> bool {
         if end != self.end || self.begun {
             return false;

@@ -8,7 +8,7 @@ ghost use Rattle.cg_join.specs.Distinct.{any_value};
 ghost use Rattle.cg_join.specs.Pairs.{pair_size};
 ghost use Rattle.cg_join.specs.PairsState.{IsCompleted};
 
-use crate::start::Start;
+use crate::make_token::MakeToken;
 use crate::words::has;
 use cg_index::{Cell, Change, HasKey, KeyedBuilder};
 use cg_text::{Key, Token, WordText};
@@ -112,7 +112,7 @@ pub(crate) fn held_in_pairs<V: Token, F: Pairing<V>>(places: usize, cells: &[Cel
 }
 
 /// The value of a token that has ended, and a new token in its place.
-pub(crate) fn renew<T: Token, S: Start<T>>(token: &mut T, start: &S) -> T::Out
+pub(crate) fn renew<T: Token, S: MakeToken<T>>(token: &mut T, start: &S) -> T::Out
     requires { IsTrue (T.ends token.old) }
     ensures value { T.means token.old [] result }
     ensures value_size { T.value_size result ≤ T.size token.old }

@@ -11,8 +11,8 @@ ghost use Rattle.cg_join.specs.PairsState.{WordAtHand, last_size, whole_pairs};
 ghost use Rattle.cg_join.specs.WordStartLaws.{SpellsWord};
 ghost use Rattle.cg_join.specs.declared.pairs.Stage.TheVariants.{Before, InWord, InValue};
 
+use crate::make_token::MakeToken;
 use crate::pairing::{Pairing, complete_last, held_in_pairs, is_old_word, renew};
-use crate::start::Start;
 use crate::words::WordStart;
 use cg_index::{KeyedBuilder, KeyedItems};
 use cg_text::{OutOfMemory, Token, WordText};
@@ -32,48 +32,49 @@ pub enum Stage {
     Before,
     /// Its word can be lengthened.
     InWord,
-    /// Its word is ended by the mark.
+    /// Its word is ended by the delimiter.
     InValue,
 }
 
-/// Any number of pairs, also none, each a separator, a word, a mark and a value. No word comes twice:
-/// one may be followed by the mark, which no word has, only where it is new.
+/// Any number of pairs, also none, each a separator, a word, a delimiter and a value. No word comes twice:
+/// one may be followed by the delimiter, which no word has, only where it is new.
 #[derive(Drop)]
-pub struct DistinctPairs<V: Token, B: Start<V>, F: Pairing<V>> {
+pub struct DistinctPairs<V: Token, B: MakeToken<V>, F: Pairing<V>> {
     words: WordStart,
     values: B,
     separator: u8,
-    mark: u8,
+    delimiter: u8,
     /// In a value, the last pair is that of the value.
     items: KeyedBuilder<F::Pair>,
     stage: Stage,
     word: WordText,
     value: V,
     pairing: PhantomData<F>,
-    ghost lacks: { LacksByte (⟦<WordText as Token>⟧.means word) mark },
-    ghost words_lack: { LacksByte (SpellsWord words.controller) mark },
+    ghost lacks: { LacksByte (⟦<WordText as Token>⟧.means word) delimiter },
+    ghost words_lack: { LacksByte (SpellsWord words.controller) delimiter },
     ghost stops: { Stops (V.means value) separator },
     ghost values_stop: { Stops (B.texts values) separator },
     ghost small_separator: { separator < 256 },
-    ghost small_mark: { mark < 256 },
+    ghost small_delimiter: { delimiter < 256 },
     ghost begun: { stage ≡ InValue → 0 < length items.items },
     ghost awaits: { stage ≡ InValue → last_size (λ p. V.value_size (F.value_of p)) items.items ≡ 0 },
     ghost distinct: { AreDistinct (map F.word_of items.items) } by { AreDistinct_prop (map F.word_of items.items) },
 }
 
-impl<V: Token, B: Start<V>, F: Pairing<V>> DistinctPairs<V, B, F> {
+impl<V: Token, B: MakeToken<V>, F: Pairing<V>> DistinctPairs<V, B, F> {
     /// Any number of pairs of a word and a value, whose tokens are made by `words` and `values`.
     pub fn new(
         alloc: Global,
         words: WordStart,
         values: B,
         separator: u8,
-        mark: u8,
+        delimiter: u8,
     ) -> DistinctPairs<V, B, F>
-        requires lacks { LacksByte (SpellsWord words.controller) mark }
+        requires lacks { LacksByte (SpellsWord words.controller) delimiter }
         requires stops { Stops (B.texts values) separator }
         ensures spells { Spells ⟦<DistinctPairs<V, B, F> as Token>⟧.means result
-            (ArePairs F.word_of (IsPairText F.word_of F.value_of (SpellsWord words.controller) (B.texts values) mark)
+            (ArePairs F.word_of (IsPairText F.word_of F.value_of (SpellsWord words.controller) (B.texts values)
+            delimiter)
             separator) }
         ensures size { ⟦<DistinctPairs<V, B, F> as Token>⟧.size result ≡ 0 }
     {
@@ -83,7 +84,7 @@ impl<V: Token, B: Start<V>, F: Pairing<V>> DistinctPairs<V, B, F> {
             words,
             values,
             separator,
-            mark,
+            delimiter,
             items: KeyedBuilder::new(alloc),
             stage: Stage::Before,
             word,
@@ -97,13 +98,13 @@ impl<V: Token, B: Start<V>, F: Pairing<V>> DistinctPairs<V, B, F> {
         words: WordStart,
         values: B,
         separator: u8,
-        mark: u8,
+        delimiter: u8,
     ) -> DistinctPairs<V, B, F>
-        requires lacks { LacksByte (SpellsWord words.controller) mark }
+        requires lacks { LacksByte (SpellsWord words.controller) delimiter }
         requires stops { Stops (B.texts values) separator }
         ensures spells { Spells ⟦<DistinctPairs<V, B, F> as Token>⟧.means result
             (AreJoinedPairs F.word_of (IsPairText F.word_of F.value_of (SpellsWord words.controller) (B.texts values)
-            mark) separator) }
+            delimiter) separator) }
         ensures size { ⟦<DistinctPairs<V, B, F> as Token>⟧.size result ≡ 0 }
     {
         let word = words.start();
@@ -112,7 +113,7 @@ impl<V: Token, B: Start<V>, F: Pairing<V>> DistinctPairs<V, B, F> {
             words,
             values,
             separator,
-            mark,
+            delimiter,
             items: KeyedBuilder::new(alloc),
             stage: Stage::InWord,
             word,
@@ -121,7 +122,7 @@ impl<V: Token, B: Start<V>, F: Pairing<V>> DistinctPairs<V, B, F> {
         }
     }
 
-    /// Takes a byte of a word, or the mark after it.
+    /// Takes a byte of a word, or the delimiter after it.
     fn step_word(&mut self, byte: u8) -> Result<bool, OutOfMemory>
         requires { self.old.stage ≡ InWord }
         ensures taken { IfTaken result (Follows ⟦<DistinctPairs<V, B, F> as Token>⟧.means self.old byte self.new) }
@@ -133,7 +134,7 @@ impl<V: Token, B: Start<V>, F: Pairing<V>> DistinctPairs<V, B, F> {
             self.old + 1 }
         ensures last { OnErr result (Begins ⟦<DistinctPairs<V, B, F> as Token>⟧.means self.old byte) }
     {
-        if byte != self.mark {
+        if byte != self.delimiter {
             return self.word.step(byte);
         }
         if !self.word.can_end() {
@@ -184,7 +185,7 @@ impl<V: Token, B: Start<V>, F: Pairing<V>> DistinctPairs<V, B, F> {
     }
 }
 
-impl<V: Token, B: Start<V>, F: Pairing<V>> DistinctPairs<V, B, F> {
+impl<V: Token, B: MakeToken<V>, F: Pairing<V>> DistinctPairs<V, B, F> {
     /// Whether the word of the first pair is at hand.
     fn is_first_word(&self) -> bool
         ensures { IsTrue result → (self.now.stage ≡ InWord) × (self.now.items.items ≡ []) }
@@ -197,17 +198,17 @@ impl<V: Token, B: Start<V>, F: Pairing<V>> DistinctPairs<V, B, F> {
     }
 }
 
-/// The pair in front of the bytes, a rest of the word, the mark and a rest of the value, and how many bytes it has. It
-/// may find none where there is one.
+/// The pair in front of the bytes, a rest of the word, the delimiter and a rest of the value, and how many bytes it
+/// has. It may find none where there is one.
 #[inline(always)]
 fn pair_in_front<V: Token, F: Pairing<V>>(
     word: &WordText,
     value: &V,
-    mark: u8,
+    delimiter: u8,
     bytes: &[u8],
 ) -> Option<(F::Pair, usize)>
     ensures front { IfSome result (IsPairFront F.word_of F.value_of (⟦<WordText as Token>⟧.means word.now)
-        (V.means value.now) mark bytes.now) }
+        (V.means value.now) delimiter bytes.now) }
     ensures size { IfSome result (λ r. pair_size F.word_of F.value_of ⟦<WordText as Token>⟧.value_size V.value_size r.0
         + 1 ≤ ⟦<WordText as Token>⟧.size word.now + (V.size value.now + r.1)) }
 {
@@ -215,7 +216,7 @@ fn pair_in_front<V: Token, F: Pairing<V>>(
         Some(found) => found,
         None => return None,
     };
-    if count == bytes.len() || bytes[count] != mark {
+    if count == bytes.len() || bytes[count] != delimiter {
         return None;
     }
     let (_, rest) = bytes.split_at(count + 1);
@@ -228,7 +229,7 @@ fn pair_in_front<V: Token, F: Pairing<V>>(
     Some((pair, count + 1 + more))
 }
 
-impl<V: Token, B: Start<V>, F: Pairing<V>> Token for DistinctPairs<V, B, F> {
+impl<V: Token, B: MakeToken<V>, F: Pairing<V>> Token for DistinctPairs<V, B, F> {
     type Out = KeyedItems<F::Pair>;
 
     ghost use Rattle.cg_join.specs.RepeatLaws.{true_not_false};
@@ -239,8 +240,9 @@ impl<V: Token, B: Start<V>, F: Pairing<V>> Token for DistinctPairs<V, B, F> {
     ghost means = { λ s rest all. ArePairsAfter F.word_of s.stage (whole_pairs s.stage s.items.items)
         (PairRest F.word_of F.value_of
         (WordAtHand F.word_of s.stage s.items.items (⟦<WordText as Token>⟧.means s.word))
-        (V.means s.value) s.stage s.mark)
-        (IsPairText F.word_of F.value_of (SpellsWord s.words.controller) (B.texts s.values) s.mark) s.separator rest
+        (V.means s.value) s.stage s.delimiter)
+        (IsPairText F.word_of F.value_of (SpellsWord s.words.controller) (B.texts s.values) s.delimiter) s.separator
+        rest
         all };
 
     ghost size = { λ s. items_size (pair_size F.word_of F.value_of ⟦<WordText as Token>⟧.value_size V.value_size)
@@ -281,7 +283,7 @@ impl<V: Token, B: Start<V>, F: Pairing<V>> Token for DistinctPairs<V, B, F> {
         let (pair, mut used) = match pair_in_front::<V, F>(
             &self.word,
             &self.value,
-            self.mark,
+            self.delimiter,
             bytes,
         ) {
             Some(found) => found,
@@ -297,7 +299,7 @@ impl<V: Token, B: Start<V>, F: Pairing<V>> Token for DistinctPairs<V, B, F> {
         let value = self.values.start();
         while used < bytes.len() && bytes[used] == self.separator {
             let (_, rest) = bytes.split_at(used + 1);
-            let (pair, count) = match pair_in_front::<V, F>(&word, &value, self.mark, rest) {
+            let (pair, count) = match pair_in_front::<V, F>(&word, &value, self.delimiter, rest) {
                 Some(found) => found,
                 None => return None,
             };
@@ -313,7 +315,7 @@ impl<V: Token, B: Start<V>, F: Pairing<V>> Token for DistinctPairs<V, B, F> {
         match self.stage {
             Stage::Before => byte == self.separator,
             Stage::InWord => {
-                if byte != self.mark {
+                if byte != self.delimiter {
                     return self.word.allows(byte);
                 }
                 let ended = self.word.can_end();
@@ -360,42 +362,45 @@ impl<V: Token, B: Start<V>, F: Pairing<V>> Token for DistinctPairs<V, B, F> {
     }
 
     ghost completes = { λ s. state_completes F.word_of F.value_of F.paired F.has_word F.has_value s.items.items
-        (IsPairText F.word_of F.value_of (SpellsWord s.words.controller) (B.texts s.values) s.mark) s.separator
-        s.mark (⟦<WordText as Token>⟧.means s.word) (V.means s.value) s.distinct s.stage
+        (IsPairText F.word_of F.value_of (SpellsWord s.words.controller) (B.texts s.values) s.delimiter) s.separator
+        s.delimiter (⟦<WordText as Token>⟧.means s.word) (V.means s.value) s.distinct s.stage
         (word_new s.word.controller s.word.bytes.items [] (⟦<WordText as Token>⟧.completes s.word)
         (map F.word_of s.items.items)) (V.completes s.value) s.begun };
 
     ghost no_size = { λ e s. absurd (true_not_false e) };
 
     ghost ends_is = { λ s. state_ends F.word_of F.value_of F.paired F.has_word F.has_value s.items.items
-        (IsPairText F.word_of F.value_of (SpellsWord s.words.controller) (B.texts s.values) s.mark) s.separator
-        s.mark (⟦<WordText as Token>⟧.means s.word) (V.means s.value) s.distinct s.stage (V.ends s.value)
+        (IsPairText F.word_of F.value_of (SpellsWord s.words.controller) (B.texts s.values) s.delimiter) s.separator
+        s.delimiter (⟦<WordText as Token>⟧.means s.word) (V.means s.value) s.distinct s.stage (V.ends s.value)
         (V.ends_is s.value) s.begun };
 
     ghost one_value = { λ s rest v w h k. led_after_one s.separator s.stage (whole_pairs s.stage s.items.items)
         (PairRest F.word_of F.value_of
         (WordAtHand F.word_of s.stage s.items.items (⟦<WordText as Token>⟧.means s.word))
-        (V.means s.value) s.stage s.mark)
-        (IsPairText F.word_of F.value_of (SpellsWord s.words.controller) (B.texts s.values) s.mark)
-        (state_stops F.word_of F.value_of (⟦<WordText as Token>⟧.means s.word) s.mark s.items.items (V.means s.value)
+        (V.means s.value) s.stage s.delimiter)
+        (IsPairText F.word_of F.value_of (SpellsWord s.words.controller) (B.texts s.values) s.delimiter)
+        (state_stops F.word_of F.value_of (⟦<WordText as Token>⟧.means s.word) s.delimiter s.items.items
+        (V.means s.value)
         s.stage s.separator s.lacks s.stops)
-        (pair_stops F.word_of F.value_of s.mark (SpellsWord s.words.controller) (B.texts s.values) s.separator
+        (pair_stops F.word_of F.value_of s.delimiter (SpellsWord s.words.controller) (B.texts s.values) s.separator
         s.words_lack s.values_stop)
-        (state_one F.word_of F.value_of (⟦<WordText as Token>⟧.means s.word) s.mark s.items.items F.paired F.whole
+        (state_one F.word_of F.value_of (⟦<WordText as Token>⟧.means s.word) s.delimiter s.items.items F.paired F.whole
         (V.means s.value) s.stage s.lacks (⟦<WordText as Token>⟧.one_value s.word) (V.one_value s.value))
-        (pair_one F.word_of F.value_of (SpellsWord s.words.controller) s.mark F.paired F.whole (B.texts s.values)
+        (pair_one F.word_of F.value_of (SpellsWord s.words.controller) s.delimiter F.paired F.whole (B.texts s.values)
         s.words_lack (one_word s.words.controller) (B.one_text s.values))
         rest v w h.0 k.0 };
 
     ghost holds_bytes = { λ s rest all h. led_after_bytes s.separator s.stage (whole_pairs s.stage s.items.items)
         (PairRest F.word_of F.value_of
         (WordAtHand F.word_of s.stage s.items.items (⟦<WordText as Token>⟧.means s.word))
-        (V.means s.value) s.stage s.mark)
-        (IsPairText F.word_of F.value_of (SpellsWord s.words.controller) (B.texts s.values) s.mark)
+        (V.means s.value) s.stage s.delimiter)
+        (IsPairText F.word_of F.value_of (SpellsWord s.words.controller) (B.texts s.values) s.delimiter)
         s.small_separator
-        (state_bytes F.word_of F.value_of (⟦<WordText as Token>⟧.means s.word) s.mark s.items.items (V.means s.value)
-        s.stage s.small_mark (⟦<WordText as Token>⟧.holds_bytes s.word) (V.holds_bytes s.value))
-        (pair_bytes F.word_of F.value_of s.mark (SpellsWord s.words.controller) (B.texts s.values) s.small_mark
+        (state_bytes F.word_of F.value_of (⟦<WordText as Token>⟧.means s.word) s.delimiter s.items.items
+        (V.means s.value)
+        s.stage s.small_delimiter (⟦<WordText as Token>⟧.holds_bytes s.word) (V.holds_bytes s.value))
+        (pair_bytes F.word_of F.value_of s.delimiter (SpellsWord s.words.controller) (B.texts s.values)
+        s.small_delimiter
         (word_text_bytes s.words.controller) (B.text_bytes s.values))
         rest all h.0 };
 }

@@ -5,8 +5,10 @@ ghost use Rattle.cg_text.specs.Token.{Spells};
 
 use crate::bounded::decimal_in;
 use crate::choice::{Choice, Either};
-use crate::mapped::{Mapped, Turn};
-use cg_text::{DecimalText, Form, Hundredths, HundredthsText, Key, NameText, ParamValue, Token};
+use crate::mapped::{MapValue, Mapped};
+use cg_text::{
+    DecimalText, Hundredths, HundredthsText, Key, NameText, ParamValue, Spelling, Token,
+};
 use std::alloc::Global;
 
 // A name takes memory, so it comes first.
@@ -16,17 +18,17 @@ type AnyParam = Choice<NameText, Choice<DecimalText, HundredthsText>>;
 #[derive(Clone, Copy)]
 pub struct ToParam;
 
-impl Turn<AnyParam> for ToParam {
+impl MapValue<AnyParam> for ToParam {
     type To = ParamValue;
 
     ghost use Rattle.cg_join.specs.ParamState.{param_of, param_size};
     ghost use Rattle.cg_join.specs.ParamLaws.{param_no_more};
 
-    ghost turned = { param_of };
+    ghost mapped = { param_of };
 
     ghost value_size = { param_size };
 
-    fn turn(value: Either<Key, Either<u64, Hundredths>>) -> ParamValue {
+    fn map_value(value: Either<Key, Either<u64, Hundredths>>) -> ParamValue {
         match value {
             Either::Left(name) => ParamValue::Name(name),
             Either::Right(Either::Left(n)) => ParamValue::Whole(n),
@@ -41,7 +43,7 @@ impl Turn<AnyParam> for ToParam {
         }
     }
 
-    ghost no_more = { param_no_more };
+    ghost adds_no_memory = { param_no_more };
 }
 
 /// A whole number, a number with two digits after the dot, whose whole part is at most 999999999, or a name value.
@@ -52,7 +54,7 @@ pub fn param(alloc: Global) -> ParamText
     ensures spells { Spells ⟦<ParamText as Token>⟧.means result (λ text v. IsParam v text) }
     ensures size { ⟦<ParamText as Token>⟧.size result ≡ 0 }
 {
-    let hundredths = HundredthsText::new(Form::Read, 99999999999);
+    let hundredths = HundredthsText::new(Spelling::Read, 99999999999);
     let number = Choice::new(decimal_in(0, u64::MAX), hundredths);
     Mapped::new(Choice::new(NameText::new(alloc), number))
 }

@@ -6,7 +6,7 @@ ghost use Rattle.cg_join.specs.Composites.{AreAverages};
 use crate::bounded::decimal_in;
 use crate::label::{LabelText, labelled};
 use crate::sequence::Sequence;
-use cg_text::{DecimalText, Form, HundredthsText, Keyword, Token};
+use cg_text::{DecimalText, HundredthsText, Keyword, Spelling, Token};
 
 /// The share of time that tasks stalled over ten seconds, a minute and five minutes, and the total in microseconds.
 pub type Averages = Sequence<
@@ -23,9 +23,9 @@ pub fn averages() -> Averages
     ensures spells { Spells ⟦<Averages as Token>⟧.means result AreAverages }
     ensures size { ⟦<Averages as Token>⟧.size result ≡ 0 }
 {
-    let avg10 = labelled(Keyword::Avg10, HundredthsText::new(Form::Read, 99999));
-    let avg60 = labelled(Keyword::Avg60, HundredthsText::new(Form::Read, 99999));
-    let avg300 = labelled(Keyword::Avg300, HundredthsText::new(Form::Read, 99999));
+    let avg10 = labelled(Keyword::Avg10, HundredthsText::new(Spelling::Read, 99999));
+    let avg60 = labelled(Keyword::Avg60, HundredthsText::new(Spelling::Read, 99999));
+    let avg300 = labelled(Keyword::Avg300, HundredthsText::new(Spelling::Read, 99999));
     let total = labelled(Keyword::Total, decimal_in(0, u64::MAX));
     Sequence::new(avg10, Sequence::new(avg60, Sequence::new(avg300, total)))
 }

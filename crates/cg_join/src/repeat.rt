@@ -4,7 +4,7 @@ ghost use Rattle.cg_text.specs.Scan.{FollowsRun};
 ghost use Rattle.cg_text.specs.Token.{Spells, saturated};
 ghost use Rattle.cg_join.specs.Repeat.{AreJoined, IsListAfter, LacksEmpty, Stops, items_size, out_size};
 
-use crate::start::Start;
+use crate::make_token::MakeToken;
 use crate::store::{held_in_all, held_in_joined, put};
 use cg_text::{Items, OutOfMemory, Token, make_room};
 use std::alloc::Global;
@@ -12,7 +12,7 @@ use std::mem;
 
 /// One or more of a token, with a byte between that a token never takes where it could end. No text of it is empty.
 #[derive(Drop)]
-pub struct Repeat<T: Token, S: Start<T>> {
+pub struct Repeat<T: Token, S: MakeToken<T>> {
     start: S,
     separator: u8,
     items: Vec<T::Out>,
@@ -24,7 +24,7 @@ pub struct Repeat<T: Token, S: Start<T>> {
     ghost small: { separator < 256 },
 }
 
-impl<T: Token, S: Start<T>> Repeat<T, S> {
+impl<T: Token, S: MakeToken<T>> Repeat<T, S> {
     /// One or more texts of the tokens that `start` makes.
     pub fn new(alloc: Global, start: S, separator: u8) -> Repeat<T, S>
         requires stops { Stops (S.texts start) separator }
@@ -85,7 +85,7 @@ impl<T: Token, S: Start<T>> Repeat<T, S> {
     }
 }
 
-impl<T: Token, S: Start<T>> Token for Repeat<T, S> {
+impl<T: Token, S: MakeToken<T>> Token for Repeat<T, S> {
     type Out = Items<T::Out>;
 
     ghost use Rattle.cg_join.specs.ByteLaws.{list_bytes};

@@ -2,7 +2,7 @@
 ghost use Rattle.std.specs.Prelude.{◌≡◌, ◌≤◌, ◌<◌};
 ghost use Rattle.cg_text.specs.Decimal.{IsDecimal};
 
-use crate::start::Start;
+use crate::make_token::MakeToken;
 use cg_text::DecimalText;
 
 /// Makes tokens of the decimal numbers of a range.
@@ -24,7 +24,7 @@ impl NumberStart {
     }
 }
 
-impl Start<DecimalText> for NumberStart {
+impl MakeToken<DecimalText> for NumberStart {
     ghost use Rattle.cg_join.specs.StartLaws.{some_decimal, one_decimal, decimal_bytes};
 
     ghost texts = { λ s text n. IsDecimal s.lo s.hi n text };

@@ -4,7 +4,7 @@ ghost use Rattle.cg_text.specs.Word.{IsWordText};
 ghost use Rattle.cg_text.specs.WordState.{is_taken};
 ghost use Rattle.cg_join.specs.Distinct.{any_value};
 
-use crate::start::Start;
+use crate::make_token::MakeToken;
 use cg_index::{HasKey, KeyedBuilder};
 use cg_text::WordText;
 use std::alloc::Global;
@@ -30,7 +30,7 @@ impl WordStart {
     }
 }
 
-impl Start<WordText> for WordStart {
+impl MakeToken<WordText> for WordStart {
     ghost use Rattle.cg_join.specs.WordStartLaws.{some_word, one_word, word_text_bytes};
 
     ghost texts = { λ s text word. (word ≡ text) × IsWordText s.controller text };

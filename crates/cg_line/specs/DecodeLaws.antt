@@ -13,9 +13,9 @@ use Rattle.cg_line.specs.Decode.{IsCut, IsReadWhole, IsStarved, IsTextFault}
 use Rattle.cg_line.specs.declared.read_all.TextFault.{TextFault}
 use Rattle.cg_line.specs.declared.read_all.TextFault.TheVariants as text
 
-module _ (Took : List ℕ → Type 0) (bytes : List ℕ) where
+module _ (OpenReads : List ℕ → Type 0) (bytes : List ℕ) where
   -- A run of bytes more.
-  pub run_on : (rest : List ℕ) (at used : ℕ) → rest ≡ drop at bytes → Took (take at bytes ++ take used rest) → Took (take (at + used) bytes)
+  pub run_on : (rest : List ℕ) (at used : ℕ) → rest ≡ drop at bytes → OpenReads (take at bytes ++ take used rest) → OpenReads (take (at + used) bytes)
   run_on rest at used e h = rw (take-add at used bytes, ← e) h
 
 module _ (L : List ℕ → Type 0) (bytes : List ℕ) where

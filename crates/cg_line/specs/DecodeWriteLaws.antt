@@ -5,7 +5,7 @@ use Rattle.cg_value.specs.Table.{write_form_of}
 use Rattle.cg_value.specs.declared.profile.Profile.{Profile}
 use Rattle.cg_value.specs.declared.kind.WriteForm.{WriteForm}
 use Rattle.cg_value.specs.declared.setting.Setting.{Setting}
-use Rattle.cg_line.specs.Takes.{WritesOf}
+use Rattle.cg_line.specs.SettingReads.{WritesOf}
 
 module _ (profile : Profile) (name : List ℕ) (kind : WriteForm) (is : write_form_of profile name ≡ Some kind) where
   same_kind : (k : WriteForm) → write_form_of profile name ≡ Some k → k ≡ kind

@@ -9,7 +9,7 @@ use Rattle.cg_value.specs.declared.kind.ReadForm.{ReadForm}
 use Rattle.cg_value.specs.declared.kind.WriteForm.{WriteForm}
 use Rattle.cg_value.specs.declared.value.Value.{Value}
 use Rattle.cg_line.specs.Reads.{Reads, held_by}
-use Rattle.cg_line.specs.Takes.{Takes, held_of}
+use Rattle.cg_line.specs.SettingReads.{SettingReads, held_of}
 use Rattle.cg_line.specs.declared.reader.ValueReader.{ValueReader}
 use Rattle.cg_line.specs.declared.setting_reader.SettingReader.{SettingReader}
 
@@ -19,7 +19,7 @@ FileTaken = (r : ValueReader) (kind : ReadForm) (taken : List ℕ) → Reads r k
 
 -- And of a write, some write of its kind.
 abbrev pub WriteTaken : Type 0
-WriteTaken = (r : SettingReader) (kind : WriteForm) (taken : List ℕ) → Takes r kind taken → Viable (KindWrite kind) taken
+WriteTaken = (r : SettingReader) (kind : WriteForm) (taken : List ℕ) → SettingReads r kind taken → Viable (KindWrite kind) taken
 
 -- A reader holds no more than its bytes, and no more than the line that is begun and what its whole lines may.
 abbrev pub FileHeld : Type 0
@@ -31,4 +31,4 @@ FileLinesHeld = (r : ValueReader) (kind : ReadForm) (lines : List (List ℕ)) (l
 
 -- A reader of a write holds no more than its bytes.
 abbrev pub WriteHeld : Type 0
-WriteHeld = (r : SettingReader) (kind : WriteForm) (taken : List ℕ) → Takes r kind taken → held_of r ≤ length taken
+WriteHeld = (r : SettingReader) (kind : WriteForm) (taken : List ℕ) → SettingReads r kind taken → held_of r ≤ length taken

@@ -17,8 +17,8 @@ pub mod RestsLaws
 pub mod Runs
 pub mod RunsLaws
 pub mod SplitLaws
-pub mod Takes
-pub mod Took
-pub mod TookLaws
+pub mod SettingReads
+pub mod OpenReads
+pub mod OpenReadsLaws
 pub mod Upgrading
 pub mod UpgradingLaws

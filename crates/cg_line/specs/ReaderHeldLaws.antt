@@ -9,21 +9,21 @@ use Rattle.cg_value.specs.declared.kind.WriteForm.{WriteForm}
 use Rattle.cg_value.specs.declared.value.Value.{Value}
 use Rattle.cg_line.specs.Reads.{IsState, Reads, held_by, is_reads, state_held}
 use Rattle.cg_line.specs.ReadsLaws.{held_is}
-use Rattle.cg_line.specs.Takes.{Takes, held_of, is_takes}
-use Rattle.cg_line.specs.Took.{Took, is_took, open_held}
+use Rattle.cg_line.specs.SettingReads.{SettingReads, held_of, is_setting_reads}
+use Rattle.cg_line.specs.OpenReads.{OpenReads, is_open_reads, open_held}
 use Rattle.cg_line.specs.declared.open_reader.OpenReader.{OpenReader}
 use Rattle.cg_line.specs.declared.reader.State.{State}
 use Rattle.cg_line.specs.declared.reader.State.TheVariants as state
 use Rattle.cg_line.specs.declared.reader.ValueReader.{ValueReader}
 use Rattle.cg_line.specs.declared.setting_reader.SettingReader.{SettingReader}
 
-open_few : (o : OpenReader) (kind : ReadForm) (taken : List ℕ) → Took o kind taken → open_held o ≤ length taken
+open_few : (o : OpenReader) (kind : ReadForm) (taken : List ℕ) → OpenReads o kind taken → open_held o ≤ length taken
 unfolding open_held
-open_few o kind taken h = omega (arith, (is_took o kind taken h).read.few)
+open_few o kind taken h = omega (arith, (is_open_reads o kind taken h).read.few)
 
-open_most : (o : OpenReader) (kind : ReadForm) (lines : List (List ℕ)) (line : List ℕ) (v : Value) → Took o kind (unlines lines ++ line) → Lacks 10 line → ReadLines kind v lines → open_held o ≤ held_of_lines v lines + length line
+open_most : (o : OpenReader) (kind : ReadForm) (lines : List (List ℕ)) (line : List ℕ) (v : Value) → OpenReads o kind (unlines lines ++ line) → Lacks 10 line → ReadLines kind v lines → open_held o ≤ held_of_lines v lines + length line
 unfolding open_held
-open_most o kind lines line v h plain spelled = (is_took o kind (unlines lines ++ line) h).little lines line v refl plain spelled
+open_most o kind lines line v h plain spelled = (is_open_reads o kind (unlines lines ++ line) h).little lines line v refl plain spelled
 
 state_few : (s : State) (kind : ReadForm) (taken : List ℕ) → IsState s kind taken → state_held s ≤ length taken
 state_few (state.New alloc k) kind taken h = omega arith
@@ -42,6 +42,6 @@ reads_few r kind taken h = rw (held_is r r.state refl) (state_few r.state kind t
 pub reads_most : (r : ValueReader) (kind : ReadForm) (lines : List (List ℕ)) (line : List ℕ) (v : Value) → Reads r kind (unlines lines ++ line) → Lacks 10 line → ReadLines kind v lines → held_by r ≤ held_of_lines v lines + length line
 reads_most r kind lines line v h plain spelled = rw (held_is r r.state refl) (state_most r.state kind lines line v (is_reads r kind (unlines lines ++ line) h).state plain spelled)
 
-pub takes_few : (r : SettingReader) (kind : WriteForm) (taken : List ℕ) → Takes r kind taken → held_of r ≤ length taken
+pub takes_few : (r : SettingReader) (kind : WriteForm) (taken : List ℕ) → SettingReads r kind taken → held_of r ≤ length taken
 unfolding held_of
-takes_few r kind taken h = omega (arith, (is_takes r kind taken h).few)
+takes_few r kind taken h = omega (arith, (is_setting_reads r kind taken h).few)

@@ -8,7 +8,7 @@ use Rattle.cg_value.specs.Kind.{IsReadForm}
 use Rattle.cg_value.specs.declared.kind.ReadForm.{ReadForm}
 use Rattle.cg_value.specs.declared.value.Value.{Value}
 use Rattle.cg_line.specs.Rests.{Leaves}
-use Rattle.cg_line.specs.Took.{Took, is_took, open_held}
+use Rattle.cg_line.specs.OpenReads.{OpenReads, is_open_reads, open_held}
 use Rattle.cg_line.specs.declared.push.PushFault.{PushFault}
 use Rattle.cg_line.specs.declared.reader.State.{State}
 use Rattle.cg_line.specs.declared.reader.State.TheVariants as state
@@ -25,7 +25,7 @@ pub record IsWholeFile (kind : ReadForm) (v : Value) (taken : List ℕ) : Type 0
 abbrev pub IsState : State → ReadForm → List ℕ → Type 0
 IsState (state.New alloc k) kind taken = (k ≡ kind) × (taken ≡ [])
 IsState (state.Whole file) kind taken = IsWholeFile kind file.value taken
-IsState (state.Open reader) kind taken = Took reader.value kind taken
+IsState (state.Open reader) kind taken = OpenReads reader.value kind taken
 
 abbrev pub state_held : State → ℕ
 state_held (state.New alloc k) = 0
@@ -59,7 +59,7 @@ is_reads r kind taken h = h
 state_viable : (s : State) (kind : ReadForm) (taken : List ℕ) → IsReadForm kind → IsState s kind taken → Viable (KindFile kind) taken
 state_viable (state.New alloc k) kind taken form h = let line = first_line kind form in rw h.1 (record { rest = line.0 ++ 10 ∷ []; whole = line.1.file })
 state_viable (state.Whole file) kind taken form h = record { rest = []; whole = (file.value, rw (append-nil taken) h.text) }
-state_viable (state.Open reader) kind taken form h = (is_took reader.value kind taken h).read.viable
+state_viable (state.Open reader) kind taken form h = (is_open_reads reader.value kind taken h).read.viable
 
 pub reads_viable : (r : ValueReader) (kind : ReadForm) (taken : List ℕ) → Reads r kind taken → Viable (KindFile kind) taken
 reads_viable r kind taken h = let read = is_reads r kind taken h in state_viable r.state kind taken read.form read.state

@@ -6,7 +6,7 @@ ghost use Rattle.cg_value.specs.declared.profile.Profile.{Profile};
 ghost use Rattle.cg_line.specs.Decode.{IsDecoded, IsReadWhole, IsTextFault};
 
 use crate::read_all::{TextFault, read_all};
-use cg_file::FileText;
+use cg_file::AnyFile;
 use cg_value::{Profile, ReadKind, Value, read_kind};
 use std::alloc::Global;
 use thiserror::Error;
@@ -44,7 +44,7 @@ fn file_fault(fault: TextFault) -> FileFault
 fn read_file(alloc: Global, kind: ReadKind, bytes: &[u8]) -> Result<Value, TextFault>
     ensures { IsReadWhole (TextsOf kind) bytes.now result }
 {
-    read_all(FileText::new(alloc, kind), bytes)
+    read_all(AnyFile::new(alloc, kind), bytes)
 }
 
 /// The value of the file of this name whose whole text these bytes are.
@@ -60,7 +60,7 @@ pub fn decode_file(
         Ok(kind) => kind,
         Err(_) => return Err(FileFault::NotReadable),
     };
-    match FileText::read_front(alloc, kind, bytes) {
+    match AnyFile::read_front(alloc, kind, bytes) {
         Some((value, used)) if used == bytes.len() => return Ok(value),
         _ => {}
     }

@@ -7,7 +7,7 @@ ghost use Rattle.cg_line.specs.DecodeWrite.{IsWriteDecoded};
 
 use crate::read_all::{TextFault, read_all};
 use cg_value::{Profile, Setting, write_kind};
-use cg_write::WriteText;
+use cg_write::AnyWrite;
 use std::alloc::Global;
 use thiserror::Error;
 
@@ -52,7 +52,7 @@ pub fn decode_setting(
         Ok(kind) => kind,
         Err(_) => return Err(SettingFault::NotWritable),
     };
-    match read_all(WriteText::new(alloc, kind), bytes) {
+    match read_all(AnyWrite::new(alloc, kind), bytes) {
         Ok(setting) => Ok(setting),
         Err(fault) => Err(setting_fault(fault)),
     }

@@ -1,5 +1,5 @@
 //! A reader of one file of which bytes were taken.
-#![tactic(auto, unfolding(crate::specs::Took::open_held))]
+#![tactic(auto, unfolding(crate::specs::OpenReads::open_held))]
 
 ghost use Rattle.std.specs.Prelude.{◌≡◌, ◌≤◌, ◌<◌, ◌+◌, ◌↔◌, ℕ, List, [], ◌∷◌, ◌++◌, length, take, IsTrue, IfNone, OnErr};
 ghost use Rattle.cg_file.specs.Front.{IsLineFront};
@@ -11,7 +11,7 @@ ghost use Rattle.cg_line.specs.Rests.{Leaves};
 use crate::push::{PushFault, push_run_to, push_to};
 use crate::reader::PushedRun;
 use crate::text::goes_on;
-use cg_file::FileText;
+use cg_file::AnyFile;
 use cg_value::ReadKind;
 use std::alloc::Global;
 
@@ -19,7 +19,7 @@ use std::alloc::Global;
 /// lines.
 #[derive(Drop)]
 pub(crate) struct OpenReader {
-    pub(crate) text: FileText,
+    pub(crate) text: AnyFile,
     /// Whether a line is begun.
     pub(crate) in_line: bool,
 }
@@ -33,16 +33,16 @@ fn is_in_line(byte: u8) -> bool
 
 impl OpenReader {
     ghost use Rattle.cg_line.specs.Runs.{LeavesRun};
-    ghost use Rattle.cg_line.specs.Took.{Took, open_held};
+    ghost use Rattle.cg_line.specs.OpenReads.{OpenReads, open_held};
 
     /// A reader of a file of this kind, of which nothing was taken. It takes no memory.
     #[inline(always)]
     pub(crate) fn new(alloc: Global, kind: ReadKind) -> OpenReader
-        ensures reads { Took result kind [] }
+        ensures reads { OpenReads result kind [] }
         ensures held { open_held result ≡ 0 }
     {
         OpenReader {
-            text: FileText::new(alloc, kind),
+            text: AnyFile::new(alloc, kind),
             in_line: false,
         }
     }
@@ -50,8 +50,8 @@ impl OpenReader {
     /// Takes a byte where some file of the kind goes on with it, and refuses every other.
     /// After a refusal the reader is unchanged.
     pub(crate) fn push(&mut self, byte: u8) -> Result<(), PushFault>
-        ensures pushed { (kind : ReadForm) (taken : List ℕ) → Took self.old kind taken →
-            Leaves (Took self.new kind) (KindFile kind) taken byte result }
+        ensures pushed { (kind : ReadForm) (taken : List ℕ) → OpenReads self.old kind taken →
+            Leaves (OpenReads self.new kind) (KindFile kind) taken byte result }
         ensures held { open_held self.new ≤ open_held self.old + 1 }
         ensures same_held { OnErr result (open_held self.new ≡ open_held self.old) }
     {
@@ -70,8 +70,8 @@ impl OpenReader {
     pub(crate) fn push_front(&mut self, bytes: &[u8]) -> usize
         ensures within { result ≤ length bytes.now }
         ensures line { 0 < result → IsLineFront bytes.now result }
-        ensures reads { (kind : ReadForm) (taken : List ℕ) → Took self.old kind taken →
-            Took self.new kind (taken ++ take result bytes.now) }
+        ensures reads { (kind : ReadForm) (taken : List ℕ) → OpenReads self.old kind taken →
+            OpenReads self.new kind (taken ++ take result bytes.now) }
         ensures held { open_held self.new ≤ open_held self.old + result }
         ensures same_held { result ≡ 0 → open_held self.new ≡ open_held self.old }
     {
@@ -85,8 +85,8 @@ impl OpenReader {
     /// Takes bytes from the front of `bytes` as `push` would take one after another: until a newline was taken, none is
     /// left, or one is refused or memory is.
     pub(crate) fn push_run(&mut self, bytes: &[u8]) -> PushedRun
-        ensures pushed { (kind : ReadForm) (taken : List ℕ) → Took self.old kind taken →
-            LeavesRun (Took self.new kind) (KindFile kind) taken bytes.now result }
+        ensures pushed { (kind : ReadForm) (taken : List ℕ) → OpenReads self.old kind taken →
+            LeavesRun (OpenReads self.new kind) (KindFile kind) taken bytes.now result }
         ensures within { result.used ≤ length bytes.now }
         ensures goes_on { IfNone result.fault (0 < length bytes.now → 0 < result.used) }
         ensures held { open_held self.new ≤ open_held self.old + result.used }
@@ -101,7 +101,7 @@ impl OpenReader {
 
     /// Whether no line is begun and another may begin. It takes no memory.
     pub(crate) fn takes_line(&self) -> bool
-        ensures { (kind : ReadForm) (taken : List ℕ) → Took self.now kind taken →
+        ensures { (kind : ReadForm) (taken : List ℕ) → OpenReads self.now kind taken →
             (IsTrue result ↔ TakesLine kind taken) }
     {
         if self.in_line {

@@ -13,13 +13,13 @@ ghost use Rattle.cg_line.specs.Begun.{IsFinished, IsPushFault};
 ghost use Rattle.cg_line.specs.Place.{TakesLine};
 ghost use Rattle.cg_line.specs.Reads.{IsState, state_held};
 ghost use Rattle.cg_line.specs.Runs.{RunStops};
-ghost use Rattle.cg_line.specs.Took.{Took, open_held};
+ghost use Rattle.cg_line.specs.OpenReads.{OpenReads, open_held};
 
 use crate::open_reader::OpenReader;
 use crate::push::PushFault;
 use crate::text::allowed_by;
 use crate::whole_file::WholeFile;
-use cg_file::FileText;
+use cg_file::AnyFile;
 use cg_text::{ByteSet, Token};
 use cg_value::{ReadKind, Value};
 use std::alloc::Global;
@@ -87,7 +87,7 @@ fn boxed(alloc: Global, reader: OpenReader) -> Option<Box<OpenReader>>
 /// The reader that took this byte alone.
 #[inline(never)]
 fn begin_by(alloc: Global, kind: ReadKind, byte: u8) -> Result<Box<OpenReader>, PushFault>
-    ensures begun { IfOk result (λ reader. Took reader.value kind (byte ∷ []) × (open_held reader.value ≤ 1)) }
+    ensures begun { IfOk result (λ reader. OpenReads reader.value kind (byte ∷ []) × (open_held reader.value ≤ 1)) }
     ensures fault { IfErr result (λ fault. IsPushFault kind [] byte fault) }
 {
     let mut reader = OpenReader::new(alloc, kind);
@@ -105,7 +105,7 @@ fn begin_by(alloc: Global, kind: ReadKind, byte: u8) -> Result<Box<OpenReader>, 
 #[inline(never)]
 fn begin_run(alloc: Global, kind: ReadKind, bytes: &[u8]) -> Begun
     ensures reader { MatchOption result.reader (result.run.used ≡ 0) (λ reader. (0 < result.run.used) ×
-        Took reader.value kind (take result.run.used bytes.now) × (open_held reader.value ≤ result.run.used)) }
+        OpenReads reader.value kind (take result.run.used bytes.now) × (open_held reader.value ≤ result.run.used)) }
     ensures stops { RunStops kind [] bytes.now result.run.used result.run.fault }
     ensures within { result.run.used ≤ length bytes.now }
     ensures goes_on { IfNone result.run.fault (0 < length bytes.now → 0 < result.run.used) }
@@ -140,7 +140,7 @@ fn begin(state: &mut State, alloc: Global, kind: ReadKind, bytes: &[u8]) -> Push
     ensures held { state_held state.new ≤ state_held state.old + result.used }
     ensures same_held { result.used ≡ 0 → state_held state.new ≡ state_held state.old }
 {
-    if let Some((value, used)) = FileText::read_front(alloc, kind, bytes) {
+    if let Some((value, used)) = AnyFile::read_front(alloc, kind, bytes) {
         *state = State::Whole(WholeFile { value });
         return PushedRun { used, fault: None };
     }
@@ -208,7 +208,7 @@ fn empty_value(alloc: Global, kind: ReadKind) -> Option<Value>
 /// The value of a whole file, or else the reader.
 #[inline(never)]
 fn finish_open(reader: Box<OpenReader>) -> Result<Value, State>
-    ensures { (kind : ReadForm) (taken : List ℕ) → Took reader.value kind taken →
+    ensures { (kind : ReadForm) (taken : List ℕ) → OpenReads reader.value kind taken →
         IsFinished kind taken (State.Open reader) result }
 {
     if reader.text.can_end() {

@@ -1,11 +1,11 @@
 //! Readers of one write.
-#![tactic(auto, unfolding(crate::specs::Takes::held_of))]
+#![tactic(auto, unfolding(crate::specs::SettingReads::held_of))]
 
 ghost use Rattle.std.specs.Prelude.{◌≡◌, ◌≤◌, ◌<◌, ◌+◌, ◌↔◌, ℕ, List, [], length, MatchResult, IsTrue, IfNone, OnErr};
 ghost use Rattle.cg_text.specs.Bytes.{HasByte};
 ghost use Rattle.cg_text.specs.Texts.{Next};
 ghost use Rattle.cg_text.specs.Token.{saturated};
-ghost use Rattle.cg_value.specs.Settings.{WriteText as IsWriteText, KindWrite};
+ghost use Rattle.cg_value.specs.Settings.{WriteText, KindWrite};
 ghost use Rattle.cg_value.specs.declared.kind.WriteForm.{WriteForm};
 
 use crate::push::{PushFault, push_run_to, push_to};
@@ -13,7 +13,7 @@ use crate::reader::PushedRun;
 use crate::text::allowed_by;
 use cg_text::{ByteSet, Token};
 use cg_value::{Setting, WriteKind};
-use cg_write::WriteText;
+use cg_write::AnyWrite;
 use std::alloc::Global;
 use std::fmt;
 use thiserror::Error;
@@ -21,7 +21,7 @@ use thiserror::Error;
 /// A reader of the text of one write, which takes the bytes of its line and its newline.
 #[derive(Drop)]
 pub struct SettingReader {
-    text: WriteText,
+    text: AnyWrite,
 }
 
 /// A reader whose bytes are no whole write, handed back.
@@ -38,22 +38,22 @@ impl fmt::Debug for SettingCut {
 }
 
 impl SettingReader {
-    ghost use Rattle.cg_line.specs.Takes.{Takes, IsBytePushed, IsRunPushed, held_of};
+    ghost use Rattle.cg_line.specs.SettingReads.{SettingReads, IsBytePushed, IsRunPushed, held_of};
 
     /// A reader of a write of this kind, of which nothing was taken. It takes no memory.
     pub fn new(alloc: Global, kind: WriteKind) -> SettingReader
-        ensures takes { Takes result kind [] }
+        ensures takes { SettingReads result kind [] }
         ensures held { held_of result ≡ 0 }
     {
         SettingReader {
-            text: WriteText::new(alloc, kind),
+            text: AnyWrite::new(alloc, kind),
         }
     }
 
     /// Takes a byte where some write of the kind goes on with it, and refuses every other.
     /// After a refusal the reader is unchanged.
     pub fn push(&mut self, byte: u8) -> Result<(), PushFault>
-        ensures pushed { (kind : WriteForm) (taken : List ℕ) → Takes self.old kind taken →
+        ensures pushed { (kind : WriteForm) (taken : List ℕ) → SettingReads self.old kind taken →
             IsBytePushed self.new kind taken byte result }
         ensures held { held_of self.new ≤ held_of self.old + 1 }
         ensures same_held { OnErr result (held_of self.new ≡ held_of self.old) }
@@ -64,7 +64,7 @@ impl SettingReader {
     /// Takes bytes from the front of `bytes` as `push` would take one after another: until a newline was taken, none is
     /// left, or one is refused or memory is.
     pub fn push_run(&mut self, bytes: &[u8]) -> PushedRun
-        ensures pushed { (kind : WriteForm) (taken : List ℕ) → Takes self.old kind taken →
+        ensures pushed { (kind : WriteForm) (taken : List ℕ) → SettingReads self.old kind taken →
             IsRunPushed self.new kind taken bytes.now result }
         ensures within { result.used ≤ length bytes.now }
         ensures goes_on { IfNone result.fault (0 < length bytes.now → 0 < result.used) }
@@ -76,7 +76,7 @@ impl SettingReader {
 
     /// Whether the bytes so far are a whole write. It takes no memory.
     pub fn can_finish(&self) -> bool
-        ensures { (kind : WriteForm) (taken : List ℕ) → Takes self.now kind taken →
+        ensures { (kind : WriteForm) (taken : List ℕ) → SettingReads self.now kind taken →
             (IsTrue result ↔ KindWrite kind taken) }
     {
         self.text.can_end()
@@ -84,7 +84,8 @@ impl SettingReader {
 
     /// The bytes with which some write of the kind goes on. It takes no memory.
     pub fn allowed(&self) -> ByteSet
-        ensures { (kind : WriteForm) (taken : List ℕ) → Takes self.now kind taken → (byte : ℕ) → HasByte result byte ↔
+        ensures { (kind : WriteForm) (taken : List ℕ) → SettingReads self.now kind taken → (byte : ℕ) → HasByte result
+            byte ↔
             Next (KindWrite kind) taken byte }
     {
         allowed_by(&self.text)
@@ -93,7 +94,7 @@ impl SettingReader {
     /// The sum of the lengths of its vectors, or `u64::MAX` where that is more. It takes no memory.
     pub fn held(&self) -> u64
         ensures exact { result ≡ saturated (held_of self.now) }
-        ensures most { (kind : WriteForm) (taken : List ℕ) → Takes self.now kind taken →
+        ensures most { (kind : WriteForm) (taken : List ℕ) → SettingReads self.now kind taken →
             held_of self.now ≤ length taken }
     {
         self.text.held()
@@ -101,8 +102,8 @@ impl SettingReader {
 
     /// The setting of a whole write, or else the reader. It takes no memory.
     pub fn finish(self) -> Result<Setting, SettingCut>
-        ensures { (kind : WriteForm) (taken : List ℕ) → Takes self kind taken →
-            MatchResult result (λ s. IsWriteText kind s taken)
+        ensures { (kind : WriteForm) (taken : List ℕ) → SettingReads self kind taken →
+            MatchResult result (λ s. WriteText kind s taken)
             (λ cut. (cut.reader ≡ self) × (KindWrite kind taken → ⊥)) }
     {
         if self.text.can_end() {

@@ -6,9 +6,9 @@ ghost use Rattle.cg_text.specs.Texts.{Lacks, Next, TextOf};
 ghost use Rattle.cg_file.specs.Front.{IsLineFront};
 ghost use Rattle.cg_line.specs.Rests.{SomeNext};
 
-use cg_file::FileText;
+use cg_file::AnyFile;
 use cg_text::{ByteSet, Token};
-use cg_write::WriteText;
+use cg_write::AnyWrite;
 
 /// A token over whole texts, which takes lines and bytes of lines at once.
 pub(crate) trait LineText: Token {
@@ -31,7 +31,7 @@ pub(crate) trait LineText: Token {
         ensures same_size { result ≡ 0 → Self.size self.new ≡ Self.size self.old };
 }
 
-impl LineText for FileText {
+impl LineText for AnyFile {
     #[inline(always)]
     fn take_front(&mut self, bytes: &[u8]) -> usize {
         self.take_front(bytes)
@@ -43,7 +43,7 @@ impl LineText for FileText {
     }
 }
 
-impl LineText for WriteText {
+impl LineText for AnyWrite {
     #[inline(always)]
     fn take_front(&mut self, _bytes: &[u8]) -> usize {
         0

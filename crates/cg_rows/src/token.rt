@@ -3,8 +3,8 @@ use crate::escape::bytes_of;
 use crate::row::RowFault;
 use cg_join::{AmountText, ClampText, DeviceText, LimitText, device_name, param};
 use cg_text::{
-    DecimalText, FixedText, Form, HundredthsText, LooseListText, NumberSet, OutOfMemory,
-    ParamValue, SignedText, SizeText, StrictListText, Token, WordText,
+    DecimalText, FixedText, HundredthsText, LooseListText, NumberSet, OutOfMemory, ParamValue,
+    SignedText, SizeText, Spelling, StrictListText, Token, WordText,
 };
 use std::alloc::Global;
 use std::fmt::Debug;
@@ -91,10 +91,10 @@ fn said_number(alloc: Global, name: &str, text: &[u8]) -> Option<Result<String, 
 /// What a text spells of a number with a fraction, none of another token.
 fn said_fraction(alloc: Global, name: &str, text: &[u8]) -> Option<Result<String, RowFault>> {
     Some(match name {
-        "hundredths" => said(alloc, HundredthsText::new(Form::Read, 10000), text),
-        "written_hundredths" => said(alloc, HundredthsText::new(Form::Written, 10000), text),
-        "clamp" => said(alloc, ClampText::new(Form::Read), text),
-        "written_clamp" => said(alloc, ClampText::new(Form::Written), text),
+        "hundredths" => said(alloc, HundredthsText::new(Spelling::Read, 10000), text),
+        "written_hundredths" => said(alloc, HundredthsText::new(Spelling::Written, 10000), text),
+        "clamp" => said(alloc, ClampText::new(Spelling::Read), text),
+        "written_clamp" => said(alloc, ClampText::new(Spelling::Written), text),
         "amount" => said(alloc, AmountText::new(false), text),
         "signed_amount" => said(alloc, AmountText::new(true), text),
         _ => return None,

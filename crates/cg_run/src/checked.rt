@@ -107,7 +107,7 @@ fn write_findings<K: KeptEntries, W: Sink>(
     lines: Option<Lines>,
     max: u64,
 ) -> Outcome
-    ensures ended { (form : K.Form) (first : Option (List ℕ)) (read : List ℕ) → K.limit form ≡ max →
+    ensures ended { (form : K.Setup) (first : Option (List ℕ)) (read : List ℕ) → K.limit form ≡ max →
         AreBehind lines read → Before (K.took kept form) first (W.taken writer.old) written read →
         (left : Option (List ℕ)) (failed : Bool) → IsAtEnd left → failed ≡ false →
         EndsSo (IsCheckRight (K.whole form) (K.closes form) (K.unstopped form) (K.stops form))
@@ -155,8 +155,8 @@ pub(crate) fn run_check<K: KeptEntries, R: Source, W: Sink>(
     lines: Option<Lines>,
     max: u64,
 ) -> Outcome
-    requires { (form : K.Form) × K.took kept form [] [] × (K.limit form ≡ max) }
-    ensures ran { (form : K.Form) → K.limit form ≡ max → K.took kept form [] [] → R.has_failed reader.old ≡ false →
+    requires { (form : K.Setup) × K.took kept form [] [] × (K.limit form ≡ max) }
+    ensures ran { (form : K.Setup) → K.limit form ≡ max → K.took kept form [] [] → R.has_failed reader.old ≡ false →
         AreBehind lines [] →
         DidRunWith (IsCheckRight (K.whole form) (K.closes form) (K.unstopped form) (K.stops form))
         (Tells (K.explained form) (is_some lines))

@@ -58,7 +58,7 @@ fn append_found(out: &mut Vec<u8>, line: &mut Vec<u8>, what: What) -> Event<()>
 }
 
 impl StreamReader for EntryReader {
-    type Form = (Profile, Limits);
+    type Setup = (Profile, Limits);
 
     ghost use Rattle.cg_run.specs.Explain.{AreNext, ExplainsNext, IsInRecord};
     ghost use Rattle.cg_run.specs.Stood.{HasSnapStood, snap_stood, snap_within};

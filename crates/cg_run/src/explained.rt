@@ -53,7 +53,7 @@ fn explain_text<T: TextReader>(
     end: u64,
 ) -> Result<Explained, OutOfMemory>
     requires { end ≡ length bytes.now }
-    ensures { (form : T.Form) → T.took text form [] →
+    ensures { (form : T.Grammar) → T.took text form [] →
         IsExplained ⊥ (TextOf (T.text form)) name.now bytes.now result }
 {
     let mut text = text;

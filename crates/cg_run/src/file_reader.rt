@@ -106,7 +106,7 @@ impl FileReader {
 }
 
 impl TextReader for FileReader {
-    type Form = ReadForm;
+    type Grammar = ReadForm;
 
     type Spelled = Value;
 

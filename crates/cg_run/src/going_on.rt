@@ -234,7 +234,7 @@ impl<T: Teller> GoingOnReader<T> {
 }
 
 impl<T: Teller> StreamReader for GoingOnReader<T> {
-    type Form = ((Profile, Limits), bool);
+    type Setup = ((Profile, Limits), bool);
 
     ghost use Rattle.std.proofs.Common.{inl};
     ghost use Rattle.cg_snap.specs.GoingOn.{IsWanted};

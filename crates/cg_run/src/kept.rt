@@ -63,7 +63,7 @@ pub(crate) fn keep(entries: &mut Vec<Entry>, entry: Entry) -> Result<(), OutOfMe
 }
 
 impl StreamReader for KeptReader {
-    type Form = (Profile, Limits);
+    type Setup = (Profile, Limits);
 
     ghost use Rattle.cg_run.specs.Explain.{AreNext, ExplainsNext, IsInRecord};
     ghost use Rattle.cg_run.specs.Stood.{HasSnapStood, snap_stood, snap_within};

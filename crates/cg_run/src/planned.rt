@@ -45,7 +45,7 @@ fn append_found(out: &mut Vec<u8>, what: PlanWhat) -> Event<()>
 }
 
 impl StreamReader for PlannedReader {
-    type Form = (Profile, Limits);
+    type Setup = (Profile, Limits);
 
     ghost use Rattle.cg_run.specs.Explain.{AreNext, ExplainsNext, IsInRecord};
     ghost use Rattle.cg_run.specs.Stood.{HasPlanStood, plan_stood, plan_within};

@@ -27,7 +27,7 @@ pub(crate) enum Ending {
 
 /// How the byte whose place is the limit of the stream stops it: by the grammar first.
 fn stop_at_limit<T: TextReader>(reader: &T, byte: u8, at: u64) -> Stop
-    ensures stops { (form : T.Form) (taken : List ℕ) → T.took reader.now form taken → at ≡ length taken →
+    ensures stops { (form : T.Grammar) (taken : List ℕ) → T.took reader.now form taken → at ≡ length taken →
         TextStopOf (TextOf (T.text form)) at (taken ++ byte ∷ []) result }
     ensures place { place_of result ≡ at }
 {
@@ -60,7 +60,7 @@ pub(crate) fn take_piece<T: TextReader>(
     lines: &mut Option<Lines>,
 ) -> Option<Ending>
     requires { at ≤ max }
-    ensures took { (form : T.Form) (taken : List ℕ) → at ≡ length taken → GoesOn (T.took reader.old form) max taken →
+    ensures took { (form : T.Grammar) (taken : List ℕ) → at ≡ length taken → GoesOn (T.took reader.old form) max taken →
         TookPiece (TextOf (T.text form)) (T.took reader.new form) max taken piece.now result }
     ensures room { IfNone result (at + length piece.now ≤ max) }
     ensures behind { (taken : List ℕ) → at ≡ length taken → AreBehind lines.old taken →
@@ -102,7 +102,7 @@ pub(crate) fn read_all<T: TextReader, R: Source>(
     lines: &mut Option<Lines>,
 ) -> Ending
     requires { 0 < length buffer.old }
-    ensures read { (form : T.Form) → T.took reader.old form [] → R.has_failed source.old ≡ false →
+    ensures read { (form : T.Grammar) → T.took reader.old form [] → R.has_failed source.old ≡ false →
         AreBehind lines.old [] →
         HasRead (TextOf (T.text form)) (T.took reader.new form) max (R.coming source.old) (R.coming source.new)
         (R.has_failed source.new) lines.new result }

@@ -46,7 +46,7 @@ fn told_end<T: TextReader, W: Sink>(
     name: &[u8],
     lines: Option<Lines>,
 ) -> Outcome
-    ensures ended { (form : T.Form) (bytes : List ℕ) → T.took text form bytes → at ≡ length bytes →
+    ensures ended { (form : T.Grammar) (bytes : List ℕ) → T.took text form bytes → at ≡ length bytes →
         AreBehind lines bytes → HasEnded (T.text form) T.printed (is_some lines) (IsInText name.now) bytes
         (W.taken writer.old) (W.taken writer.new) (W.has_failed writer.new) result }
     ensures real { IsRealFault result (W.has_failed writer.new) }
@@ -73,7 +73,7 @@ fn run_text<T: TextReader, R: Source, W: Sink>(
     name: &[u8],
     lines: Option<Lines>,
 ) -> Outcome
-    ensures ran { (form : T.Form) → T.took text form [] → R.has_failed reader.old ≡ false → AreBehind lines [] →
+    ensures ran { (form : T.Grammar) → T.took text form [] → R.has_failed reader.old ≡ false → AreBehind lines [] →
         DidRunWith (IsTextRight (T.text form) T.printed max)
         (Tells (ExplainsNext (TextOf (T.text form)) (IsInText name.now)) (is_some lines))
         (R.coming reader.old) (R.coming reader.new) (R.has_failed reader.new)

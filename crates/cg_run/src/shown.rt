@@ -79,7 +79,7 @@ impl ShownReader {
 }
 
 impl StreamReader for ShownReader {
-    type Form = (Profile, Limits);
+    type Setup = (Profile, Limits);
 
     ghost use Rattle.cg_run.specs.Explain.{AreNext, ExplainsNext, IsInRecord};
     ghost use Rattle.cg_run.specs.Stood.{HasSnapStood, snap_stood, snap_within};

@@ -81,7 +81,7 @@ pub(crate) fn stream_spot<S: StreamReader>(
     stop: Stop,
     byte: Option<u8>,
 ) -> Option<Spot<'_>>
-    ensures { (form : S.Form) (p : List ℕ) → S.stood stream.now form p → length p ≤ 18446744073709551615 →
+    ensures { (form : S.Setup) (p : List ℕ) → S.stood stream.now form p → length p ≤ 18446744073709551615 →
         AreBehind lines p →
         TellsSpot (S.explained form) (is_some lines) p byte stop (more_words result) }
 {
@@ -105,7 +105,7 @@ pub(crate) fn text_spot<'a, T: TextReader>(
     stop: Stop,
     byte: Option<u8>,
 ) -> Option<Spot<'a>>
-    ensures { (form : T.Form) (p : List ℕ) → T.took text.now form p → length p ≤ 18446744073709551615 →
+    ensures { (form : T.Grammar) (p : List ℕ) → T.took text.now form p → length p ≤ 18446744073709551615 →
         AreBehind lines p →
         TellsSpot (ExplainsNext (TextOf (T.text form)) (IsInText name.now)) (is_some lines) p byte stop
         (more_words result) }

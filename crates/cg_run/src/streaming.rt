@@ -30,7 +30,7 @@ fn take_parts<S: StreamReader, W: Sink>(
     lines: Option<Lines>,
     max: u64,
 ) -> Result<(), Outcome>
-    ensures took { (form : S.Form) (first : Option (List ℕ)) (read : List ℕ) → S.limit form ≡ max →
+    ensures took { (form : S.Setup) (first : Option (List ℕ)) (read : List ℕ) → S.limit form ≡ max →
         BeforeNext (S.took stream.old form) first (W.taken writer.old) output.old read →
         MatchResult result
         (λ _. Before (S.took stream.new form) first (W.taken writer.new) output.new.written (read ++ piece.now))
@@ -68,7 +68,7 @@ fn write_end<S: LastPart, W: Sink>(
     lines: Option<Lines>,
     max: u64,
 ) -> Outcome
-    ensures ended { (form : S.Form) (first : Option (List ℕ)) (read : List ℕ) → S.limit form ≡ max →
+    ensures ended { (form : S.Setup) (first : Option (List ℕ)) (read : List ℕ) → S.limit form ≡ max →
         AreBehind lines read → BeforeNext (S.took stream form) first (W.taken writer.old) output.old read →
         (left : Option (List ℕ)) (failed : Bool) → IsAtEnd left → failed ≡ false →
         EndsSo (IsStreamRight (S.whole form) (S.closes form) (S.unstopped form) (S.stops form))
@@ -100,8 +100,8 @@ pub(crate) fn read_stream<S: StreamReader, R: Source, W: Sink>(
     lines: &mut Option<Lines>,
     max: u64,
 ) -> Result<Output, Outcome>
-    requires { (form : S.Form) × S.took stream.old form [] [] × (S.limit form ≡ max) }
-    ensures read { (form : S.Form) → S.limit form ≡ max → S.took stream.old form [] [] →
+    requires { (form : S.Setup) × S.took stream.old form [] [] × (S.limit form ≡ max) }
+    ensures read { (form : S.Setup) → S.limit form ≡ max → S.took stream.old form [] [] →
         R.has_failed reader.old ≡ false → AreBehind lines.old [] →
         StreamedIs (S.took stream.new form) (IsEarlyRight (S.whole form) (S.closes form) (S.unstopped form)
         (S.stops form)) (Tells (S.explained form) (is_some lines.old))
@@ -136,8 +136,8 @@ pub(crate) fn run_stream<S: LastPart, R: Source, W: Sink>(
     lines: Option<Lines>,
     max: u64,
 ) -> Outcome
-    requires { (form : S.Form) × S.took stream form [] [] × (S.limit form ≡ max) }
-    ensures ran { (form : S.Form) → S.limit form ≡ max → S.took stream form [] [] → R.has_failed reader.old ≡ false →
+    requires { (form : S.Setup) × S.took stream form [] [] × (S.limit form ≡ max) }
+    ensures ran { (form : S.Setup) → S.limit form ≡ max → S.took stream form [] [] → R.has_failed reader.old ≡ false →
         AreBehind lines [] →
         DidRunWith (IsStreamRight (S.whole form) (S.closes form) (S.unstopped form) (S.stops form))
         (Tells (S.explained form) (is_some lines))

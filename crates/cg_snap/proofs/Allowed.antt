@@ -14,7 +14,7 @@ use Rattle.cg_value.specs.declared.profile.Profile.{Profile}
 use Rattle.cg_line.specs.Reads.{Reads}
 use Rattle.cg_snap.specs.DecoderState.{HasConsumed, HasConsumedInLine, HasConsumedInPath, HasConsumedAPath, CanEndLine, IsBetween, IsClass, IsOfKind, IsOver, IsWhyAfter, RefusalIs, TakesMore}
 use Rattle.cg_snap.specs.Snap.{Snap, SnapText}
-use Rattle.cg_snap.specs.declared.present.Present.{Present}
+use Rattle.cg_snap.specs.declared.present.CurrentEntry.{CurrentEntry}
 use Rattle.cg_snap.specs.SnapStop.{IsNameless}
 use Rattle.cg_snap.specs.declared.stop.Why.{Why}
 use Rattle.cg_snap.specs.declared.stop.Why.TheVariants as whys
@@ -42,7 +42,7 @@ next_text : (p g r b t : List ℕ) → p ≡ g ++ (r ++ b) → (g ++ r) ++ (b ++
 next_text p g r b t e = rw e (simp append_assoc)
 
 module _ (profile : Profile) where
-  pub line_allowed : (begun : List ℕ) (x : Present) (p : List ℕ) (es : List EntryData) (b : ℕ) (h : HasConsumedInLine profile begun x p es) → Next (KindFile h.kind) (unlines h.lines ++ h.line) b → Next (Snap profile) p b
+  pub line_allowed : (begun : List ℕ) (x : CurrentEntry) (p : List ℕ) (es : List EntryData) (b : ℕ) (h : HasConsumedInLine profile begun x p es) → Next (KindFile h.kind) (unlines h.lines ++ h.line) b → Next (Snap profile) p b
   line_allowed begun x p es b h v =
       elim (cases_eq b 10) [
         | inl e ↦
@@ -63,7 +63,7 @@ module _ (profile : Profile) where
       ]
 
   -- After more bytes of a line that the reader took: the state, and which byte goes on.
-  module _ (begun : List ℕ) (x x' : Present) (p : List ℕ) (es : List EntryData) (bs : List ℕ) (b : ℕ) (h : HasConsumedInLine profile begun x p es) (n : Lacks 10 bs) (e : x'.path.items ≡ x.path.items)
+  module _ (begun : List ℕ) (x x' : CurrentEntry) (p : List ℕ) (es : List EntryData) (bs : List ℕ) (b : ℕ) (h : HasConsumedInLine profile begun x p es) (n : Lacks 10 bs) (e : x'.path.items ≡ x.path.items)
       (c : x'.lines ≡ x.lines) (r : Reads x'.reader h.kind ((unlines h.lines ++ h.line) ++ bs)) where
     same_text : (unlines h.lines ++ h.line) ++ bs ≡ unlines h.lines ++ (h.line ++ bs)
     same_text = append_assoc (unlines h.lines) h.line bs
@@ -85,7 +85,7 @@ module _ (profile : Profile) where
       let r = one_record profile begun k (named_path begun h.begun_path c.0) c.1 in
       record { rest = r.0; whole = (r.1 ∷ [], subst (SnapText profile (r.1 ∷ [])) (start_text p begun r.0 h.bytes) r.3) }
 
-  pub next_nul_allowed : (begun : List ℕ) (x : Present) (p : List ℕ) (es : List EntryData) (k : ReadForm) → IsOfKind profile begun k → x.path.items ≢ begun → HasConsumedInPath profile begun x p es → Next (Snap profile) p 0
+  pub next_nul_allowed : (begun : List ℕ) (x : CurrentEntry) (p : List ℕ) (es : List EntryData) (k : ReadForm) → IsOfKind profile begun k → x.path.items ≢ begun → HasConsumedInPath profile begun x p es → Next (Snap profile) p 0
   next_nul_allowed begun x p es k c n h =
       let r = one_record profile begun k (named_path begun h.begun_path c.0) c.1 in
       let e = present_entry profile begun x p es h in
@@ -93,20 +93,20 @@ module _ (profile : Profile) where
       let whole = snap_append profile (es ++ e.0 ∷ []) (r.1 ∷ []) (h.given ++ records x.path.items h.lines) (begun ++ 0 ∷ r.0) front r.3 (ends_push es e.0 r.1.path (λ z. n (sym e.1 ∙ z ∙ r.2))) in
       record { rest = r.0; whole = ((es ++ e.0 ∷ []) ++ r.1 ∷ [], subst (SnapText profile ((es ++ e.0 ∷ []) ++ r.1 ∷ [])) (next_text p h.given (records x.path.items h.lines) begun r.0 h.split) whole) }
 
-  pub same_nul_allowed : (begun : List ℕ) (x : Present) (p : List ℕ) (es : List EntryData) (h : HasConsumedInPath profile begun x p es) → begun ≡ x.path.items → CanEndLine h.kind h.lines [] → Next (Snap profile) p 0
+  pub same_nul_allowed : (begun : List ℕ) (x : CurrentEntry) (p : List ℕ) (es : List EntryData) (h : HasConsumedInPath profile begun x p es) → begun ≡ x.path.items → CanEndLine h.kind h.lines [] → Next (Snap profile) p 0
   same_nul_allowed begun x p es h e g = line_viable profile [] x (p ++ 0 ∷ []) es (same_path profile begun [] x x p es 0 h refl refl e refl refl h.reads g)
 
   -- ---- What a path names
 
   -- A NUL after the path of the present entry, whose file takes no further line.
-  pub over_refused : (begun : List ℕ) (o : Option Present) (p : List ℕ) (es : List EntryData) → IsOver begun o → IsBetween o → HasConsumed profile begun o p es → RefusalIs profile p 0 (Some whys.NoMoreLines)
+  pub over_refused : (begun : List ℕ) (o : Option CurrentEntry) (p : List ℕ) (es : List EntryData) → IsOver begun o → IsBetween o → HasConsumed profile begun o p es → RefusalIs profile p 0 (Some whys.NoMoreLines)
   over_refused begun None p es f i h = absurd f
   over_refused begun (Some x) p es f i h =
       let a = between profile begun (Some x) p es i h in
       no_more profile begun x p es a.kind a ((λ n. path_named x.path.items a.good (subst IsNameless (sym f.0) n)), subst (λ (q : List ℕ). ReadsAt profile q (Some a.kind)) f.0 a.reads_at) (sym f.0) f.1
 
   -- A NUL after a path that names a file that can be read.
-  pub nul_next : (begun : List ℕ) (o : Option Present) (p : List ℕ) (es : List EntryData) (k : ReadForm) → IsOfKind profile begun k → TakesMore begun o → IsBetween o → HasConsumed profile begun o p es → Next (Snap profile) p 0
+  pub nul_next : (begun : List ℕ) (o : Option CurrentEntry) (p : List ℕ) (es : List EntryData) (k : ReadForm) → IsOfKind profile begun k → TakesMore begun o → IsBetween o → HasConsumed profile begun o p es → Next (Snap profile) p 0
   nul_next begun None p es k c t i h = start_nul_allowed begun p es k c h
   nul_next begun (Some x) p es k c t i h =
       let a = between profile begun (Some x) p es i h in
@@ -115,7 +115,7 @@ module _ (profile : Profile) where
         | inr n ↦ next_nul_allowed begun x p es k c n a
       ]
 
-  pub class_after : (begun : List ℕ) (o : Option Present) (p : List ℕ) (es : List EntryData) (r : Result ReadForm Why) → IsClass profile begun r → TakesMore begun o → IsBetween o → HasConsumed profile begun o p es →
+  pub class_after : (begun : List ℕ) (o : Option CurrentEntry) (p : List ℕ) (es : List EntryData) (r : Result ReadForm Why) → IsClass profile begun r → TakesMore begun o → IsBetween o → HasConsumed profile begun o p es →
       MatchResult r (λ kind. IsOfKind profile begun kind × Next (Snap profile) p 0) (λ why. RefusalIs profile p 0 (Some why))
   class_after begun o p es (Ok kind) c t i h = (c, nul_next begun o p es kind c t i h)
   class_after begun o p es (Err whys.PathByte) c t i h = absurd c

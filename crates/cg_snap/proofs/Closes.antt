@@ -12,7 +12,7 @@ use Rattle.cg_snap.specs.Closed.{Closed, EndsOther}
 use Rattle.cg_snap.specs.Begun.{IsBegun, IsRecordEnd}
 use Rattle.cg_snap.specs.DecoderState.{HasConsumedInLine, HasConsumedInPath, HasConsumedAPath}
 use Rattle.cg_snap.specs.Snap.{SnapText}
-use Rattle.cg_snap.specs.declared.present.Present.{Present}
+use Rattle.cg_snap.specs.declared.present.CurrentEntry.{CurrentEntry}
 use Rattle.cg_snap.proofs.Refusals.{line_start, records_start}
 use Rattle.cg_snap.proofs.Steps.{bytes_no_newline, bytes_no_nul, other_path}
 
@@ -45,10 +45,10 @@ module _ (profile : Profile) where
     plain = n;
   }
 
-  pub path_begun : (begun : List ℕ) (x : Present) (p : List ℕ) (es : List EntryData) → HasConsumedInPath profile begun x p es → IsBegun p begun
+  pub path_begun : (begun : List ℕ) (x : CurrentEntry) (p : List ℕ) (es : List EntryData) → HasConsumedInPath profile begun x p es → IsBegun p begun
   path_begun begun x p es h = begun_after es h.given x.path.items h.lines p begun h.entries h.split (bytes_no_newline begun h.begun_path)
 
-  pub line_begun : (begun : List ℕ) (x : Present) (p : List ℕ) (es : List EntryData) (h : HasConsumedInLine profile begun x p es) → IsBegun p (x.path.items ++ 0 ∷ h.line)
+  pub line_begun : (begun : List ℕ) (x : CurrentEntry) (p : List ℕ) (es : List EntryData) (h : HasConsumedInLine profile begun x p es) → IsBegun p (x.path.items ++ 0 ∷ h.line)
   line_begun begun x p es h = begun_after es h.given x.path.items h.lines p (x.path.items ++ 0 ∷ h.line) h.entries h.split (nul_plain x.path.items h.line h.good h.plain_line)
 
   -- ---- Closed
@@ -68,7 +68,7 @@ module _ (profile : Profile) where
         other = rw h.none tt;
       }
 
-  abbrev pub path_closed : (begun : List ℕ) (x : Present) (p : List ℕ) (es : List EntryData) → HasConsumedInPath profile begun x p es → Closed profile p es
+  abbrev pub path_closed : (begun : List ℕ) (x : CurrentEntry) (p : List ℕ) (es : List EntryData) → HasConsumedInPath profile begun x p es → Closed profile p es
   path_closed begun x p es h = record {
     given = h.given;
     present = records x.path.items h.lines ++ begun;
@@ -97,5 +97,5 @@ module _ (profile : Profile) where
     other = o;
   }
 
-  abbrev pub line_closed : (begun : List ℕ) (x : Present) (p : List ℕ) (es : List EntryData) → HasConsumedInLine profile begun x p es → Closed profile p es
+  abbrev pub line_closed : (begun : List ℕ) (x : CurrentEntry) (p : List ℕ) (es : List EntryData) → HasConsumedInLine profile begun x p es → Closed profile p es
   line_closed begun x p es h = nul_closed es h.given x.path.items h.lines h.line p h.entries h.other h.good h.plain h.plain_line h.split

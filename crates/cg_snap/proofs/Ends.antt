@@ -11,7 +11,7 @@ use Rattle.cg_line.specs.MadeLaws.{printed_some}
 use Rattle.cg_line.specs.SplitLaws.{lines_spell}
 use Rattle.cg_snap.specs.DecoderState.{HasConsumedInPath}
 use Rattle.cg_snap.specs.Snap.{AreEntryLines}
-use Rattle.cg_snap.specs.declared.present.Present.{Present}
+use Rattle.cg_snap.specs.declared.present.CurrentEntry.{CurrentEntry}
 use Rattle.cg_snap.proofs.Steps.{path_ends}
 
 -- A text of lines is empty where there is none.
@@ -26,7 +26,7 @@ empty_text (l ∷ ls) h = absurd (omega (arith, h))
 pub empty_lines : (lines : List (List ℕ)) (text : List ℕ) → text ≡ unlines lines → length text ≡ 0 ↔ length lines ≡ 0
 empty_lines lines text e = (λ h. text_empty lines (ap length (sym e) ∙ h), λ h. ap length e ∙ empty_text lines h)
 
-module _ (profile : Profile) (begun : List ℕ) (x : Present) (p : List ℕ) (es : List EntryData) (h : HasConsumedInPath profile begun x p es) where
+module _ (profile : Profile) (begun : List ℕ) (x : CurrentEntry) (p : List ℕ) (es : List EntryData) (h : HasConsumedInPath profile begun x p es) where
   pub ends_as : (e : EntryData) (v : Value) → e.path ≡ x.path.items → e.value ≡ v → KindText h.kind v (unlines h.lines) → (e.path ≡ x.path.items) × AreEntryLines profile e h.lines
   ends_as e v q w t = (
     q,

@@ -18,12 +18,12 @@ use Rattle.cg_snap.specs.DecoderState.{HasConsumed}
 use Rattle.cg_snap.specs.Streams.{snap_stream}
 use Rattle.cg_snap.specs.declared.event.Event.{Event}
 use Rattle.cg_snap.specs.declared.event.Event.TheVariants as events
-use Rattle.cg_snap.specs.declared.present.Present.{Present}
+use Rattle.cg_snap.specs.declared.present.CurrentEntry.{CurrentEntry}
 use Rattle.cg_snap.proofs.Allowed.{line_next_on, line_refused_on}
 use Rattle.cg_snap.proofs.Runs.{line_byte_few}
 use Rattle.cg_snap.proofs.States.{line_state, line_taken}
 
-module _ (profile : Profile) (begun : List ℕ) (x x' : Present) (p : List ℕ) (es : List EntryData) (bytes : List ℕ) (used max at : ℕ) (h : HasConsumed profile begun (Some x) p es) (t : x.in_line ≡ true)
+module _ (profile : Profile) (begun : List ℕ) (x x' : CurrentEntry) (p : List ℕ) (es : List EntryData) (bytes : List ℕ) (used max at : ℕ) (h : HasConsumed profile begun (Some x) p es) (t : x.in_line ≡ true)
     (within : used ≤ length bytes) (e : x'.path.items ≡ x.path.items) (c : x'.lines ≡ x.lines) (i : x'.in_line ≡ true)
     (reads : (k : ReadForm) (s : List ℕ) → Reads x.reader k s → Reads x'.reader k (s ++ take used bytes)) where
   -- They don't end the line.

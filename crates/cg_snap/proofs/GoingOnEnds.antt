@@ -27,7 +27,7 @@ use Rattle.cg_snap.specs.declared.decode.StreamFault.TheVariants.{Stopped}
 use Rattle.cg_snap.specs.declared.going_on.Found.{Found}
 use Rattle.cg_snap.specs.declared.going_on_records.GoingOnRecords.{GoingOnRecords}
 use Rattle.cg_snap.specs.declared.limits.Limits.{Limits}
-use Rattle.cg_snap.specs.declared.present.Present.{Present}
+use Rattle.cg_snap.specs.declared.present.CurrentEntry.{CurrentEntry}
 use Rattle.cg_snap.specs.declared.stop.Stop.{Stop}
 use Rattle.cg_snap.specs.declared.stop.Stop.TheVariants as stops
 use Rattle.cg_snap.proofs.Closes.{line_begun, path_begun, records_end, snap_end}
@@ -48,10 +48,10 @@ module _ (profile : Profile) where
   abbrev Ended : List ℕ → Type 0
   Ended w = (last : Option EntryData) × SnapText profile (option_to_list last) w
 
-  line_ended : (begun : List ℕ) (x : Present) (w : List ℕ) → IsRecordEnd w → HasConsumedInLine profile begun x w [] → Ended w
+  line_ended : (begun : List ℕ) (x : CurrentEntry) (w : List ℕ) → IsRecordEnd w → HasConsumedInLine profile begun x w [] → Ended w
   line_ended begun x w e h = let z = begun_nothing w (x.path.items ++ 0 ∷ h.line) (line_begun profile begun x w [] h) e in absurd (not_nil x.path.items 0 h.line (sym z))
 
-  path_ended : (begun : List ℕ) (x : Present) (w : List ℕ) → IsRecordEnd w → HasConsumedInPath profile begun x w [] → Ended w
+  path_ended : (begun : List ℕ) (x : CurrentEntry) (w : List ℕ) → IsRecordEnd w → HasConsumedInPath profile begun x w [] → Ended w
   path_ended begun x w e h =
       let path = x.path.items in
       let none : begun ≡ [] = begun_nothing w begun (path_begun profile begun x w [] h) e in
@@ -59,7 +59,7 @@ module _ (profile : Profile) where
       let split : w ≡ records path h.lines = h.split ∙ (ap (λ (u : List ℕ). u ++ (records path h.lines ++ begun)) h.entries ∙ (ap (λ (u : List ℕ). records path h.lines ++ u) none ∙ append-nil (records path h.lines))) in
       (Some d.0, (h.lines, [], d.2, tt, split ∙ (ap (λ (q : List ℕ). records q h.lines) (sym d.1) ∙ sym (append-nil (records d.0.path h.lines))), refl))
 
-  ended_last : (begun : List ℕ) (o : Option Present) (w : List ℕ) → HasConsumed profile begun o w [] → IsRecordEnd w → Ended w
+  ended_last : (begun : List ℕ) (o : Option CurrentEntry) (w : List ℕ) → HasConsumed profile begun o w [] → IsRecordEnd w → Ended w
   ended_last begun None w h (inl e) = (None, e)
   ended_last begun None w h (inr s) = absurd (lacks_inside 10 s.0 [] (subst (Lacks 10) (sym h.bytes ∙ s.1) (bytes_no_newline begun h.begun_path)))
   ended_last begun (Some x) w h e = by_flag (HasConsumedInLine profile begun x w []) (HasConsumedInPath profile begun x w []) (Ended w) x.in_line h (line_ended begun x w e) (path_ended begun x w e)

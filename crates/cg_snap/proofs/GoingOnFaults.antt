@@ -21,7 +21,7 @@ use Rattle.cg_snap.specs.StreamStop.{IsLastWhy}
 use Rattle.cg_snap.specs.declared.going_on.Cause.{Cause}
 use Rattle.cg_snap.specs.declared.going_on.Cause.TheVariants as causes
 use Rattle.cg_snap.specs.declared.limits.Limits.{Limits}
-use Rattle.cg_snap.specs.declared.present.Present.{Present}
+use Rattle.cg_snap.specs.declared.present.CurrentEntry.{CurrentEntry}
 use Rattle.cg_snap.specs.declared.stop.Stop.{Stop}
 use Rattle.cg_snap.specs.declared.stop.Stop.TheVariants as stops
 use Rattle.cg_snap.specs.declared.stop.Why.{Why}
@@ -58,7 +58,7 @@ module _ (profile : Profile) where
       record { rest = o.0; whole = (o.1 ∷ [], subst (SnapText profile (o.1 ∷ [])) (sym (append_assoc begun (0 ∷ []) o.0)) o.3) }
 
   -- What goes on with a stream goes on with the line alone.
-  pub line_next : (begun : List ℕ) (o : Option Present) (p : List ℕ) (es : List EntryData) (b : ℕ) → HasConsumedBetween profile begun o p es → ArePathBytes begun → Next (Snap profile) p b → Next (Snap profile) begun b
+  pub line_next : (begun : List ℕ) (o : Option CurrentEntry) (p : List ℕ) (es : List EntryData) (b : ℕ) → HasConsumedBetween profile begun o p es → ArePathBytes begun → Next (Snap profile) p b → Next (Snap profile) begun b
   line_next begun o p es b h a v =
       elim (paths_head profile begun o p es b h v) [
         | inl e ↦
@@ -68,7 +68,7 @@ module _ (profile : Profile) where
       ]
 
   -- And the other way, where the line is of another path.
-  next_line : (begun : List ℕ) (x : Present) (p : List ℕ) (es : List EntryData) (b : ℕ) → HasConsumedInPath profile begun x p es → (b ≡ 0 → x.path.items ≡ begun → ⊥) → Next (Snap profile) begun b → Next (Snap profile) p b
+  next_line : (begun : List ℕ) (x : CurrentEntry) (p : List ℕ) (es : List EntryData) (b : ℕ) → HasConsumedInPath profile begun x p es → (b ≡ 0 → x.path.items ≡ begun → ⊥) → Next (Snap profile) begun b → Next (Snap profile) p b
   next_line begun x p es b h n v =
       elim (paths_head profile begun None begun [] b (start_of begun h.begun_path) v) [
         | inl e ↦
@@ -83,7 +83,7 @@ module _ (profile : Profile) where
       ]
 
   -- With a NUL there are too many records of another path only where there may be none.
-  line_many : (begun : List ℕ) (x : Present) (p : List ℕ) (es : List EntryData) (b max place : ℕ) → HasConsumedInPath profile begun x p es → (b ≡ 0 → x.path.items ≡ begun → ⊥) →
+  line_many : (begun : List ℕ) (x : CurrentEntry) (p : List ℕ) (es : List EntryData) (b max place : ℕ) → HasConsumedInPath profile begun x p es → (b ≡ 0 → x.path.items ≡ begun → ⊥) →
       IsManyRecords profile max (p ++ b ∷ []) (length p) → IsManyRecords profile max (begun ++ b ∷ []) place
   line_many begun x p es zero max place h n m =
       let r = path_begun profile begun x p es h in
@@ -129,7 +129,7 @@ module _ (profile : Profile) where
         subst (λ (k : ℕ). StopsAt (Snap profile) (IsLastWhy (IsRecordWhy profile)) (IsLongRecord limits.max_record) (IsManyRecords profile limits.max_lines) limits.max_stream (p ++ b ∷ []) k stop) (sym told ∙ at) s.stops
 
     -- What stops a stream with a byte of a line of another path stops that line alone.
-    module _ (begun : List ℕ) (x : Present) (p : List ℕ) (es : List EntryData) (b : ℕ) (h : HasConsumedInPath profile begun x p es) (n : b ≡ 0 → x.path.items ≡ begun → ⊥) (u : Unstopped p) (far : length p ≤ limits.max_stream) where
+    module _ (begun : List ℕ) (x : CurrentEntry) (p : List ℕ) (es : List EntryData) (b : ℕ) (h : HasConsumedInPath profile begun x p es) (n : b ≡ 0 → x.path.items ≡ begun → ⊥) (u : Unstopped p) (far : length p ≤ limits.max_stream) where
       begins : IsBegun p begun
       begins = path_begun profile begun x p es h
 

@@ -22,7 +22,7 @@ use Rattle.cg_snap.specs.SnapStop.{IsManyRecords, IsRecordWhy, IsSnapUnstopped}
 use Rattle.cg_snap.specs.Streams.{snap_stream}
 use Rattle.cg_snap.specs.declared.limits.Limits.{Limits}
 use Rattle.cg_snap.specs.declared.meter.Meter.{Meter}
-use Rattle.cg_snap.specs.declared.present.Present.{Present}
+use Rattle.cg_snap.specs.declared.present.CurrentEntry.{CurrentEntry}
 use Rattle.cg_snap.specs.declared.snapshot_records.SnapshotRecords.{SnapshotRecords}
 use Rattle.cg_snap.proofs.Begins.{not_long}
 use Rattle.cg_snap.proofs.Closes.{begun_after, nul_plain}
@@ -52,8 +52,8 @@ all_last P (y ∷ xs) x h = all_last P xs x h.1
 
 module _ (profile : Profile) where
   -- What an entry that is given leaves: its records, and the path and the NUL of another line, with which the byte came.
-  pub record GivenParts (begun : List ℕ) (o : Option Present) (q : List ℕ) (c : ℕ) (e : EntryData) : Type 0 where
-    pub x : Present
+  pub record GivenParts (begun : List ℕ) (o : Option CurrentEntry) (q : List ℕ) (c : ℕ) (e : EntryData) : Type 0 where
+    pub x : CurrentEntry
     pub present : o ≡ Some x
     pub in_line : x.in_line ≡ true
     pub given : List ℕ
@@ -71,7 +71,7 @@ module _ (profile : Profile) where
   pushed : (q given back : List ℕ) (c d : ℕ) → q ++ c ∷ [] ≡ given ++ (back ++ d ∷ []) → (q ≡ given ++ back) × (c ≡ d)
   pushed q given back c d e = push_one q (given ++ back) c d (e ∙ sym (append_assoc given back (d ∷ [])))
 
-  line_earlier : (begun : List ℕ) (x : Present) (q : List ℕ) (c : ℕ) (e : EntryData) (h : HasConsumedInLine profile begun x (q ++ c ∷ []) (e ∷ [])) → Closed profile q [] → (front : List ℕ) (d : ℕ) → h.line ≡ front ++ d ∷ [] → ⊥
+  line_earlier : (begun : List ℕ) (x : CurrentEntry) (q : List ℕ) (c : ℕ) (e : EntryData) (h : HasConsumedInLine profile begun x (q ++ c ∷ []) (e ∷ [])) → Closed profile q [] → (front : List ℕ) (d : ℕ) → h.line ≡ front ++ d ∷ [] → ⊥
   line_earlier begun x q c e h none front d f =
       let path = x.path.items in
       let text : q ++ c ∷ [] ≡ h.given ++ ((records path h.lines ++ (path ++ 0 ∷ front)) ++ d ∷ []) = h.split ∙ rw f (simp append_assoc) in
@@ -89,7 +89,7 @@ module _ (profile : Profile) where
         other = h.other;
       })
 
-  path_earlier : (begun : List ℕ) (x : Present) (q : List ℕ) (c : ℕ) (e : EntryData) (given back tail : List ℕ) (lines : List (List ℕ)) → q ≡ given ++ (records x.path.items lines ++ tail) → SnapText profile (e ∷ []) given → IsPath x.path.items →
+  path_earlier : (begun : List ℕ) (x : CurrentEntry) (q : List ℕ) (c : ℕ) (e : EntryData) (given back tail : List ℕ) (lines : List (List ℕ)) → q ≡ given ++ (records x.path.items lines ++ tail) → SnapText profile (e ∷ []) given → IsPath x.path.items →
       lines ≢ [] → AllByRecursion (Lacks 10) lines → Lacks 0 tail → Lacks 10 tail → EndsOther (e ∷ []) x.path.items → Closed profile q [] → ⊥
   path_earlier begun x q c e given back tail lines split entries good some plain nul newline other none =
       let start = records_start x.path.items lines tail some in
@@ -105,7 +105,7 @@ module _ (profile : Profile) where
         other = other;
       })
 
-  line_given : (begun : List ℕ) (x : Present) (q : List ℕ) (c : ℕ) (e : EntryData) → x.in_line ≡ true → Closed profile q [] → (h : HasConsumedInLine profile begun x (q ++ c ∷ []) (e ∷ [])) →
+  line_given : (begun : List ℕ) (x : CurrentEntry) (q : List ℕ) (c : ℕ) (e : EntryData) → x.in_line ≡ true → Closed profile q [] → (h : HasConsumedInLine profile begun x (q ++ c ∷ []) (e ∷ [])) →
       (lines : List (List ℕ)) → h.lines ≡ lines → h.line ≡ [] → GivenParts begun (Some x) q c e
   line_given begun x q c e flag none h [] a b =
       let path = x.path.items in
@@ -145,7 +145,7 @@ module _ (profile : Profile) where
       let s = pushed q h.given (records path (l ∷ ls) ++ path) c 0 text in
       absurd (path_earlier begun x q c e h.given [] path (l ∷ ls) s.0 h.entries h.good (λ z. absurd (cc)) (subst (AllByRecursion (Lacks 10)) a h.plain) (path_lacks_nul path h.good) (path_lacks_newline path h.good) h.other none)
 
-  path_given : (begun : List ℕ) (x : Present) (q : List ℕ) (c : ℕ) (e : EntryData) → Closed profile q [] → HasConsumedInPath profile begun x (q ++ c ∷ []) (e ∷ []) → ⊥
+  path_given : (begun : List ℕ) (x : CurrentEntry) (q : List ℕ) (c : ℕ) (e : EntryData) → Closed profile q [] → HasConsumedInPath profile begun x (q ++ c ∷ []) (e ∷ []) → ⊥
   path_given begun x q c e none h =
       let path = x.path.items in
       elim (snoc begun) [
@@ -177,7 +177,7 @@ module _ (profile : Profile) where
             })
       ]
 
-  pub given_parts : (begun : List ℕ) (o : Option Present) (q : List ℕ) (c : ℕ) (e : EntryData) → Closed profile q [] → HasConsumed profile begun o (q ++ c ∷ []) (e ∷ []) → GivenParts begun o q c e
+  pub given_parts : (begun : List ℕ) (o : Option CurrentEntry) (q : List ℕ) (c : ℕ) (e : EntryData) → Closed profile q [] → HasConsumed profile begun o (q ++ c ∷ []) (e ∷ []) → GivenParts begun o q c e
   given_parts begun None q c e none h = let z = h.none in absurd (cc)
   given_parts begun (Some x) q c e none h = by x.in_line refl h
     where
@@ -221,7 +221,7 @@ module _ (profile : Profile) where
     at = at_true (HasConsumedInLine profile s.begun.items g.x whole []) (HasConsumedInPath profile s.begun.items g.x whole []) g.x.in_line g.in_line g.alone
 
     at_present : HasConsumed profile s.begun.items s.present whole []
-    at_present = subst (λ (o : Option Present). HasConsumed profile s.begun.items o whole []) (sym g.present) at
+    at_present = subst (λ (o : Option CurrentEntry). HasConsumed profile s.begun.items o whole []) (sym g.present) at
 
     far : length whole ≤ limits.max_stream
     far = omega (arith, ap (λ (l : Limits). l.max_stream) is, h.counted.within, ap length text, length-append (g.given ++ path) (0 ∷ []), length-append g.given path, length-append path (0 ∷ []))

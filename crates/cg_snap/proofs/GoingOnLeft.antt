@@ -27,7 +27,7 @@ use Rattle.cg_snap.specs.declared.going_on.Cause.TheVariants as causes
 use Rattle.cg_snap.specs.declared.going_on.LeftOut.{LeftOut}
 use Rattle.cg_snap.specs.declared.going_on_records.GoingOnRecords.{GoingOnRecords}
 use Rattle.cg_snap.specs.declared.limits.Limits.{Limits}
-use Rattle.cg_snap.specs.declared.present.Present.{Present}
+use Rattle.cg_snap.specs.declared.present.CurrentEntry.{CurrentEntry}
 use Rattle.cg_snap.specs.declared.snapshot_records.SnapshotRecords.{SnapshotRecords}
 use Rattle.cg_snap.specs.declared.stop.Stop.{Stop}
 use Rattle.cg_snap.proofs.Begins.{long_is}
@@ -42,7 +42,7 @@ use Rattle.cg_snap.proofs.Steps.{bytes_no_newline, bytes_no_nul}
 use Rattle.cg_snap.proofs.Stops.{all_of, stop_place}
 use Rattle.cg_snap.proofs.Taken.{taken_records}
 
-pub some_none : (x : Present) → Some x ≡ None → ⊥
+pub some_none : (x : CurrentEntry) → Some x ≡ None → ⊥
 some_none x e = absurd (cc)
 
 is_zero : (b : ℕ) → (b ≡ 0) ⊎ (b ≢ 0)
@@ -52,7 +52,7 @@ is_zero (suc b) = inr (λ e. absurd (cc))
 -- The records of which only this part of a path came.
 pub begun_alone : (r : SnapshotRecords) (profile : Profile) (begun : List ℕ) → r.profile ≡ profile → r.begun.items ≡ begun → r.present ≡ None → ArePathBytes begun → HasTakenRecords r profile begun []
 begun_alone r profile begun e b n a =
-    taken_records r profile begun [] e (subst (λ (o : Option Present). HasConsumed profile r.begun.items o begun []) (sym n) (record { none = refl; bytes = sym b; begun_path = subst ArePathBytes (sym b) a }))
+    taken_records r profile begun [] e (subst (λ (o : Option CurrentEntry). HasConsumed profile r.begun.items o begun []) (sym n) (record { none = refl; bytes = sym b; begun_path = subst ArePathBytes (sym b) a }))
 
 module _ (profile : Profile) (limits : Limits) where
   -- ---- A line of another path, at whose byte something is at fault
@@ -136,7 +136,7 @@ module _ (profile : Profile) (limits : Limits) where
     pub passing : flag ≡ true → EndsInLine (Some path) bytes
     pub ended : flag ≡ false → IsRecordEnd bytes
 
-  module _ (begun : List ℕ) (x : Present) (w : List ℕ) (b : ℕ) (flag : Bool) (yes : flag ≡ true → b ≢ 10) (no : flag ≡ false → b ≡ 10) (good : IsPath x.path.items) (room : length x.path.items < limits.max_record) where
+  module _ (begun : List ℕ) (x : CurrentEntry) (w : List ℕ) (b : ℕ) (flag : Bool) (yes : flag ≡ true → b ≢ 10) (no : flag ≡ false → b ≡ 10) (good : IsPath x.path.items) (room : length x.path.items < limits.max_record) where
     in_line : HasConsumedInLine profile begun x w [] → OwnLine x.path.items (w ++ b ∷ []) flag
     in_line h = by flag refl
       where
@@ -203,7 +203,7 @@ module _ (profile : Profile) (limits : Limits) where
         first : IsFirst s profile limits p told h.path h.block → HasTold t profile limits (p ++ b ∷ []) told
         first f =
             let n = no_nul profile begun_of s.block.present h.block [] f.no_nul at in
-            let j : IsPathBegun begun_of b room path = subst (λ (o : Option Present). IsPathAt begun_of b room o of path) n.none i in
+            let j : IsPathBegun begun_of b room path = subst (λ (o : Option CurrentEntry). IsPathAt begun_of b room o of path) n.none i in
             let k : IsPathBegun begun_of b room (Some q) = subst (IsPathBegun begun_of b room) e j in
             let whole : h.front ++ (q ++ 0 ∷ []) ≡ p ++ b ∷ [] = rw (k.0, sym k.1) (ap (λ (u : List ℕ). h.front ++ (u ++ b ∷ [])) (sym n.bytes_are) ∙ text) in
             let over = again_passing profile limits t h.front h.path told q h.blocks h.ended f.left_out (sym f.kept ∙ l) (kept ∙ f.kept) along in
@@ -241,11 +241,11 @@ module _ (profile : Profile) (limits : Limits) where
       abbrev Own : Type 0
       Own = HasTold t profile limits (p ++ b ∷ []) (told ++ inr out ∷ []) × IsAtFault profile limits (p ++ b ∷ []) told out h.block b
 
-      own : (x : Present) → s.block.present ≡ Some x → out.path ≡ Some x.path.items → IsOfPresent begun_of b (Some x) → Own
+      own : (x : CurrentEntry) → s.block.present ≡ Some x → out.path ≡ Some x.path.items → IsOfPresent begun_of b (Some x) → Own
       own x e q i = by h.state
         where
           at_x : HasConsumed profile begun_of (Some x) h.block []
-          at_x = subst (λ (o : Option Present). HasConsumed profile begun_of o h.block []) e at
+          at_x = subst (λ (o : Option CurrentEntry). HasConsumed profile begun_of o h.block []) e at
 
           starts : IsOf profile x h.block
           starts = present_of profile begun_of x h.block at_x
@@ -292,7 +292,7 @@ module _ (profile : Profile) (limits : Limits) where
       first room e m path other = by h.state
         where
           at_none : HasConsumed profile begun_of None h.block []
-          at_none = subst (λ (o : Option Present). HasConsumed profile begun_of o h.block []) e at
+          at_none = subst (λ (o : Option CurrentEntry). HasConsumed profile begun_of o h.block []) e at
 
           by : IsFirst s profile limits p told h.path h.block ⊎ HasOther s profile limits p told h.path h.block → Alone told (told ++ inr out ∷ [])
           by (inl f) =
@@ -302,7 +302,7 @@ module _ (profile : Profile) (limits : Limits) where
           by (inr o) = absurd (lacks_inside 0 o.own o.rest (subst (Lacks 0) (sym at_none.bytes ∙ o.split) (bytes_no_nul begun_of at_none.begun_path)))
 
       -- Lines of another path came before it.
-      next : (x : Present) (room : Bool) (e : EntryData) → s.block.present ≡ Some x → (IsOfPresent begun_of b (Some x) → ⊥) → MatchBool room (length begun_of < limits.max_record) (limits.max_record ≤ length begun_of) → IsPathBegun begun_of b room out.path →
+      next : (x : CurrentEntry) (room : Bool) (e : EntryData) → s.block.present ≡ Some x → (IsOfPresent begun_of b (Some x) → ⊥) → MatchBool room (length begun_of < limits.max_record) (limits.max_record ≤ length begun_of) → IsPathBegun begun_of b room out.path →
           ((begun q : List ℕ) (es : List EntryData) (a : HasConsumedInPath profile begun x q es) → (e.path ≡ x.path.items) × AreEntryLines profile e a.lines) → Alone (told ++ inl e ∷ []) (told ++ (inl e ∷ inr out ∷ []))
       next x room e is_x not m path ends = by x.in_line refl
         where
@@ -310,7 +310,7 @@ module _ (profile : Profile) (limits : Limits) where
           own_path = x.path.items
 
           at_x : HasConsumed profile begun_of (Some x) h.block []
-          at_x = subst (λ (o : Option Present). HasConsumed profile begun_of o h.block []) is_x at
+          at_x = subst (λ (o : Option CurrentEntry). HasConsumed profile begun_of o h.block []) is_x at
 
           starts : IsOf profile x h.block
           starts = present_of profile begun_of x h.block at_x
@@ -361,7 +361,7 @@ module _ (profile : Profile) (limits : Limits) where
           by true i = absurd (not (inl i))
           by false i = by_state (MatchBool-at_false _ _ i at_x) h.state
 
-      begun_is : (o : Option Present) → (IsOfPresent begun_of b o → ⊥) → HasConsumed profile begun_of o h.block [] → IsBegun h.block begun_of
+      begun_is : (o : Option CurrentEntry) → (IsOfPresent begun_of b o → ⊥) → HasConsumed profile begun_of o h.block [] → IsBegun h.block begun_of
       begun_is None n a = start_begun begun_of h.block [] a
       begun_is (Some x) n a = by x.in_line refl
         where
@@ -370,10 +370,10 @@ module _ (profile : Profile) (limits : Limits) where
           by false e = (paths_begun profile begun_of (Some x) h.block [] (MatchBool-at_false _ _ e a)).0
 
       -- How much room the record had, by what was counted.
-      pub room_is : (o : Option Present) (room : Bool) → s.block.present ≡ o → (IsOfPresent begun_of b o → ⊥) → MatchBool room (s.meter.record_len < s.meter.limits.max_record) (s.meter.limits.max_record ≤ s.meter.record_len) →
+      pub room_is : (o : Option CurrentEntry) (room : Bool) → s.block.present ≡ o → (IsOfPresent begun_of b o → ⊥) → MatchBool room (s.meter.record_len < s.meter.limits.max_record) (s.meter.limits.max_record ≤ s.meter.record_len) →
           MatchBool room (length begun_of < limits.max_record) (limits.max_record ≤ length begun_of)
       room_is o room e n m =
-          let a = subst (λ (q : Option Present). HasConsumed profile begun_of q h.block []) e at in
+          let a = subst (λ (q : Option CurrentEntry). HasConsumed profile begun_of q h.block []) e at in
           let same : s.meter.record_len ≡ length begun_of = h.along.counted.length_is ∙ ap length (begun_once h.block h.along.counted.begun begun_of h.along.counted.begins (begun_is o n a)) in
           let max : s.meter.limits.max_record ≡ limits.max_record = ap (λ (l : Limits). l.max_record) meter_is in
           by room m same max
@@ -383,11 +383,11 @@ module _ (profile : Profile) (limits : Limits) where
           by true m x y = omega (arith, m, x, y)
           by false m x y = omega (arith, m, x, y)
 
-      pub left_own : (o : Option Present) → s.block.present ≡ o → (room : Bool) → IsOfPresent begun_of b o → IsPathAt begun_of b room o true out.path → Own
+      pub left_own : (o : Option CurrentEntry) → s.block.present ≡ o → (room : Bool) → IsOfPresent begun_of b o → IsPathAt begun_of b room o true out.path → Own
       left_own None e room i path = absurd i
       left_own (Some x) e room i path = own x e path i
 
-      pub left_other : (o : Option Present) (entry : Option EntryData) → s.block.present ≡ o → (room : Bool) → (IsOfPresent begun_of b o → ⊥) → MatchBool room (length begun_of < limits.max_record) (limits.max_record ≤ length begun_of) →
+      pub left_other : (o : Option CurrentEntry) (entry : Option EntryData) → s.block.present ≡ o → (room : Bool) → (IsOfPresent begun_of b o → ⊥) → MatchBool room (length begun_of < limits.max_record) (limits.max_record ≤ length begun_of) →
           IsPathAt begun_of b room o false out.path → ((r : List ℕ) → s.left_out ≡ Some r → out.path ≡ Some r → ⊥) → IsEnded o entry → Alone (told ++ told_entry entry) (told ++ (told_entry entry ++ inr out ∷ []))
       left_other None entry e room n m path other i =
           let l = first room e m path other in
@@ -396,7 +396,7 @@ module _ (profile : Profile) (limits : Limits) where
       left_other (Some x) None e room n m path other i = absurd (no_entry x.in_line refl)
         where
           at_x : HasConsumed profile begun_of (Some x) h.block []
-          at_x = subst (λ (o : Option Present). HasConsumed profile begun_of o h.block []) e at
+          at_x = subst (λ (o : Option CurrentEntry). HasConsumed profile begun_of o h.block []) e at
 
           no_entry : (f : Bool) → x.in_line ≡ f → ⊥
           no_entry true z = n (inl z)

@@ -20,7 +20,7 @@ use Rattle.cg_snap.specs.declared.going_on.LeftOut.{LeftOut}
 use Rattle.cg_snap.specs.declared.going_on_records.GoingOnRecords.{GoingOnRecords}
 use Rattle.cg_snap.specs.declared.limits.Limits.{Limits}
 use Rattle.cg_snap.specs.declared.meter.Meter.{Meter}
-use Rattle.cg_snap.specs.declared.present.Present.{Present}
+use Rattle.cg_snap.specs.declared.present.CurrentEntry.{CurrentEntry}
 use Rattle.cg_snap.specs.declared.snapshot_records.SnapshotRecords.{SnapshotRecords}
 use Rattle.cg_snap.proofs.GoingOnFaults.{snoc}
 use Rattle.cg_snap.proofs.GoingOnLines.{block_again, block_more, block_newline}
@@ -259,7 +259,7 @@ module _ (profile : Profile) (limits : Limits) where
     -- No NUL came.
     settle_first : s.block.present ≡ None → IsReading s profile limits p told
     settle_first e =
-        let at = subst (λ (o : Option Present). HasConsumed profile s.block.begun.items o h.block []) e h.along.state.at in
+        let at = subst (λ (o : Option CurrentEntry). HasConsumed profile s.block.begun.items o h.block []) e h.along.state.at in
         record {
           front = h.front;
           path = h.path;
@@ -272,9 +272,9 @@ module _ (profile : Profile) (limits : Limits) where
         }
 
     -- The line has another path.
-    pub settle_other : (t : GoingOnRecords) (x : Present) → s.block.present ≡ Some x → (h.path ≡ Some x.path.items → ⊥) → t.block ≡ s.block → t.meter ≡ s.meter → t.left_out ≡ None → IsReading t profile limits p told
+    pub settle_other : (t : GoingOnRecords) (x : CurrentEntry) → s.block.present ≡ Some x → (h.path ≡ Some x.path.items → ⊥) → t.block ≡ s.block → t.meter ≡ s.meter → t.left_out ≡ None → IsReading t profile limits p told
     settle_other t x e n b m l =
-        let at = subst (λ (o : Option Present). HasConsumed profile s.block.begun.items o h.block []) e h.along.state.at in
+        let at = subst (λ (o : Option CurrentEntry). HasConsumed profile s.block.begun.items o h.block []) e h.along.state.at in
         let o = present_of profile s.block.begun.items x h.block at in
         record {
           front = h.front;
@@ -288,7 +288,7 @@ module _ (profile : Profile) (limits : Limits) where
         }
 
     -- Nothing is left out that may go on.
-    pub settle_none : s.left_out ≡ None → (o : Option Present) → s.block.present ≡ o → IsReading s profile limits p told
+    pub settle_none : s.left_out ≡ None → (o : Option CurrentEntry) → s.block.present ≡ o → IsReading s profile limits p told
     settle_none l None e = settle_first e
     settle_none l (Some x) e = settle_other s x e (λ z. none_some x.path.items (sym l ∙ (h.kept ∙ z))) refl refl l
 
@@ -297,11 +297,11 @@ module _ (profile : Profile) (limits : Limits) where
     settle_same (inr e) = settle_first e
 
     -- The line is one more of the block that was left out.
-    pub settle_again : (t : GoingOnRecords) (q : List ℕ) (x : Present) → s.left_out ≡ Some q → s.block.present ≡ Some x → q ≡ x.path.items → t.left_out ≡ s.left_out → HasProgressed (snap_stream profile) t.block t.meter [] [] → IsPassingOver t profile limits p told
+    pub settle_again : (t : GoingOnRecords) (q : List ℕ) (x : CurrentEntry) → s.left_out ≡ Some q → s.block.present ≡ Some x → q ≡ x.path.items → t.left_out ≡ s.left_out → HasProgressed (snap_stream profile) t.block t.meter [] [] → IsPassingOver t profile limits p told
     settle_again t q x l e same kept along = by h.byte
       where
         at : HasConsumed profile s.block.begun.items (Some x) h.block []
-        at = subst (λ (o : Option Present). HasConsumed profile s.block.begun.items o h.block []) e h.along.state.at
+        at = subst (λ (o : Option CurrentEntry). HasConsumed profile s.block.begun.items o h.block []) e h.along.state.at
 
         path_is : h.path ≡ Some q
         path_is = sym h.kept ∙ l

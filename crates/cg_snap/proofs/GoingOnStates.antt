@@ -20,7 +20,7 @@ use Rattle.cg_snap.specs.SnapStop.{IsManyRecords, IsRecordWhy, IsSnapUnstopped}
 use Rattle.cg_snap.specs.Streams.{snap_stream}
 use Rattle.cg_snap.specs.declared.going_on_records.GoingOnRecords.{GoingOnRecords}
 use Rattle.cg_snap.specs.declared.limits.Limits.{Limits}
-use Rattle.cg_snap.specs.declared.present.Present.{Present}
+use Rattle.cg_snap.specs.declared.present.CurrentEntry.{CurrentEntry}
 use Rattle.cg_snap.proofs.Closes.{path_begun, records_end, start_begun}
 use Rattle.cg_snap.proofs.GoingOnFaults.{begun_room, start_of}
 use Rattle.cg_snap.proofs.Refusals.{line_start, records_start}
@@ -47,53 +47,53 @@ nul_in a b h = lacks_inside 0 a b h
 module _ (profile : Profile) where
   -- ---- Where no NUL came
 
-  pub record HasNoNul (begun : List ℕ) (o : Option Present) (bytes : List ℕ) : Type 0 where
+  pub record HasNoNul (begun : List ℕ) (o : Option CurrentEntry) (bytes : List ℕ) : Type 0 where
     pub none : o ≡ None
     pub bytes_are : bytes ≡ begun
     pub path : ArePathBytes begun
 
-  line_nul : (begun : List ℕ) (x : Present) (bytes : List ℕ) (es : List EntryData) → Lacks 0 bytes → HasConsumedInLine profile begun x bytes es → ⊥
+  line_nul : (begun : List ℕ) (x : CurrentEntry) (bytes : List ℕ) (es : List EntryData) → Lacks 0 bytes → HasConsumedInLine profile begun x bytes es → ⊥
   line_nul begun x bytes es n h =
       let s = line_start x.path.items h.lines h.line in
       nul_in x.path.items s.0 (subst (Lacks 0) s.1 (lacks_right 0 h.given _ (subst (Lacks 0) h.split n)))
 
-  path_nul : (begun : List ℕ) (x : Present) (bytes : List ℕ) (es : List EntryData) → Lacks 0 bytes → HasConsumedInPath profile begun x bytes es → ⊥
+  path_nul : (begun : List ℕ) (x : CurrentEntry) (bytes : List ℕ) (es : List EntryData) → Lacks 0 bytes → HasConsumedInPath profile begun x bytes es → ⊥
   path_nul begun x bytes es n h =
       let s = records_start x.path.items h.lines begun h.some in
       nul_in x.path.items s.0 (subst (Lacks 0) s.1 (lacks_right 0 h.given _ (subst (Lacks 0) h.split n)))
 
-  pub no_nul : (begun : List ℕ) (o : Option Present) (bytes : List ℕ) (es : List EntryData) → Lacks 0 bytes → HasConsumed profile begun o bytes es → HasNoNul begun o bytes
+  pub no_nul : (begun : List ℕ) (o : Option CurrentEntry) (bytes : List ℕ) (es : List EntryData) → Lacks 0 bytes → HasConsumed profile begun o bytes es → HasNoNul begun o bytes
   no_nul begun None bytes es n h = record { none = refl; bytes_are = h.bytes; path = h.begun_path }
   no_nul begun (Some x) bytes es n h = absurd (by_flag (HasConsumedInLine profile begun x bytes es) (HasConsumedInPath profile begun x bytes es) ⊥ x.in_line h (line_nul begun x bytes es n) (path_nul begun x bytes es n))
 
   -- ---- Where one came
 
   -- The bytes of the first block begin with the present path.
-  pub record IsOf (x : Present) (bytes : List ℕ) : Type 0 where
+  pub record IsOf (x : CurrentEntry) (bytes : List ℕ) : Type 0 where
     pub rest : List ℕ
     pub starts : bytes ≡ x.path.items ++ 0 ∷ rest
     pub good : IsPath x.path.items
 
-  line_of : (begun : List ℕ) (x : Present) (bytes : List ℕ) → HasConsumedInLine profile begun x bytes [] → IsOf x bytes
+  line_of : (begun : List ℕ) (x : CurrentEntry) (bytes : List ℕ) → HasConsumedInLine profile begun x bytes [] → IsOf x bytes
   line_of begun x bytes h =
       let s = line_start x.path.items h.lines h.line in
       record { rest = s.0; starts = h.split ∙ ap (λ (t : List ℕ). t ++ (records x.path.items h.lines ++ (x.path.items ++ 0 ∷ h.line))) h.entries ∙ s.1; good = h.good }
 
-  path_of : (begun : List ℕ) (x : Present) (bytes : List ℕ) → HasConsumedInPath profile begun x bytes [] → IsOf x bytes
+  path_of : (begun : List ℕ) (x : CurrentEntry) (bytes : List ℕ) → HasConsumedInPath profile begun x bytes [] → IsOf x bytes
   path_of begun x bytes h =
       let s = records_start x.path.items h.lines begun h.some in
       record { rest = s.0; starts = h.split ∙ ap (λ (t : List ℕ). t ++ (records x.path.items h.lines ++ begun)) h.entries ∙ s.1; good = h.good }
 
-  pub present_of : (begun : List ℕ) (x : Present) (bytes : List ℕ) → HasConsumed profile begun (Some x) bytes [] → IsOf x bytes
+  pub present_of : (begun : List ℕ) (x : CurrentEntry) (bytes : List ℕ) → HasConsumed profile begun (Some x) bytes [] → IsOf x bytes
   present_of begun x bytes h = by_flag (HasConsumedInLine profile begun x bytes []) (HasConsumedInPath profile begun x bytes []) (IsOf x bytes) x.in_line h (line_of begun x bytes) (path_of begun x bytes)
 
   -- The present path is that with which the bytes begin.
-  pub same_own : (begun : List ℕ) (x : Present) (bytes own rest : List ℕ) → HasConsumed profile begun (Some x) bytes [] → IsPath own → bytes ≡ own ++ 0 ∷ rest → x.path.items ≡ own
+  pub same_own : (begun : List ℕ) (x : CurrentEntry) (bytes own rest : List ℕ) → HasConsumed profile begun (Some x) bytes [] → IsPath own → bytes ≡ own ++ 0 ∷ rest → x.path.items ≡ own
   same_own begun x bytes own rest h g e =
       let o = present_of begun x bytes h in
       (cut 0 x.path.items own o.rest rest (path_lacks_nul x.path.items o.good) (path_lacks_nul own g) (sym o.starts ∙ e)).0
 
-  line_parts : (begun : List ℕ) (x : Present) (bytes : List ℕ) → HasConsumedInLine profile begun x bytes [] → Parts x.path.items bytes
+  line_parts : (begun : List ℕ) (x : CurrentEntry) (bytes : List ℕ) → HasConsumedInLine profile begun x bytes [] → Parts x.path.items bytes
   line_parts begun x bytes h = record {
     block = bytes;
     tail = [];
@@ -111,7 +111,7 @@ module _ (profile : Profile) where
     ended = inl refl;
   }
 
-  path_parts : (begun : List ℕ) (x : Present) (bytes : List ℕ) → HasConsumedInPath profile begun x bytes [] → Parts x.path.items bytes
+  path_parts : (begun : List ℕ) (x : CurrentEntry) (bytes : List ℕ) → HasConsumedInPath profile begun x bytes [] → Parts x.path.items bytes
   path_parts begun x bytes h = record {
     block = records x.path.items h.lines;
     tail = begun;
@@ -123,10 +123,10 @@ module _ (profile : Profile) where
     ended = inr (records_end x.path.items [] h.lines (inl refl));
   }
 
-  some_parts : (begun : List ℕ) (x : Present) (bytes : List ℕ) → HasConsumed profile begun (Some x) bytes [] → Parts x.path.items bytes
+  some_parts : (begun : List ℕ) (x : CurrentEntry) (bytes : List ℕ) → HasConsumed profile begun (Some x) bytes [] → Parts x.path.items bytes
   some_parts begun x bytes h = by_flag (HasConsumedInLine profile begun x bytes []) (HasConsumedInPath profile begun x bytes []) (Parts x.path.items bytes) x.in_line h (line_parts begun x bytes) (path_parts begun x bytes)
 
-  pub parts : (begun : List ℕ) (o : Option Present) (bytes own rest : List ℕ) → HasConsumed profile begun o bytes [] → IsPath own → bytes ≡ own ++ 0 ∷ rest → Parts own bytes
+  pub parts : (begun : List ℕ) (o : Option CurrentEntry) (bytes own rest : List ℕ) → HasConsumed profile begun o bytes [] → IsPath own → bytes ≡ own ++ 0 ∷ rest → Parts own bytes
   parts begun None bytes own rest h g e = absurd (nul_in own rest (subst (Lacks 0) (sym h.bytes ∙ e) (bytes_no_nul begun h.begun_path)))
   parts begun (Some x) bytes own rest h g e = subst (λ (q : List ℕ). Parts q bytes) (same_own begun x bytes own rest h g e) (some_parts begun x bytes h)
 

@@ -8,7 +8,7 @@ use Rattle.cg_value.specs.Records.{records}
 use Rattle.cg_value.specs.declared.profile.Profile.{Profile}
 use Rattle.cg_line.specs.ReaderHeldLaws.{reads_few, reads_most, takes_few}
 use Rattle.cg_line.specs.Reads as reader
-use Rattle.cg_line.specs.Takes.{held_of}
+use Rattle.cg_line.specs.SettingReads.{held_of}
 use Rattle.cg_snap.specs.Begun.{IsBegun}
 use Rattle.cg_snap.specs.Closed.{Closed, EndsOther, IsHeldFor}
 use Rattle.cg_snap.specs.ClosedLaws.{closed_once}
@@ -21,8 +21,8 @@ use Rattle.cg_snap.specs.PlanLaws.{closed_plan_once}
 use Rattle.cg_snap.specs.PlanState.{HasConsumedItems}
 use Rattle.cg_snap.specs.Snap.{AreEntryLines, SnapText, StartsOther}
 use Rattle.cg_snap.specs.SnapLaws.{entry_starts, lines_plain}
-use Rattle.cg_snap.specs.declared.plan.Writing.{Writing}
-use Rattle.cg_snap.specs.declared.present.Present.{Present}
+use Rattle.cg_snap.specs.declared.plan.CurrentItem.{CurrentItem}
+use Rattle.cg_snap.specs.declared.present.CurrentEntry.{CurrentEntry}
 use Rattle.cg_snap.proofs.Closes.{start_closed}
 use Rattle.cg_snap.proofs.Holds.{none_held, some_held}
 use Rattle.cg_snap.proofs.PlanStates.{closed_begun, item_line_held, items_closed_by}
@@ -110,13 +110,13 @@ module _ (profile : Profile) where
         (Some h.last, h.is ∙ ap (λ (t : List EntryData). t ++ h.last ∷ []) (sym front))
   ]
 
-  held_at : (begun : List ℕ) (o : Option Present) (p : List ℕ) (es : List EntryData) → HasConsumed profile begun o p es → IsHeldFor profile p es (length begun + held_in o)
+  held_at : (begun : List ℕ) (o : Option CurrentEntry) (p : List ℕ) (es : List EntryData) → HasConsumed profile begun o p es → IsHeldFor profile p es (length begun + held_in o)
   held_at begun None p es h = none_held profile begun None p es (length begun + held_in None) refl h (omega arith)
   held_at begun (Some x) p es h =
       some_held profile begun (Some x) x p es (length begun + held_in (Some x)) (reader.held_by x.reader) refl h
       (record { few = λ k t r. reads_few x.reader k t r; most = λ k lines line v r plain spelled. reads_most x.reader k lines line v r plain spelled }) (omega arith)
 
-  plan_held_at : (begun : List ℕ) (o : Option Writing) (p : List ℕ) (items : List ItemData) → HasConsumedItems profile begun o p items → (r : List ℕ) × IsBegun p r × (length begun + held_in_line o ≤ length r)
+  plan_held_at : (begun : List ℕ) (o : Option CurrentItem) (p : List ℕ) (items : List ItemData) → HasConsumedItems profile begun o p items → (r : List ℕ) × IsBegun p r × (length begun + held_in_line o ≤ length r)
   plan_held_at begun None p items h = (begun, closed_begun profile p items (items_closed_by profile begun None p items h), omega arith)
   plan_held_at begun (Some x) p items h =
       item_line_held profile begun (Some x) x p items (length begun + held_in_line (Some x)) (held_of x.reader) refl h (λ k t r. takes_few x.reader k t r) (omega arith)

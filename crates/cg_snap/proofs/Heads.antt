@@ -17,7 +17,7 @@ use Rattle.cg_snap.specs.DecoderState.{HasConsumed, HasConsumedInLine, HasConsum
 use Rattle.cg_snap.specs.PathBytes.{ArePathBytes}
 use Rattle.cg_snap.specs.HeadState.{Repeats}
 use Rattle.cg_snap.specs.SnapStop.{IsManyRecords}
-use Rattle.cg_snap.specs.declared.present.Present.{Present}
+use Rattle.cg_snap.specs.declared.present.CurrentEntry.{CurrentEntry}
 use Rattle.cg_snap.proofs.Nuls.{full_is}
 use Rattle.cg_snap.proofs.PathRuns.{cut_at}
 use Rattle.cg_snap.proofs.Runs.{few_push, line_few, path_few}
@@ -42,7 +42,7 @@ path_bytes (x ∷ xs) h = (h 0 0 (omega arith), path_bytes xs (all_rest x xs h))
 
 -- ---- The head
 
-module _ (profile : Profile) (x : Present) (p : List ℕ) (es : List EntryData) (h : HasConsumedInPath profile [] x p es) where
+module _ (profile : Profile) (x : CurrentEntry) (p : List ℕ) (es : List EntryData) (h : HasConsumedInPath profile [] x p es) where
   head_bytes : ArePathBytes x.path.items
   head_bytes = path_bytes x.path.items h.good.bytes
 
@@ -52,7 +52,7 @@ module _ (profile : Profile) (x : Present) (p : List ℕ) (es : List EntryData) 
   pub head_plain : Lacks 10 (x.path.items ++ 0 ∷ [])
   head_plain = lacks_both 10 x.path.items (0 ∷ []) (bytes_no_newline x.path.items head_bytes) ((λ e. absurd (omega (arith, e))), tt)
 
-  pub head_taken : (begun : List ℕ) (y : Present) (piece : List ℕ) (count max : ℕ) → begun ≡ [] →
+  pub head_taken : (begun : List ℕ) (y : CurrentEntry) (piece : List ℕ) (count max : ℕ) → begun ≡ [] →
       y.path.items ≡ x.path.items → y.lines ≡ x.lines → ((kind : ReadForm) (taken : List ℕ) → Reads x.reader kind taken → Reads y.reader kind taken) → Repeats x piece max →
       ((kind : ReadForm) (taken : List ℕ) → Reads y.reader kind taken → TakesLine kind taken) →
       count ≡ length x.path.items + 1 → HasConsumedInLine profile begun y (p ++ take count piece) es
@@ -81,9 +81,9 @@ pub record_is : (path rest bytes line : List ℕ) (count used : ℕ) → bytes �
     take (count + used) bytes ≡ (path ++ 0 ∷ []) ++ (line ++ 10 ∷ [])
 record_is path rest bytes line count used e m l = take-add count used bytes ∙ (ap (λ (q : List ℕ). q ++ take used (drop count bytes)) (head_is path rest bytes count e m) ∙ ap (λ (q : List ℕ). (path ++ 0 ∷ []) ++ q) l)
 
-module _ (profile : Profile) (x : Present) (now : ValueReader) (p : List ℕ) (es : List EntryData) (h : HasConsumedInPath profile [] x p es) (line : List ℕ) (plain : Lacks 10 line)
+module _ (profile : Profile) (x : CurrentEntry) (now : ValueReader) (p : List ℕ) (es : List EntryData) (h : HasConsumedInPath profile [] x p es) (line : List ℕ) (plain : Lacks 10 line)
     (reads : (kind : ReadForm) (taken : List ℕ) → Reads x.reader kind taken → Reads now kind (taken ++ (line ++ 10 ∷ []))) where
-  abbrev begun_line : Present
+  abbrev begun_line : CurrentEntry
   begun_line = record { path = x.path; reader = x.reader; lines = x.lines; in_line = true; sound = x.sound }
 
   -- The line can be ended, since it was.
@@ -94,7 +94,7 @@ module _ (profile : Profile) (x : Present) (now : ValueReader) (p : List ℕ) (e
       let nul = same_path profile x.path.items [] x begun_line (p ++ x.path.items) es 0 a refl refl refl refl refl a.reads goes in
       subst (λ (q : List ℕ). HasConsumedInLine profile [] begun_line q es) (append_assoc p x.path.items (0 ∷ [])) nul
 
-  pub record_taken : (y : Present) (bytes : List ℕ) → bytes ≡ (x.path.items ++ 0 ∷ []) ++ (line ++ 10 ∷ []) → y.path.items ≡ x.path.items → y.lines ≡ saturated (x.lines + 1) → y.reader ≡ now → HasConsumedInPath profile [] y (p ++ bytes) es
+  pub record_taken : (y : CurrentEntry) (bytes : List ℕ) → bytes ≡ (x.path.items ++ 0 ∷ []) ++ (line ++ 10 ∷ []) → y.path.items ≡ x.path.items → y.lines ≡ saturated (x.lines + 1) → y.reader ≡ now → HasConsumedInPath profile [] y (p ++ bytes) es
   record_taken y bytes e path lines reader =
       let l = after_head in
       let after : Reads y.reader l.kind ((unlines l.lines ++ l.line) ++ (line ++ 10 ∷ [])) =
@@ -113,7 +113,7 @@ module _ (profile : Profile) (x : Present) (now : ValueReader) (p : List ℕ) (e
       inr (head ++ line, e ∙ sym (append_assoc head line (10 ∷ [])), lacks_both 10 head line (head_plain profile x p es h) plain)
 
 -- What the parts of a test say.
-pub repeats_is : (x : Present) (bytes : List ℕ) (size max : ℕ) → size < length bytes → get_or bytes size 0 ≡ 0 → take size bytes ≡ x.path.items → x.lines < max → Repeats x bytes max
+pub repeats_is : (x : CurrentEntry) (bytes : List ℕ) (size max : ℕ) → size < length bytes → get_or bytes size 0 ≡ 0 → take size bytes ≡ x.path.items → x.lines < max → Repeats x bytes max
 repeats_is x bytes size max inside nul same few = record {
   rest = drop (size + 1) bytes;
   begins = cut_at bytes size inside nul ∙ ap (λ (path : List ℕ). path ++ 0 ∷ drop (size + 1) bytes) same;

@@ -13,12 +13,12 @@ use Rattle.cg_value.specs.declared.value.Value.{Value}
 use Rattle.cg_line.specs.Reads.{Reads}
 use Rattle.cg_snap.specs.Closed.{IsHeldFor, MayHold}
 use Rattle.cg_snap.specs.DecoderState.{HasConsumed, HasConsumedInLine, HasConsumedInPath, HasConsumedAPath}
-use Rattle.cg_snap.specs.declared.present.Present.{Present}
+use Rattle.cg_snap.specs.declared.present.CurrentEntry.{CurrentEntry}
 use Rattle.cg_snap.proofs.Closes.{line_begun, line_closed, path_begun, path_closed, start_begun, start_closed}
 use Rattle.cg_snap.proofs.Steps.{line_can_end, path_ends}
 
 -- A reader holds no more than its bytes, and no more than its lines may.
-pub record HoldsFew (x : Present) (m : ℕ) : Type 0 where
+pub record HoldsFew (x : CurrentEntry) (m : ℕ) : Type 0 where
   pub few : (k : ReadForm) (t : List ℕ) → Reads x.reader k t → m ≤ length t
   pub most : (k : ReadForm) (lines : List (List ℕ)) (line : List ℕ) (v : Value) → Reads x.reader k (unlines lines ++ line) → Lacks 10 line → ReadLines k v lines → m ≤ held_of_lines v lines + length line
 
@@ -30,7 +30,7 @@ module _ (profile : Profile) where
   some_may path [] kind v some r s = absurd (some refl)
   some_may path (l ∷ lines) kind v some r s = (kind, v, r, s, refl)
 
-  path_held : (begun : List ℕ) (x : Present) (p : List ℕ) (es : List EntryData) (n m : ℕ) → HasConsumedInPath profile begun x p es → HoldsFew x m → n ≤ length begun + (length x.path.items + m) → IsHeldFor profile p es n
+  path_held : (begun : List ℕ) (x : CurrentEntry) (p : List ℕ) (es : List EntryData) (n m : ℕ) → HasConsumedInPath profile begun x p es → HoldsFew x m → n ≤ length begun + (length x.path.items + m) → IsHeldFor profile p es n
   path_held begun x p es n m h b le =
       let v = path_ends profile begun x p es h in
       let c = b.most h.kind h.lines [] v.0 (rw append-nil h.reads) tt v.1 in (
@@ -42,7 +42,7 @@ module _ (profile : Profile) where
         omega (arith, c, le),
       )
 
-  line_may : (x : Present) (k : ReadForm) (path : List ℕ) (lines : List (List ℕ)) (line : List ℕ) (m : ℕ) →
+  line_may : (x : CurrentEntry) (k : ReadForm) (path : List ℕ) (lines : List (List ℕ)) (line : List ℕ) (m : ℕ) →
       ReadsAt profile path (Some k) → Reads x.reader k (unlines lines ++ line) → Lacks 10 line →
       (lines ≢ [] → (v : Value) × ReadLines k v lines) → HoldsFew x m →
       (whole : ℕ) × MayHold profile path lines whole × (length path + m ≤ length (path ++ 0 ∷ line) + whole)
@@ -52,21 +52,21 @@ module _ (profile : Profile) where
       let c = b.most k (l ∷ lines) line v.0 t n v.1 in
       (length path + held_of_lines v.0 (l ∷ lines), (k, v.0, r, v.1, refl), omega (arith, c, length-append path (0 ∷ line)))
 
-  line_held : (begun : List ℕ) (x : Present) (p : List ℕ) (es : List EntryData) (n m : ℕ) → HasConsumedInLine profile begun x p es → HoldsFew x m → n ≤ length begun + (length x.path.items + m) → IsHeldFor profile p es n
+  line_held : (begun : List ℕ) (x : CurrentEntry) (p : List ℕ) (es : List EntryData) (n m : ℕ) → HasConsumedInLine profile begun x p es → HoldsFew x m → n ≤ length begun + (length x.path.items + m) → IsHeldFor profile p es n
   line_held begun x p es n m h b le =
       let w = line_may x h.kind x.path.items h.lines h.line m h.reads_at h.reads h.plain_line (λ some. line_can_end profile begun x p es h some) b in
       (line_closed profile begun x p es h, x.path.items ++ 0 ∷ h.line, w.0, line_begun profile begun x p es h, w.1, omega (arith, w.2, le, ap length h.nothing_begun))
 
-  by_flag : (begun : List ℕ) (x : Present) (p : List ℕ) (es : List EntryData) (n m : ℕ) (b : Bool) →
+  by_flag : (begun : List ℕ) (x : CurrentEntry) (p : List ℕ) (es : List EntryData) (n m : ℕ) (b : Bool) →
       MatchBool b (HasConsumedInLine profile begun x p es) (HasConsumedInPath profile begun x p es) → HoldsFew x m →
       n ≤ length begun + (length x.path.items + m) → IsHeldFor profile p es n
   by_flag begun x p es n m true h b le = line_held begun x p es n m h b le
   by_flag begun x p es n m false h b le = path_held begun x p es n m h b le
 
-  pub some_held : (begun : List ℕ) (o : Option Present) (x : Present) (p : List ℕ) (es : List EntryData) (n m : ℕ) →
+  pub some_held : (begun : List ℕ) (o : Option CurrentEntry) (x : CurrentEntry) (p : List ℕ) (es : List EntryData) (n m : ℕ) →
       o ≡ Some x → HasConsumed profile begun o p es → HoldsFew x m → n ≤ length begun + (length x.path.items + m) →
       IsHeldFor profile p es n
-  some_held begun o x p es n m e h b le = by_flag begun x p es n m x.in_line (subst (λ (q : Option Present). HasConsumed profile begun q p es) e h) b le
+  some_held begun o x p es n m e h b le = by_flag begun x p es n m x.in_line (subst (λ (q : Option CurrentEntry). HasConsumed profile begun q p es) e h) b le
 
-  pub none_held : (begun : List ℕ) (o : Option Present) (p : List ℕ) (es : List EntryData) (n : ℕ) → o ≡ None → HasConsumed profile begun o p es → n ≤ length begun → IsHeldFor profile p es n
-  none_held begun o p es n e h le = start_held begun p es n (subst (λ (q : Option Present). HasConsumed profile begun q p es) e h) le
+  pub none_held : (begun : List ℕ) (o : Option CurrentEntry) (p : List ℕ) (es : List EntryData) (n : ℕ) → o ≡ None → HasConsumed profile begun o p es → n ≤ length begun → IsHeldFor profile p es n
+  none_held begun o p es n e h le = start_held begun p es n (subst (λ (q : Option CurrentEntry). HasConsumed profile begun q p es) e h) le

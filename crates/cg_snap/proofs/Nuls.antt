@@ -8,7 +8,7 @@ use Rattle.cg_snap.specs.Course.{FullIs}
 use Rattle.cg_snap.specs.DecoderState.{HasConsumed, HasConsumedInPath, HasConsumedBetween, HasConsumedAPath, IsBetween, IsLineCount, IsLineFlag}
 use Rattle.cg_snap.specs.Snap.{Snap}
 use Rattle.cg_snap.specs.SnapStop.{IsManyRecords}
-use Rattle.cg_snap.specs.declared.present.Present.{Present}
+use Rattle.cg_snap.specs.declared.present.CurrentEntry.{CurrentEntry}
 use Rattle.cg_snap.proofs.Closes.{line_begun}
 use Rattle.cg_snap.proofs.Joins.{ends_push, push_at}
 use Rattle.cg_snap.proofs.Places.{HasBefore, few_many, is_many, many_path, not_many_line}
@@ -29,7 +29,7 @@ told_less : (n m max : ℕ) → m ≡ saturated n → max ≤ 184467440737095516
 told_less n m max e b h = omega (arith, e, b, h)
 
 -- There is one count of the records that have ended.
-pub count_some : (begun : List ℕ) (o : Option Present) → (n : ℕ) × IsLineCount begun o n
+pub count_some : (begun : List ℕ) (o : Option CurrentEntry) → (n : ℕ) × IsLineCount begun o n
 count_some begun None = (0, refl)
 count_some begun (Some x) = elim (same_or_other x.path.items begun) [ inl e ↦ (x.lines, (λ z. refl, λ n. absurd (n e))) | inr n ↦ (0, (λ e. absurd (n e), λ z. refl)) ]
 
@@ -37,7 +37,7 @@ module _ (profile : Profile) where
   start_before : (begun p : List ℕ) (es : List EntryData) → HasConsumedAPath begun p es → IsPath begun → HasBefore profile p begun 0
   start_before begun p es h g = record { es = []; given = []; lines = []; whole = ap (λ (t : List ℕ). t ++ 0 ∷ []) h.bytes; entries = refl; good = g; other = tt; plain = tt; count = refl }
 
-  same_before : (begun : List ℕ) (x : Present) (p : List ℕ) (es : List EntryData) (h : HasConsumedInPath profile begun x p es) → x.path.items ≡ begun → IsPath begun → HasBefore profile p begun (length h.lines)
+  same_before : (begun : List ℕ) (x : CurrentEntry) (p : List ℕ) (es : List EntryData) (h : HasConsumedInPath profile begun x p es) → x.path.items ≡ begun → IsPath begun → HasBefore profile p begun (length h.lines)
   same_before begun x p es h e g = record {
     es = es;
     given = h.given;
@@ -50,7 +50,7 @@ module _ (profile : Profile) where
     count = refl;
   }
 
-  next_before : (begun : List ℕ) (x : Present) (p : List ℕ) (es : List EntryData) (h : HasConsumedInPath profile begun x p es) → x.path.items ≢ begun → IsPath begun → HasBefore profile p begun 0
+  next_before : (begun : List ℕ) (x : CurrentEntry) (p : List ℕ) (es : List EntryData) (h : HasConsumedInPath profile begun x p es) → x.path.items ≢ begun → IsPath begun → HasBefore profile p begun 0
   next_before begun x p es h n g =
       let e = present_entry profile begun x p es h in
       record {
@@ -65,7 +65,7 @@ module _ (profile : Profile) where
         count = refl;
       }
 
-  pub before_nul : (begun : List ℕ) (o : Option Present) (p : List ℕ) (es : List EntryData) (m : ℕ) → HasConsumedBetween profile begun o p es → IsLineCount begun o m → IsPath begun → (n : ℕ) × HasBefore profile p begun n × (m ≡ saturated n)
+  pub before_nul : (begun : List ℕ) (o : Option CurrentEntry) (p : List ℕ) (es : List EntryData) (m : ℕ) → HasConsumedBetween profile begun o p es → IsLineCount begun o m → IsPath begun → (n : ℕ) × HasBefore profile p begun n × (m ≡ saturated n)
   before_nul begun None p es m h c g = (0, start_before begun p es h g, c)
   before_nul begun (Some x) p es m h c g =
       elim (same_or_other x.path.items begun) [
@@ -74,7 +74,7 @@ module _ (profile : Profile) where
       ]
 
   -- A NUL that ends a path, by the count.
-  pub full_is : (begun : List ℕ) (o : Option Present) (p : List ℕ) (es : List EntryData) (m max : ℕ) (b : Bool) →
+  pub full_is : (begun : List ℕ) (o : Option CurrentEntry) (p : List ℕ) (es : List EntryData) (m max : ℕ) (b : Bool) →
       max ≤ 18446744073709551615 → IsBetween o → HasConsumed profile begun o p es → IsLineCount begun o m →
       (b ≡ true → max ≤ m) → (b ≡ false → m < max) → FullIs (Snap profile) (IsManyRecords profile) max p 0 b
   full_is begun o p es m max true u i h c s f = λ v.
@@ -87,7 +87,7 @@ module _ (profile : Profile) where
       few_many profile p begun n.0 max (length p) n.1 (told_less n.0 m max n.2 u (f refl)) many
 
   -- A NUL within a line.
-  pub line_few : (begun : List ℕ) (o : Option Present) (p : List ℕ) (es : List EntryData) (max : ℕ) → (flag : Bool) → IsLineFlag o flag → flag ≡ true → HasConsumed profile begun o p es → IsManyRecords profile max (p ++ 0 ∷ []) (length p) → ⊥
+  pub line_few : (begun : List ℕ) (o : Option CurrentEntry) (p : List ℕ) (es : List EntryData) (max : ℕ) → (flag : Bool) → IsLineFlag o flag → flag ≡ true → HasConsumed profile begun o p es → IsManyRecords profile max (p ++ 0 ∷ []) (length p) → ⊥
   line_few begun None p es max flag f e h many = absurd (cc)
   line_few begun (Some x) p es max flag f e h many =
       let l = line_state profile begun x p es (sym f ∙ e) h in

@@ -7,13 +7,13 @@ use Rattle.cg_value.specs.Entry.{ItemData}
 use Rattle.cg_value.specs.Settings.{KindWrite}
 use Rattle.cg_value.specs.declared.kind.WriteForm.{WriteForm}
 use Rattle.cg_value.specs.declared.profile.Profile.{Profile}
-use Rattle.cg_line.specs.Takes.{IsRunPushed, Takes}
+use Rattle.cg_line.specs.SettingReads.{IsRunPushed, SettingReads}
 use Rattle.cg_line.specs.declared.reader.PushedRun.{PushedRun}
 use Rattle.cg_line.specs.declared.setting_reader.SettingReader.{SettingReader}
 use Rattle.cg_snap.specs.Plan.{ClosedPlan, IsItemLine, PlanText}
 use Rattle.cg_snap.specs.PlanLaws.{item_line_plain}
 use Rattle.cg_snap.specs.PlanState.{HasConsumedItems}
-use Rattle.cg_snap.specs.declared.plan.Writing.{Writing}
+use Rattle.cg_snap.specs.declared.plan.CurrentItem.{CurrentItem}
 use Rattle.cg_snap.proofs.Courses.{text_on}
 use Rattle.cg_snap.proofs.PlanStates.{items_back, plan_push}
 use Rattle.cg_snap.proofs.Runs.{cut_ended, run_cut}
@@ -30,14 +30,14 @@ before_newline bytes back used within e =
 
 -- A reader took the rest of a line, and its newline.
 pub line_ended : (r : SettingReader) (kind : WriteForm) (line bytes : List ℕ) (run : PushedRun) → Lacks 10 line → run.used ≤ length bytes → IsRunPushed r kind line bytes run → (0 < run.used) × (get_or bytes (run.used - 1) 0 ≡ 10) →
-    (back : List ℕ) × (take run.used bytes ≡ back ++ 10 ∷ []) × Lacks 10 (line ++ back) × Takes r kind ((line ++ back) ++ 10 ∷ [])
+    (back : List ℕ) × (take run.used bytes ≡ back ++ 10 ∷ []) × Lacks 10 (line ++ back) × SettingReads r kind ((line ++ back) ++ 10 ∷ [])
 line_ended r kind line bytes run plain within pushed last =
     let f = cut_ended bytes run.used within (run_cut (KindWrite kind) line bytes run.used run.fault pushed.stops) last in
     let whole : line ++ take run.used bytes ≡ (line ++ f.0) ++ 10 ∷ [] = ap (λ (t : List ℕ). line ++ t) f.1 ∙ sym (append_assoc line f.0 (10 ∷ [])) in
-    (f.0, f.1, lacks_both 10 line f.0 plain f.2, subst (Takes r kind) whole pushed.takes)
+    (f.0, f.1, lacks_both 10 line f.0 plain f.2, subst (SettingReads r kind) whole pushed.takes)
 
 -- With the bytes the line of an item came, and no record is begun.
-pub item_came : (profile : Profile) (p given path line : List ℕ) (items : List ItemData) (item : ItemData) (bytes back : List ℕ) (used : ℕ) (now : List ℕ) (o : Option Writing) →
+pub item_came : (profile : Profile) (p given path line : List ℕ) (items : List ItemData) (item : ItemData) (bytes back : List ℕ) (used : ℕ) (now : List ℕ) (o : Option CurrentItem) →
     PlanText profile items given → Lacks 10 path → item.path ≡ path → IsItemLine profile item line →
     used ≤ length bytes → take used bytes ≡ back ++ 10 ∷ [] → p ++ back ≡ given ++ (path ++ 0 ∷ line) → now ≡ [] → o ≡ None →
     (0 < used) × ClosedPlan profile (p ++ take (used - 1) bytes) items × HasConsumedItems profile now o (p ++ take used bytes) (items ++ item ∷ [])

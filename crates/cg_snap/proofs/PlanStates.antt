@@ -21,7 +21,7 @@ use Rattle.cg_value.specs.declared.profile.Profile.{Profile}
 use Rattle.cg_value.specs.declared.profile.Profile.TheVariants.{One, Two, Kernel}
 use Rattle.cg_value.specs.declared.setting.Setting.{Setting}
 use Rattle.cg_file.specs.WeightFileLaws.{not_empty}
-use Rattle.cg_line.specs.Takes.{Takes, takes_viable}
+use Rattle.cg_line.specs.SettingReads.{SettingReads, setting_reads_viable}
 use Rattle.cg_snap.specs.Begun.{IsBegun}
 use Rattle.cg_snap.specs.Course.{AreFew, Leaves, RefusedBy}
 use Rattle.cg_snap.specs.PathBytes.{ArePathBytes}
@@ -34,7 +34,7 @@ use Rattle.cg_snap.specs.SnapStop.{IsNameless}
 use Rattle.cg_snap.specs.Streams.{plan_stream}
 use Rattle.cg_snap.specs.declared.event.Event.{Event}
 use Rattle.cg_snap.specs.declared.plan_records.PlanRecords.{PlanRecords}
-use Rattle.cg_snap.specs.declared.plan.Writing.{Writing}
+use Rattle.cg_snap.specs.declared.plan.CurrentItem.{CurrentItem}
 use Rattle.cg_snap.specs.declared.stop.Why.{Why}
 use Rattle.cg_snap.specs.declared.stop.Why.TheVariants as whys
 use Rattle.cg_snap.proofs.Courses.{leaves_as}
@@ -153,9 +153,9 @@ module _ (profile : Profile) where
       let i = record_of profile path kind line rest good writes w in
       (items ++ i.1.item ∷ [], subst (PlanText profile (items ++ i.1.item ∷ [])) (line_text p given path line rest i.0 e i.2) (plan_push profile items given path i.0 i.1 whole))
 
-  pub item_line_viable : (begun : List ℕ) (x : Writing) (p : List ℕ) (items : List ItemData) → AtItemLine profile begun x p items → Viable (Plan profile) p
+  pub item_line_viable : (begun : List ℕ) (x : CurrentItem) (p : List ℕ) (items : List ItemData) → AtItemLine profile begun x p items → Viable (Plan profile) p
   item_line_viable begun x p items h =
-      let v = takes_viable x.reader h.kind h.line h.takes in
+      let v = setting_reads_viable x.reader h.kind h.line h.takes in
       record { rest = v.rest; whole = line_rest_plan items h.given x.path.items h.line v.rest p h.kind h.whole h.good h.writes_at h.split v.whole }
 
   path_text : (p g b l : List ℕ) → p ≡ g ++ b → g ++ (((b ++ 47 ∷ []) ++ 120 ∷ []) ++ 0 ∷ l) ≡ p ++ (47 ∷ 120 ∷ 0 ∷ l)
@@ -175,13 +175,13 @@ module _ (profile : Profile) where
             ∙ path_text p h.given begun first.rest h.split)) w;
       }
 
-  pub items_viable : (begun : List ℕ) (o : Option Writing) (p : List ℕ) (items : List ItemData) → HasConsumedItems profile begun o p items → Viable (Plan profile) p
+  pub items_viable : (begun : List ℕ) (o : Option CurrentItem) (p : List ℕ) (items : List ItemData) → HasConsumedItems profile begun o p items → Viable (Plan profile) p
   items_viable begun None p items h = item_path_viable begun p items h
   items_viable begun (Some x) p items h = item_line_viable begun x p items h
 
   -- ---- What is closed, and what is begun
 
-  abbrev pub items_closed_by : (begun : List ℕ) (o : Option Writing) (p : List ℕ) (items : List ItemData) → HasConsumedItems profile begun o p items → ClosedPlan profile p items
+  abbrev pub items_closed_by : (begun : List ℕ) (o : Option CurrentItem) (p : List ℕ) (items : List ItemData) → HasConsumedItems profile begun o p items → ClosedPlan profile p items
   items_closed_by begun None p items h = record { given = h.given; begun = begun; split = h.split; whole = h.whole; plain = bytes_no_newline begun h.begun_path }
   items_closed_by begun (Some x) p items h = record {
     given = h.given;
@@ -217,7 +217,7 @@ module _ (profile : Profile) where
   same_kind : (k l : WriteForm) (text : List ℕ) → k ≡ l → KindWrite k text → KindWrite l text
   same_kind k l text e w = subst (λ (kind : WriteForm). KindWrite kind text) e w
 
-  pub item_line_next : (begun : List ℕ) (x : Writing) (p : List ℕ) (items : List ItemData) (b : ℕ) (h : AtItemLine profile begun x p items) → Next (Plan profile) p b → Next (KindWrite h.kind) h.line b
+  pub item_line_next : (begun : List ℕ) (x : CurrentItem) (p : List ℕ) (items : List ItemData) (b : ℕ) (h : AtItemLine profile begun x p items) → Next (Plan profile) p b → Next (KindWrite h.kind) h.line b
   item_line_next begun x p items b h v =
       let g = go_on h.given (x.path.items ++ 0 ∷ h.line) p items b h.whole h.split v in
       let text : x.path.items ++ 0 ∷ (h.line ++ b ∷ g.0) ≡ g.1.path ++ 0 ∷ (g.1.line ++ 10 ∷ g.1.rest) = sym (append_assoc x.path.items (0 ∷ h.line) (b ∷ g.0)) ∙ g.1.text_is in
@@ -225,7 +225,7 @@ module _ (profile : Profile) where
       let k : g.1.kind ≡ h.kind = one_write_form profile x.path.items g.1.kind h.kind (subst (λ (q : List ℕ). WritesAt profile q (Some g.1.kind)) (sym c.0) g.1.writes_at) h.writes_at in
       byte_in (KindWrite h.kind) [] h.line g.1.line [] g.0 b g.1.rest h.plain g.1.plain (same_kind g.1.kind h.kind (g.1.line ++ 10 ∷ []) k g.1.write) c.1
 
-  pub item_next_line : (begun : List ℕ) (x : Writing) (p : List ℕ) (items : List ItemData) (b : ℕ) (h : AtItemLine profile begun x p items) → Next (KindWrite h.kind) h.line b → Next (Plan profile) p b
+  pub item_next_line : (begun : List ℕ) (x : CurrentItem) (p : List ℕ) (items : List ItemData) (b : ℕ) (h : AtItemLine profile begun x p items) → Next (KindWrite h.kind) h.line b → Next (Plan profile) p b
   item_next_line begun x p items b h v =
       let text : p ++ b ∷ [] ≡ h.given ++ (x.path.items ++ 0 ∷ (h.line ++ b ∷ [])) = rw h.split (simp append_assoc) in
       record { rest = v.rest; whole = line_rest_plan items h.given x.path.items (h.line ++ b ∷ []) v.rest (p ++ b ∷ []) h.kind h.whole h.good h.writes_at text v.whole }
@@ -246,7 +246,7 @@ module _ (profile : Profile) where
   item_newline begun p items b h z =
       (λ v. elim (item_path_byte begun p items b h v) [ inl e ↦ absurd (omega (arith, z, e)) | inr q ↦ q.2 z ], (begun, item_begun begun p items h, (bytes_no_nul begun h.begun_path, z)))
 
-  pub item_line_refused : (begun : List ℕ) (x : Writing) (p : List ℕ) (items : List ItemData) (b : ℕ)
+  pub item_line_refused : (begun : List ℕ) (x : CurrentItem) (p : List ℕ) (items : List ItemData) (b : ℕ)
       (h : AtItemLine profile begun x p items) → (Next (KindWrite h.kind) h.line b → ⊥) →
       RefusedBy (Plan profile) (IsItemWhy profile) p b (Some whys.Line)
   item_line_refused begun x p items b h n =
@@ -266,9 +266,9 @@ module _ (profile : Profile) where
   item_path_next begun p items b h z n lt = item_path_viable (begun ++ b ∷ []) (p ++ b ∷ []) items (item_path_taken begun (begun ++ b ∷ []) p items (b ∷ []) h ((omega arith, lt, n), tt) refl)
 
   -- The NUL of a path.
-  pub item_nul : (begun begun' : List ℕ) (x : Writing) (p : List ℕ) (items : List ItemData) (kind : WriteForm) →
+  pub item_nul : (begun begun' : List ℕ) (x : CurrentItem) (p : List ℕ) (items : List ItemData) (kind : WriteForm) →
       AtItemPath profile begun p items → IsOfWriteKind profile begun kind → x.path.items ≡ begun → begun' ≡ [] →
-      Takes x.reader kind [] → AtItemLine profile begun' x (p ++ 0 ∷ []) items
+      SettingReads x.reader kind [] → AtItemLine profile begun' x (p ++ 0 ∷ []) items
   item_nul begun begun' x p items kind h c e n t = record {
     given = h.given;
     line = [];
@@ -307,9 +307,9 @@ module _ (profile : Profile) where
   class_after begun p items byte (Err why) z h c = rw z (class_refused begun p items why h c)
 
   -- Bytes of a line.
-  abbrev pub item_line_taken : (begun : List ℕ) (x x' : Writing) (p : List ℕ) (items : List ItemData) (bs : List ℕ)
+  abbrev pub item_line_taken : (begun : List ℕ) (x x' : CurrentItem) (p : List ℕ) (items : List ItemData) (bs : List ℕ)
       (h : AtItemLine profile begun x p items) → x'.path.items ≡ x.path.items → Lacks 10 bs →
-      Takes x'.reader h.kind (h.line ++ bs) → AtItemLine profile begun x' (p ++ bs) items
+      SettingReads x'.reader h.kind (h.line ++ bs) → AtItemLine profile begun x' (p ++ bs) items
   item_line_taken begun x x' p items bs h e n t = record {
     given = h.given;
     line = h.line ++ bs;
@@ -326,8 +326,8 @@ module _ (profile : Profile) where
   -- ---- The item of a whole line
 
   -- A reader that took a line and its newline took a write.
-  pub whole_write : (x : Writing) (kind : WriteForm) (line : List ℕ) → Lacks 10 line → Takes x.reader kind (line ++ 10 ∷ []) → KindWrite kind (line ++ 10 ∷ [])
-  whole_write x kind line plain t = let v = takes_viable x.reader kind (line ++ 10 ∷ []) t in write_ends kind line v.rest plain v.whole
+  pub whole_write : (x : CurrentItem) (kind : WriteForm) (line : List ℕ) → Lacks 10 line → SettingReads x.reader kind (line ++ 10 ∷ []) → KindWrite kind (line ++ 10 ∷ [])
+  whole_write x kind line plain t = let v = setting_reads_viable x.reader kind (line ++ 10 ∷ []) t in write_ends kind line v.rest plain v.whole
 
   pub item_as : (item : ItemData) (path : List ℕ) (kind : WriteForm) (s : Setting) (line : List ℕ) →
       item.path ≡ path → item.setting ≡ s → WritesAt profile path (Some kind) → WriteText kind s (line ++ 10 ∷ []) →
@@ -351,7 +351,7 @@ module _ (profile : Profile) where
       let head = plan_head profile s.0 begun s.1 n in
       lacks_inside 0 head.path (head.line ++ 10 ∷ head.rest) (subst (Lacks 0) head.text_is (bytes_no_nul begun h.begun_path))
 
-  pub item_line_cut : (begun : List ℕ) (x : Writing) (p : List ℕ) (items : List ItemData) → AtItemLine profile begun x p items → Plan profile p → ⊥
+  pub item_line_cut : (begun : List ℕ) (x : CurrentItem) (p : List ℕ) (items : List ItemData) → AtItemLine profile begun x p items → Plan profile p → ⊥
   item_line_cut begun x p items h w =
       let s = plan_strip profile items w.0 h.given (x.path.items ++ 0 ∷ h.line) h.whole (subst (PlanText profile w.0) h.split w.1) in
       let head = plan_head profile s.0 (x.path.items ++ 0 ∷ h.line) s.1 (not_empty x.path.items h.line 0) in
@@ -360,18 +360,18 @@ module _ (profile : Profile) where
 
   -- ---- Whether a line is begun
 
-  pub items_back : (begun : List ℕ) (o : Option Writing) (p : List ℕ) (items : List ItemData) → o ≡ None → AtItemPath profile begun p items → HasConsumedItems profile begun o p items
-  items_back begun o p items e h = subst (λ (w : Option Writing). HasConsumedItems profile begun w p items) (sym e) h
+  pub items_back : (begun : List ℕ) (o : Option CurrentItem) (p : List ℕ) (items : List ItemData) → o ≡ None → AtItemPath profile begun p items → HasConsumedItems profile begun o p items
+  items_back begun o p items e h = subst (λ (w : Option CurrentItem). HasConsumedItems profile begun w p items) (sym e) h
 
-  pub items_path : (begun : List ℕ) (o : Option Writing) (p : List ℕ) (items : List ItemData) → o ≡ None → HasConsumedItems profile begun o p items → AtItemPath profile begun p items
-  items_path begun o p items e h = subst (λ (w : Option Writing). HasConsumedItems profile begun w p items) e h
+  pub items_path : (begun : List ℕ) (o : Option CurrentItem) (p : List ℕ) (items : List ItemData) → o ≡ None → HasConsumedItems profile begun o p items → AtItemPath profile begun p items
+  items_path begun o p items e h = subst (λ (w : Option CurrentItem). HasConsumedItems profile begun w p items) e h
 
-  pub items_line : (begun : List ℕ) (o : Option Writing) (x : Writing) (p : List ℕ) (items : List ItemData) → o ≡ Some x → HasConsumedItems profile begun o p items → AtItemLine profile begun x p items
-  items_line begun o x p items e h = subst (λ (w : Option Writing). HasConsumedItems profile begun w p items) e h
+  pub items_line : (begun : List ℕ) (o : Option CurrentItem) (x : CurrentItem) (p : List ℕ) (items : List ItemData) → o ≡ Some x → HasConsumedItems profile begun o p items → AtItemLine profile begun x p items
+  items_line begun o x p items e h = subst (λ (w : Option CurrentItem). HasConsumedItems profile begun w p items) e h
 
   -- ---- What is held
 
-  pub item_line_held : (begun : List ℕ) (o : Option Writing) (x : Writing) (p : List ℕ) (items : List ItemData) (n m : ℕ) → o ≡ Some x → HasConsumedItems profile begun o p items → ((k : WriteForm) (t : List ℕ) → Takes x.reader k t → m ≤ length t) →
+  pub item_line_held : (begun : List ℕ) (o : Option CurrentItem) (x : CurrentItem) (p : List ℕ) (items : List ItemData) (n m : ℕ) → o ≡ Some x → HasConsumedItems profile begun o p items → ((k : WriteForm) (t : List ℕ) → SettingReads x.reader k t → m ≤ length t) →
       n ≤ length begun + (length x.path.items + m) → (r : List ℕ) × IsBegun p r × (n ≤ length r)
   item_line_held begun o x p items n m e h most le =
       let l = items_line begun o x p items e h in
@@ -382,7 +382,7 @@ module _ (profile : Profile) where
       )
 
 -- No line is begun.
-pub no_line : (o : Option Writing) → is_some o ≡ false → o ≡ None
+pub no_line : (o : Option CurrentItem) → is_some o ≡ false → o ≡ None
 no_line None e = refl
 no_line (Some x) e = absurd (cc)
 

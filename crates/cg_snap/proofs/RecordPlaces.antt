@@ -10,25 +10,25 @@ use Rattle.cg_snap.specs.Plan.{Plan, PlanText}
 use Rattle.cg_snap.specs.PlanState.{HasConsumedItems}
 use Rattle.cg_snap.specs.RecordPlace.{IsRecordPlace}
 use Rattle.cg_snap.specs.Snap.{Snap}
-use Rattle.cg_snap.specs.declared.plan.Writing.{Writing}
-use Rattle.cg_snap.specs.declared.present.Present.{Present}
+use Rattle.cg_snap.specs.declared.plan.CurrentItem.{CurrentItem}
+use Rattle.cg_snap.specs.declared.present.CurrentEntry.{CurrentEntry}
 use Rattle.cg_snap.proofs.Closes.{line_begun, path_begun, start_begun}
 use Rattle.cg_snap.proofs.Finishes.{between_path, last_entry}
 use Rattle.cg_snap.proofs.PlanStates.{closed_begun, items_closed_by, items_line, items_path}
 use Rattle.cg_snap.proofs.States.{line_state}
 use Rattle.cg_snap.proofs.Steps.{bytes_no_nul, present_entry}
 
-module _ (profile : Profile) (begun : List ℕ) (o : Option Present) (p : List ℕ) (es : List EntryData) (h : HasConsumed profile begun o p es) where
-  pub line_place : (x : Present) → o ≡ Some x → x.in_line ≡ true → IsRecordPlace p x.path.items true
+module _ (profile : Profile) (begun : List ℕ) (o : Option CurrentEntry) (p : List ℕ) (es : List EntryData) (h : HasConsumed profile begun o p es) where
+  pub line_place : (x : CurrentEntry) → o ≡ Some x → x.in_line ≡ true → IsRecordPlace p x.path.items true
   line_place x e t =
-      let l = line_state profile begun x p es t (subst (λ (q : Option Present). HasConsumed profile begun q p es) e h) in
+      let l = line_state profile begun x p es t (subst (λ (q : Option CurrentEntry). HasConsumed profile begun q p es) e h) in
       (l.line, path_lacks_nul x.path.items l.good, line_begun profile begun x p es l)
 
-  pub path_place : (x : Present) → o ≡ Some x → x.in_line ≡ false → IsRecordPlace p begun false
+  pub path_place : (x : CurrentEntry) → o ≡ Some x → x.in_line ≡ false → IsRecordPlace p begun false
   path_place x e t = let a = between_path profile begun o x p es e t h in (bytes_no_nul begun a.begun_path, path_begun profile begun x p es a)
 
   start_state : o ≡ None → HasConsumedAPath begun p es
-  start_state e = subst (λ (q : Option Present). HasConsumed profile begun q p es) e h
+  start_state e = subst (λ (q : Option CurrentEntry). HasConsumed profile begun q p es) e h
 
   pub start_place : o ≡ None → IsRecordPlace p begun false
   start_place e = let a = start_state e in (bytes_no_nul begun a.begun_path, start_begun begun p es a)
@@ -38,14 +38,14 @@ module _ (profile : Profile) (begun : List ℕ) (o : Option Present) (p : List �
   start_whole e n = ([], (start_state e).bytes ∙ n)
 
   -- The present entry is the last.
-  pub entry_whole : (x : Present) → o ≡ Some x → x.in_line ≡ false → begun ≡ [] → Snap profile p
+  pub entry_whole : (x : CurrentEntry) → o ≡ Some x → x.in_line ≡ false → begun ≡ [] → Snap profile p
   entry_whole x e t n =
       let a = between_path profile begun o x p es e t h in
       let last = present_entry profile begun x p es a in
       (es ++ last.0 ∷ [], last_entry profile begun x p es (last.0) a n (last.1) (last.2))
 
-module _ (profile : Profile) (begun : List ℕ) (o : Option Writing) (p : List ℕ) (items : List ItemData) (h : HasConsumedItems profile begun o p items) where
-  pub item_line_place : (x : Writing) → o ≡ Some x → IsRecordPlace p x.path.items true
+module _ (profile : Profile) (begun : List ℕ) (o : Option CurrentItem) (p : List ℕ) (items : List ItemData) (h : HasConsumedItems profile begun o p items) where
+  pub item_line_place : (x : CurrentItem) → o ≡ Some x → IsRecordPlace p x.path.items true
   item_line_place x e =
       let l = items_line profile begun o x p items e h in
       (l.line, path_lacks_nul x.path.items l.good, closed_begun profile p items (items_closed_by profile begun (Some x) p items l))

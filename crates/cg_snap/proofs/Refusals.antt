@@ -17,7 +17,7 @@ use Rattle.cg_snap.specs.DecoderState.{HasConsumedInLine, HasConsumedInPath, Has
 use Rattle.cg_snap.specs.PathBytes.{ArePathBytes}
 use Rattle.cg_snap.specs.Snap.{Snap, SnapText, StartsOther}
 use Rattle.cg_snap.specs.SnapLaws.{cut, entry_starts, not_of, record_then}
-use Rattle.cg_snap.specs.declared.present.Present.{Present}
+use Rattle.cg_snap.specs.declared.present.CurrentEntry.{CurrentEntry}
 use Rattle.cg_snap.proofs.Joins.{ContinuesEntry, inner, unlines-append}
 use Rattle.cg_snap.proofs.Steps.{before, bytes_no_nul}
 
@@ -109,12 +109,12 @@ module _ (profile : Profile) where
       let same : begun ≡ h.path = path_nul_in h.path begun rest h.rest h.good p h.text_is in
       (subst IsPath (sym same) h.good, (h.kind, subst (λ (path : List ℕ). ReadsAt profile path (Some h.kind)) (sym same) h.reads_at))
 
-  pub path_inner : (begun : List ℕ) (x : Present) (p : List ℕ) (es fs : List EntryData) (rest : List ℕ) (h : HasConsumedInPath profile begun x p es) → SnapText profile fs (p ++ rest) → ContinuesEntry profile es fs x.path.items h.kind h.lines (begun ++ rest)
+  pub path_inner : (begun : List ℕ) (x : CurrentEntry) (p : List ℕ) (es fs : List EntryData) (rest : List ℕ) (h : HasConsumedInPath profile begun x p es) → SnapText profile fs (p ++ rest) → ContinuesEntry profile es fs x.path.items h.kind h.lines (begun ++ rest)
   path_inner begun x p es fs rest h g =
       let r = records_start x.path.items h.lines (begun ++ rest) h.some in
       inner profile es fs h.given x.path.items h.kind h.lines (begun ++ rest) r.0 h.good h.reads_at h.plain h.entries h.other r.1 (subst (SnapText profile fs) (ap (λ (t : List ℕ). t ++ rest) h.split ∙ simp append_assoc) g)
 
-  pub line_inner : (begun : List ℕ) (x : Present) (p : List ℕ) (es fs : List EntryData) (rest : List ℕ)
+  pub line_inner : (begun : List ℕ) (x : CurrentEntry) (p : List ℕ) (es fs : List EntryData) (rest : List ℕ)
       (h : HasConsumedInLine profile begun x p es) → SnapText profile fs (p ++ rest) →
       ContinuesEntry profile es fs x.path.items h.kind h.lines (x.path.items ++ 0 ∷ (h.line ++ rest))
   line_inner begun x p es fs rest h g =
@@ -134,7 +134,7 @@ module _ (profile : Profile) where
       let g = go_on p b v in
       (g.0, subst (Head profile) (head_text p begun g.0 b h.bytes) (snap_head g.1 (p ++ b ∷ g.0) g.2 (λ e. not_empty p g.0 b e)))
 
-  pub path_head : (begun : List ℕ) (x : Present) (p : List ℕ) (es : List EntryData) (b : ℕ) → HasConsumedInPath profile begun x p es → Next (Snap profile) p b → (rest : List ℕ) × Head profile (begun ++ b ∷ rest)
+  pub path_head : (begun : List ℕ) (x : CurrentEntry) (p : List ℕ) (es : List EntryData) (b : ℕ) → HasConsumedInPath profile begun x p es → Next (Snap profile) p b → (rest : List ℕ) × Head profile (begun ++ b ∷ rest)
   path_head begun x p es b h v =
       let g = go_on p b v in
       let i = path_inner begun x p es g.1 (b ∷ g.0) h g.2 in
@@ -148,7 +148,7 @@ module _ (profile : Profile) where
       (m, a.0, record { rest = unlines ms; whole = subst (KindFile k) (unlines-append ls (m ∷ ms) ∙ more_text (unlines ls) m (unlines ms) (unlines (m ∷ ms)) refl) (file_of k v (ls ++ m ∷ ms) f) })
 
   -- Another line of the present entry may come, where a NUL of its path may.
-  pub same_nul : (begun : List ℕ) (x : Present) (p : List ℕ) (es : List EntryData) (h : HasConsumedInPath profile begun x p es) → begun ≡ x.path.items → Next (Snap profile) p 0 → CanEndLine h.kind h.lines []
+  pub same_nul : (begun : List ℕ) (x : CurrentEntry) (p : List ℕ) (es : List EntryData) (h : HasConsumedInPath profile begun x p es) → begun ≡ x.path.items → Next (Snap profile) p 0 → CanEndLine h.kind h.lines []
   same_nul begun x p es h s v =
       let g = go_on p 0 v in
       let i = path_inner begun x p es g.1 (0 ∷ g.0) h g.2 in
@@ -165,7 +165,7 @@ module _ (profile : Profile) where
       byte_in (KindFile k) (unlines ls) line m (unlines ms) rest b (records q ms ++ w) l a.0 (subst (KindFile k) (unlines-append ls (m ∷ ms)) (file_of k v (ls ++ m ∷ ms) f)) c.1
 
   -- Where a byte of a line goes on, a file of the kind does.
-  pub line_takes : (begun : List ℕ) (x : Present) (p : List ℕ) (es : List EntryData) (b : ℕ) (h : HasConsumedInLine profile begun x p es) → Next (Snap profile) p b → Next (KindFile h.kind) (unlines h.lines ++ h.line) b
+  pub line_takes : (begun : List ℕ) (x : CurrentEntry) (p : List ℕ) (es : List EntryData) (b : ℕ) (h : HasConsumedInLine profile begun x p es) → Next (Snap profile) p b → Next (KindFile h.kind) (unlines h.lines ++ h.line) b
   line_takes begun x p es b h v =
       let g = go_on p b v in
       let i = line_inner begun x p es g.1 (b ∷ g.0) h g.2 in

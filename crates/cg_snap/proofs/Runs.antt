@@ -17,7 +17,7 @@ use Rattle.cg_value.specs.declared.profile.Profile.{Profile}
 use Rattle.cg_snap.specs.Begun.{IsBegun}
 use Rattle.cg_snap.specs.DecoderState.{HasConsumed, IsBetween}
 use Rattle.cg_snap.specs.PathBytes.{ArePathBytes}
-use Rattle.cg_snap.specs.declared.present.Present.{Present}
+use Rattle.cg_snap.specs.declared.present.CurrentEntry.{CurrentEntry}
 use Rattle.cg_snap.specs.Course.{AreFew, AreOfRecord}
 use Rattle.cg_snap.specs.Meter.{IsCounted}
 use Rattle.cg_snap.specs.SnapStop.{IsManyRecords}
@@ -99,13 +99,13 @@ module _ (profile : Profile) where
   )
 
   -- Bytes of a path.
-  pub path_few : (max : ℕ) (begun : List ℕ) (o : Option Present) (p q : List ℕ) (es : List EntryData) → HasConsumed profile begun o p es → IsBetween o → ArePathBytes q → AreFew (IsManyRecords profile max) p q
+  pub path_few : (max : ℕ) (begun : List ℕ) (o : Option CurrentEntry) (p q : List ℕ) (es : List EntryData) → HasConsumed profile begun o p es → IsBetween o → ArePathBytes q → AreFew (IsManyRecords profile max) p q
   path_few max begun o p q es h i n =
       let r = paths_begun profile begun o p es (between profile begun o p es i h) in
       few_run max p begun q r.0 (bytes_no_newline q n, inl (bytes_no_nul q n))
 
   -- What comes of a line, with its newline or without.
-  pub line_few : (max : ℕ) (begun : List ℕ) (x : Present) (p q : List ℕ) (es : List EntryData) → HasConsumed profile begun (Some x) p es → x.in_line ≡ true → AreOfRecord q → AreFew (IsManyRecords profile max) p q
+  pub line_few : (max : ℕ) (begun : List ℕ) (x : CurrentEntry) (p q : List ℕ) (es : List EntryData) → HasConsumed profile begun (Some x) p es → x.in_line ≡ true → AreOfRecord q → AreFew (IsManyRecords profile max) p q
   line_few max begun x p q es h i n =
       let l = line_state profile begun x p es i h in
       let g = line_begun profile begun x p es l in
@@ -118,13 +118,13 @@ module _ (profile : Profile) where
       ]
 
   -- So has one byte of a line.
-  pub line_byte_few : (max : ℕ) (begun : List ℕ) (x : Present) (p : List ℕ) (es : List EntryData) (b : ℕ) → HasConsumed profile begun (Some x) p es → x.in_line ≡ true → IsManyRecords profile max (p ++ b ∷ []) (length p) → ⊥
+  pub line_byte_few : (max : ℕ) (begun : List ℕ) (x : CurrentEntry) (p : List ℕ) (es : List EntryData) (b : ℕ) → HasConsumed profile begun (Some x) p es → x.in_line ≡ true → IsManyRecords profile max (p ++ b ∷ []) (length p) → ⊥
   line_byte_few max begun x p es b h i =
       let l = line_state profile begun x p es i h in
       not_many_line profile p (x.path.items ++ 0 ∷ l.line) x.path.items l.line b max (length p) (line_begun profile begun x p es l) refl
 
   -- What a reader took of the line that is begun.
-  pub line_part : (begun : List ℕ) (x : Present) (p : List ℕ) (es : List EntryData) (new : ValueReader) (bytes : List ℕ) (run : PushedRun) → HasConsumed profile begun (Some x) p es → x.in_line ≡ true →
+  pub line_part : (begun : List ℕ) (x : CurrentEntry) (p : List ℕ) (es : List EntryData) (new : ValueReader) (bytes : List ℕ) (run : PushedRun) → HasConsumed profile begun (Some x) p es → x.in_line ≡ true →
       ((k : ReadForm) (s : List ℕ) → Reads x.reader k s → IsPushedRun new k s bytes run) → AreOfRecord (take run.used bytes)
   line_part begun x p es new bytes run h t pushed =
       let l = line_state profile begun x p es t h in

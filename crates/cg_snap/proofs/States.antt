@@ -21,7 +21,7 @@ use Rattle.cg_snap.specs.DecoderState.{HasConsumedInLine, HasConsumedInPath, Has
 use Rattle.cg_snap.specs.PathBytes.{ArePathBytes}
 use Rattle.cg_snap.specs.Snap.{AreEntryLines, Snap}
 use Rattle.cg_snap.specs.SnapStop.{IsNameless}
-use Rattle.cg_snap.specs.declared.present.Present.{Present}
+use Rattle.cg_snap.specs.declared.present.CurrentEntry.{CurrentEntry}
 use Rattle.cg_snap.specs.declared.stop.Why.TheVariants as whys
 use Rattle.cg_snap.proofs.Closes.{line_begun, line_closed, path_begun, path_closed, start_begun, start_closed}
 use Rattle.cg_snap.proofs.Refusals.{head_byte, head_nul, line_takes, path_head, same_nul, start_head}
@@ -41,7 +41,7 @@ pub by_flag : (P Q R : Type 0) (b : Bool) → MatchBool b P Q → (P → R) → 
 by_flag P Q R true h f g = f h
 by_flag P Q R false h f g = g h
 
-pub flag_between : (o : Option Present) (b : Bool) → IsLineFlag o b → b ≡ false → IsBetween o
+pub flag_between : (o : Option CurrentEntry) (b : Bool) → IsLineFlag o b → b ≡ false → IsBetween o
 flag_between None b f e = tt
 flag_between (Some x) b f e = sym f ∙ e
 
@@ -84,51 +84,51 @@ pub more_takes : (kind : ReadForm) (ls : List (List ℕ)) → CanEndLine kind ls
 more_takes kind ls c = record { not_begun = line_starts ls; line = c.0; plain = c.1; goes = c.2 }
 
 module _ (profile : Profile) where
-  pub between : (begun : List ℕ) (o : Option Present) (p : List ℕ) (es : List EntryData) → IsBetween o → HasConsumed profile begun o p es → HasConsumedBetween profile begun o p es
+  pub between : (begun : List ℕ) (o : Option CurrentEntry) (p : List ℕ) (es : List EntryData) → IsBetween o → HasConsumed profile begun o p es → HasConsumedBetween profile begun o p es
   between begun None p es b h = h
   between begun (Some x) p es b h = MatchBool-at_false _ _ b h
 
-  pub back : (begun : List ℕ) (o : Option Present) (p : List ℕ) (es : List EntryData) → IsBetween o → HasConsumedBetween profile begun o p es → HasConsumed profile begun o p es
+  pub back : (begun : List ℕ) (o : Option CurrentEntry) (p : List ℕ) (es : List EntryData) → IsBetween o → HasConsumedBetween profile begun o p es → HasConsumed profile begun o p es
   back begun None p es b h = h
   back begun (Some x) p es b h = at_false (HasConsumedInLine profile begun x p es) (HasConsumedInPath profile begun x p es) x.in_line b h
 
-  pub paths_head : (begun : List ℕ) (o : Option Present) (p : List ℕ) (es : List EntryData) (b : ℕ) → HasConsumedBetween profile begun o p es → Next (Snap profile) p b → (b ≡ 0) ⊎ IsPathByte b
+  pub paths_head : (begun : List ℕ) (o : Option CurrentEntry) (p : List ℕ) (es : List EntryData) (b : ℕ) → HasConsumedBetween profile begun o p es → Next (Snap profile) p b → (b ≡ 0) ⊎ IsPathByte b
   paths_head begun None p es b h v = let g = start_head profile begun p es b h v in head_byte profile begun g.0 b h.begun_path g.1
   paths_head begun (Some x) p es b h v = let g = path_head profile begun x p es b h v in head_byte profile begun g.0 b h.begun_path g.1
 
-  pub paths_nul : (begun : List ℕ) (o : Option Present) (p : List ℕ) (es : List EntryData) → HasConsumedBetween profile begun o p es → Next (Snap profile) p 0 → IsPath begun × ((k : ReadForm) × ReadsAt profile begun (Some k))
+  pub paths_nul : (begun : List ℕ) (o : Option CurrentEntry) (p : List ℕ) (es : List EntryData) → HasConsumedBetween profile begun o p es → Next (Snap profile) p 0 → IsPath begun × ((k : ReadForm) × ReadsAt profile begun (Some k))
   paths_nul begun None p es h v = let g = start_head profile begun p es 0 h v in head_nul profile begun g.0 h.begun_path g.1
   paths_nul begun (Some x) p es h v = let g = path_head profile begun x p es 0 h v in head_nul profile begun g.0 h.begun_path g.1
 
-  pub paths_begun : (begun : List ℕ) (o : Option Present) (p : List ℕ) (es : List EntryData) → HasConsumedBetween profile begun o p es → IsBegun p begun × ArePathBytes begun
+  pub paths_begun : (begun : List ℕ) (o : Option CurrentEntry) (p : List ℕ) (es : List EntryData) → HasConsumedBetween profile begun o p es → IsBegun p begun × ArePathBytes begun
   paths_begun begun None p es h = (start_begun begun p es h, h.begun_path)
   paths_begun begun (Some x) p es h = (path_begun profile begun x p es h, h.begun_path)
 
-  pub paths_run : (begun begun' : List ℕ) (o : Option Present) (p : List ℕ) (es : List EntryData) (bs : List ℕ) → ArePathBytes bs → begun' ≡ begun ++ bs → HasConsumedBetween profile begun o p es → HasConsumedBetween profile begun' o (p ++ bs) es
+  pub paths_run : (begun begun' : List ℕ) (o : Option CurrentEntry) (p : List ℕ) (es : List EntryData) (bs : List ℕ) → ArePathBytes bs → begun' ≡ begun ++ bs → HasConsumedBetween profile begun o p es → HasConsumedBetween profile begun' o (p ++ bs) es
   paths_run begun begun' None p es bs q e h = record { none = h.none; bytes = rw (h.bytes, e) refl; begun_path = rw e (all_both IsPathByte begun bs h.begun_path q) }
   paths_run begun begun' (Some x) p es bs q e h = path_run profile begun begun' x p es bs q e h
 
-  pub paths_viable : (begun : List ℕ) (o : Option Present) (p : List ℕ) (es : List EntryData) → HasConsumedBetween profile begun o p es → Viable (Snap profile) p
+  pub paths_viable : (begun : List ℕ) (o : Option CurrentEntry) (p : List ℕ) (es : List EntryData) → HasConsumedBetween profile begun o p es → Viable (Snap profile) p
   paths_viable begun None p es h = start_viable profile begun p es h
   paths_viable begun (Some x) p es h = path_viable profile begun x p es h
 
   -- ---- What holds in each state
 
-  pub at_viable : (begun : List ℕ) (o : Option Present) (p : List ℕ) (es : List EntryData) → HasConsumed profile begun o p es → Viable (Snap profile) p
+  pub at_viable : (begun : List ℕ) (o : Option CurrentEntry) (p : List ℕ) (es : List EntryData) → HasConsumed profile begun o p es → Viable (Snap profile) p
   at_viable begun None p es h = start_viable profile begun p es h
   at_viable begun (Some x) p es h = by_flag (HasConsumedInLine profile begun x p es) (HasConsumedInPath profile begun x p es) (Viable (Snap profile) p) x.in_line h (line_viable profile begun x p es) (path_viable profile begun x p es)
 
-  pub at_closed : (begun : List ℕ) (o : Option Present) (p : List ℕ) (es : List EntryData) → HasConsumed profile begun o p es → Closed profile p es
+  pub at_closed : (begun : List ℕ) (o : Option CurrentEntry) (p : List ℕ) (es : List EntryData) → HasConsumed profile begun o p es → Closed profile p es
   at_closed begun None p es h = start_closed profile begun p es h
   at_closed begun (Some x) p es h = by_flag (HasConsumedInLine profile begun x p es) (HasConsumedInPath profile begun x p es) (Closed profile p es) x.in_line h (line_closed profile begun x p es) (path_closed profile begun x p es)
 
   -- ---- A byte of a line
 
-  pub line_state : (begun : List ℕ) (x : Present) (p : List ℕ) (es : List EntryData) → x.in_line ≡ true → HasConsumed profile begun (Some x) p es → HasConsumedInLine profile begun x p es
+  pub line_state : (begun : List ℕ) (x : CurrentEntry) (p : List ℕ) (es : List EntryData) → x.in_line ≡ true → HasConsumed profile begun (Some x) p es → HasConsumedInLine profile begun x p es
   line_state begun x p es t h = MatchBool-at_true _ _ t h
 
   -- Bytes of a line that the reader took.
-  pub line_taken : (begun : List ℕ) (x x' : Present) (p : List ℕ) (es : List EntryData) (bs : List ℕ) →
+  pub line_taken : (begun : List ℕ) (x x' : CurrentEntry) (p : List ℕ) (es : List EntryData) (bs : List ℕ) →
       x.in_line ≡ true → HasConsumed profile begun (Some x) p es → Lacks 10 bs → x'.path.items ≡ x.path.items →
       x'.lines ≡ x.lines → x'.in_line ≡ true →
       ((k : ReadForm) (t : List ℕ) → Reads x.reader k t → Reads x'.reader k (t ++ bs)) → HasConsumed profile begun (Some x') (p ++ bs) es
@@ -137,14 +137,14 @@ module _ (profile : Profile) where
       at_true (HasConsumedInLine profile begun x' (p ++ bs) es) (HasConsumedInPath profile begun x' (p ++ bs) es) x'.in_line i (line_run profile begun x x' p es bs l n e c (r l.kind (unlines l.lines ++ l.line) l.reads))
 
   -- The rest of the line and its newline, which are the bytes.
-  pub line_at_once : (begun : List ℕ) (x x' : Present) (p : List ℕ) (es : List EntryData) (line bs : List ℕ) → bs ≡ line ++ 10 ∷ [] → x.in_line ≡ true →
+  pub line_at_once : (begun : List ℕ) (x x' : CurrentEntry) (p : List ℕ) (es : List EntryData) (line bs : List ℕ) → bs ≡ line ++ 10 ∷ [] → x.in_line ≡ true →
       HasConsumed profile begun (Some x) p es → Lacks 10 line → x'.path.items ≡ x.path.items → x'.lines ≡ saturated (x.lines + 1) → x'.in_line ≡ false →
       ((k : ReadForm) (t : List ℕ) → Reads x.reader k t → Reads x'.reader k (t ++ (line ++ 10 ∷ []))) → HasConsumed profile begun (Some x') (p ++ bs) es
   line_at_once begun x x' p es line bs f t h n e c i r =
       let l = line_state begun x p es t h in
       at_false (HasConsumedInLine profile begun x' (p ++ bs) es) (HasConsumedInPath profile begun x' (p ++ bs) es) x'.in_line i (rw f (line_whole profile begun x x' p es line l n e c (r l.kind (unlines l.lines ++ l.line) l.reads)))
 
-  pub line_refused : (begun : List ℕ) (x : Present) (p : List ℕ) (es : List EntryData) (b : ℕ) → x.in_line ≡ true → HasConsumed profile begun (Some x) p es → ((k : ReadForm) (t : List ℕ) → Reads x.reader k t → Next (KindFile k) t b → ⊥) →
+  pub line_refused : (begun : List ℕ) (x : CurrentEntry) (p : List ℕ) (es : List EntryData) (b : ℕ) → x.in_line ≡ true → HasConsumed profile begun (Some x) p es → ((k : ReadForm) (t : List ℕ) → Reads x.reader k t → Next (KindFile k) t b → ⊥) →
       (Next (Snap profile) p b → ⊥) × IsWhyAfter profile p b whys.Line
   line_refused begun x p es b t h r =
       let l = line_state begun x p es t h in
@@ -152,15 +152,15 @@ module _ (profile : Profile) where
 
   -- ---- The NUL of a path
 
-  pub at_some : (begun : List ℕ) (o : Option Present) (x : Present) (p : List ℕ) (es : List EntryData) → o ≡ Some x → HasConsumed profile begun o p es → IsBetween o → HasConsumedInPath profile begun x p es × (x.in_line ≡ false)
+  pub at_some : (begun : List ℕ) (o : Option CurrentEntry) (x : CurrentEntry) (p : List ℕ) (es : List EntryData) → o ≡ Some x → HasConsumed profile begun o p es → IsBetween o → HasConsumedInPath profile begun x p es × (x.in_line ≡ false)
   at_some begun o x p es e h b =
       let i : x.in_line ≡ false = subst IsBetween e b in
-      (MatchBool-at_false _ _ i (subst (λ (q : Option Present). HasConsumed profile begun q p es) e h), i)
+      (MatchBool-at_false _ _ i (subst (λ (q : Option CurrentEntry). HasConsumed profile begun q p es) e h), i)
 
-  pub at_none : (begun : List ℕ) (o : Option Present) (p : List ℕ) (es : List EntryData) → o ≡ None → HasConsumed profile begun o p es → HasConsumedAPath begun p es
-  at_none begun o p es e h = subst (λ (q : Option Present). HasConsumed profile begun q p es) e h
+  pub at_none : (begun : List ℕ) (o : Option CurrentEntry) (p : List ℕ) (es : List EntryData) → o ≡ None → HasConsumed profile begun o p es → HasConsumedAPath begun p es
+  at_none begun o p es e h = subst (λ (q : Option CurrentEntry). HasConsumed profile begun q p es) e h
 
-  pub no_more : (begun : List ℕ) (x : Present) (p : List ℕ) (es : List EntryData) (k : ReadForm) →
+  pub no_more : (begun : List ℕ) (x : CurrentEntry) (p : List ℕ) (es : List EntryData) (k : ReadForm) →
       HasConsumedInPath profile begun x p es → IsOfKind profile begun k → begun ≡ x.path.items →
       ((k : ReadForm) (t : List ℕ) → Reads x.reader k t → TakesLine k t → ⊥) →
       (Next (Snap profile) p 0 → ⊥) × IsWhyAfter profile p 0 whys.NoMoreLines
@@ -168,13 +168,13 @@ module _ (profile : Profile) where
       (λ v. f h.kind (unlines h.lines) h.reads (more_takes h.kind h.lines (same_nul profile begun x p es h s v)), (begun, path_begun profile begun x p es h, (bytes_no_nul begun h.begun_path, refl, c.0, (k, c.1))))
 
   -- A NUL after a path without a name, or after one that isn't read.
-  pub no_name_refused : (begun : List ℕ) (o : Option Present) (p : List ℕ) (es : List EntryData) → IsNameless begun → IsBetween o → HasConsumed profile begun o p es → (Next (Snap profile) p 0 → ⊥) × IsWhyAfter profile p 0 whys.NoName
+  pub no_name_refused : (begun : List ℕ) (o : Option CurrentEntry) (p : List ℕ) (es : List EntryData) → IsNameless begun → IsBetween o → HasConsumed profile begun o p es → (Next (Snap profile) p 0 → ⊥) × IsWhyAfter profile p 0 whys.NoName
   no_name_refused begun o p es c i h =
       let a = between begun o p es i h in
       let r = paths_begun begun o p es a in
       (λ v. path_named begun (paths_nul begun o p es a v).0 c, (begun, r.0, (bytes_no_nul begun r.1, refl, c)))
 
-  pub not_readable_refused : (begun : List ℕ) (o : Option Present) (p : List ℕ) (es : List EntryData) →
+  pub not_readable_refused : (begun : List ℕ) (o : Option CurrentEntry) (p : List ℕ) (es : List EntryData) →
       (IsNameless begun → ⊥) → ReadsAt profile begun None → IsBetween o → HasConsumed profile begun o p es →
       (Next (Snap profile) p 0 → ⊥) × IsWhyAfter profile p 0 whys.NotReadable
   not_readable_refused begun o p es c n i h =
@@ -182,21 +182,21 @@ module _ (profile : Profile) where
       let r = paths_begun begun o p es a in
       (λ v. let k = (paths_nul begun o p es a v).1 in reads_once profile begun k.0 n k.1, (begun, r.0, (bytes_no_nul begun r.1, refl, c, n)))
 
-  pub newline_refused : (begun : List ℕ) (o : Option Present) (p : List ℕ) (es : List EntryData) (b : ℕ) → b ≡ 10 → IsBetween o → HasConsumed profile begun o p es → (Next (Snap profile) p b → ⊥) × IsWhyAfter profile p b whys.PathByte
+  pub newline_refused : (begun : List ℕ) (o : Option CurrentEntry) (p : List ℕ) (es : List EntryData) (b : ℕ) → b ≡ 10 → IsBetween o → HasConsumed profile begun o p es → (Next (Snap profile) p b → ⊥) × IsWhyAfter profile p b whys.PathByte
   newline_refused begun o p es b z i h =
       let a = between begun o p es i h in
       let r = paths_begun begun o p es a in
       (λ v. elim (paths_head begun o p es b a v) [ inl e ↦ absurd (omega (arith, z, e)) | inr q ↦ q.2 z ], (begun, r.0, (bytes_no_nul begun r.1, z)))
 
   -- Bytes of a path.
-  pub paths_taken : (begun begun' : List ℕ) (o : Option Present) (p : List ℕ) (es : List EntryData) (bs : List ℕ) → ArePathBytes bs → begun' ≡ begun ++ bs → IsBetween o → HasConsumed profile begun o p es → HasConsumed profile begun' o (p ++ bs) es
+  pub paths_taken : (begun begun' : List ℕ) (o : Option CurrentEntry) (p : List ℕ) (es : List EntryData) (bs : List ℕ) → ArePathBytes bs → begun' ≡ begun ++ bs → IsBetween o → HasConsumed profile begun o p es → HasConsumed profile begun' o (p ++ bs) es
   paths_taken begun begun' o p es bs q e i h = back begun' o (p ++ bs) es i (paths_run begun begun' o p es bs q e (between begun o p es i h))
 
-  pub path_byte_allowed : (begun : List ℕ) (o : Option Present) (p : List ℕ) (es : List EntryData) (b : ℕ) → (b ≡ 0 → ⊥) → (b ≡ 10 → ⊥) → b < 256 → IsBetween o → HasConsumed profile begun o p es → Next (Snap profile) p b
+  pub path_byte_allowed : (begun : List ℕ) (o : Option CurrentEntry) (p : List ℕ) (es : List EntryData) (b : ℕ) → (b ≡ 0 → ⊥) → (b ≡ 10 → ⊥) → b < 256 → IsBetween o → HasConsumed profile begun o p es → Next (Snap profile) p b
   path_byte_allowed begun o p es b z n lt i h = paths_viable (begun ++ b ∷ []) o (p ++ b ∷ []) es (paths_run begun (begun ++ b ∷ []) o p es (b ∷ []) ((omega arith, lt, n), tt) refl (between begun o p es i h))
 
   -- The NUL of another path closes the present entry.
-  pub next_given : (begun begun' : List ℕ) (x x' : Present) (p : List ℕ) (es : List EntryData) (k : ReadForm) (o : Option EntryData) (h : HasConsumedInPath profile begun x p es) → begun' ≡ [] → x.path.items ≢ begun →
+  pub next_given : (begun begun' : List ℕ) (x x' : CurrentEntry) (p : List ℕ) (es : List EntryData) (k : ReadForm) (o : Option EntryData) (h : HasConsumedInPath profile begun x p es) → begun' ≡ [] → x.path.items ≢ begun →
       x'.path.items ≡ begun → x'.lines ≡ 0 → x'.in_line ≡ true → IsOfKind profile begun k → Reads x'.reader k [] → MatchOption o ⊥ (λ e. (e.path ≡ x.path.items) × AreEntryLines profile e h.lines) →
       MatchOption o (HasConsumed profile begun' (Some x') (p ++ 0 ∷ []) es) (λ e. HasConsumed profile begun' (Some x') (p ++ 0 ∷ []) (es ++ e ∷ []))
   next_given begun begun' x x' p es k None h n d path lines i c r m = absurd m

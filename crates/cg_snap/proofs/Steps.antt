@@ -30,7 +30,7 @@ use Rattle.cg_snap.specs.Closed.{EndsOther}
 use Rattle.cg_snap.specs.DecoderState.{HasConsumedInLine, HasConsumedInPath, HasConsumedAPath, CanEndLine}
 use Rattle.cg_snap.specs.PathBytes.{ArePathBytes}
 use Rattle.cg_snap.specs.Snap.{AreEntryLines, Snap, SnapText}
-use Rattle.cg_snap.specs.declared.present.Present.{Present}
+use Rattle.cg_snap.specs.declared.present.CurrentEntry.{CurrentEntry}
 use Rattle.cg_snap.proofs.Joins.{ends_push, lines_first, push_at, records-append, snap_append, unlines-push}
 
 -- ---- Lists
@@ -248,7 +248,7 @@ path_text : (p g r b t : List ℕ) → p ≡ g ++ (r ++ b) → (g ++ r) ++ (b ++
 path_text p g r b t e = rw e (simp append_assoc)
 
 module _ (profile : Profile) where
-  pub path_run : (begun begun' : List ℕ) (x : Present) (p : List ℕ) (es : List EntryData) (bs : List ℕ) → ArePathBytes bs → begun' ≡ begun ++ bs → HasConsumedInPath profile begun x p es → HasConsumedInPath profile begun' x (p ++ bs) es
+  pub path_run : (begun begun' : List ℕ) (x : CurrentEntry) (p : List ℕ) (es : List EntryData) (bs : List ℕ) → ArePathBytes bs → begun' ≡ begun ++ bs → HasConsumedInPath profile begun x p es → HasConsumedInPath profile begun' x (p ++ bs) es
   path_run begun begun' x p es bs q e h = record {
     given = h.given;
     lines = h.lines;
@@ -266,7 +266,7 @@ module _ (profile : Profile) where
   }
 
   -- The same where the reader took nothing.
-  pub path_kept : (begun : List ℕ) (x x' : Present) (p : List ℕ) (es : List EntryData) (h : HasConsumedInPath profile begun x p es) → x'.path.items ≡ x.path.items → x'.lines ≡ x.lines → Reads x'.reader h.kind (unlines h.lines) →
+  pub path_kept : (begun : List ℕ) (x x' : CurrentEntry) (p : List ℕ) (es : List EntryData) (h : HasConsumedInPath profile begun x p es) → x'.path.items ≡ x.path.items → x'.lines ≡ x.lines → Reads x'.reader h.kind (unlines h.lines) →
       HasConsumedInPath profile begun x' p es
   path_kept begun x x' p es h e c r = record {
     given = h.given;
@@ -284,7 +284,7 @@ module _ (profile : Profile) where
     count = c ∙ h.count;
   }
 
-  abbrev pub line_run : (begun : List ℕ) (x x' : Present) (p : List ℕ) (es : List EntryData) (bs : List ℕ)
+  abbrev pub line_run : (begun : List ℕ) (x x' : CurrentEntry) (p : List ℕ) (es : List EntryData) (bs : List ℕ)
       (h : HasConsumedInLine profile begun x p es) → Lacks 10 bs → x'.path.items ≡ x.path.items → x'.lines ≡ x.lines →
       Reads x'.reader h.kind ((unlines h.lines ++ h.line) ++ bs) → HasConsumedInLine profile begun x' (p ++ bs) es
   line_run begun x x' p es bs h n e c r =
@@ -308,7 +308,7 @@ module _ (profile : Profile) where
       }
 
   -- The rest of the line and its newline at once.
-  pub line_whole : (begun : List ℕ) (x x' : Present) (p : List ℕ) (es : List EntryData) (bs : List ℕ)
+  pub line_whole : (begun : List ℕ) (x x' : CurrentEntry) (p : List ℕ) (es : List EntryData) (bs : List ℕ)
       (h : HasConsumedInLine profile begun x p es) → Lacks 10 bs → x'.path.items ≡ x.path.items → x'.lines ≡ saturated (x.lines + 1) →
       Reads x'.reader h.kind ((unlines h.lines ++ h.line) ++ (bs ++ 10 ∷ [])) → HasConsumedInPath profile begun x' (p ++ (bs ++ 10 ∷ [])) es
   line_whole begun x x' p es bs h n e c r = record {
@@ -329,7 +329,7 @@ module _ (profile : Profile) where
 
   -- ---- The NUL of a path
 
-  pub start_path : (begun begun' p : List ℕ) (x' : Present) (es : List EntryData) (b : ℕ) (k : ReadForm) → b ≡ 0 →
+  pub start_path : (begun begun' p : List ℕ) (x' : CurrentEntry) (es : List EntryData) (b : ℕ) (k : ReadForm) → b ≡ 0 →
       begun' ≡ [] → x'.path.items ≡ begun → x'.lines ≡ 0 → IsPath begun → ReadsAt profile begun (Some k) →
       Reads x'.reader k [] → HasConsumedAPath begun p es → HasConsumedInLine profile begun' x' (p ++ b ∷ []) es
   start_path begun begun' p x' es b k z n e c g r t h = record {
@@ -350,7 +350,7 @@ module _ (profile : Profile) where
     count = c;
   }
 
-  pub same_path : (begun begun' : List ℕ) (x x' : Present) (p : List ℕ) (es : List EntryData) (b : ℕ)
+  pub same_path : (begun begun' : List ℕ) (x x' : CurrentEntry) (p : List ℕ) (es : List EntryData) (b : ℕ)
       (h : HasConsumedInPath profile begun x p es) → b ≡ 0 → begun' ≡ [] → begun ≡ x.path.items →
       x'.path.items ≡ x.path.items → x'.lines ≡ x.lines → Reads x'.reader h.kind (unlines h.lines) → CanEndLine h.kind h.lines [] →
       HasConsumedInLine profile begun' x' (p ++ b ∷ []) es
@@ -372,7 +372,7 @@ module _ (profile : Profile) where
     count = c ∙ h.count;
   }
 
-  pub next_path : (begun begun' : List ℕ) (x x' : Present) (p : List ℕ) (es : List EntryData) (b : ℕ) (k : ReadForm)
+  pub next_path : (begun begun' : List ℕ) (x x' : CurrentEntry) (p : List ℕ) (es : List EntryData) (b : ℕ) (k : ReadForm)
       (e : EntryData) (h : HasConsumedInPath profile begun x p es) → b ≡ 0 → begun' ≡ [] → x.path.items ≢ begun →
       x'.path.items ≡ begun → x'.lines ≡ 0 → IsPath begun → ReadsAt profile begun (Some k) → Reads x'.reader k [] →
       e.path ≡ x.path.items → AreEntryLines profile e h.lines → HasConsumedInLine profile begun' x' (p ++ b ∷ []) (es ++ e ∷ [])
@@ -395,16 +395,16 @@ module _ (profile : Profile) where
   }
 
   -- The present entry can be ended.
-  pub path_ends : (begun : List ℕ) (x : Present) (p : List ℕ) (es : List EntryData) (h : HasConsumedInPath profile begun x p es) → (v : Value) × ReadLines h.kind v h.lines
+  pub path_ends : (begun : List ℕ) (x : CurrentEntry) (p : List ℕ) (es : List EntryData) (h : HasConsumedInPath profile begun x p es) → (v : Value) × ReadLines h.kind v h.lines
   path_ends begun x p es h = lines_can_end h.kind h.lines h.some h.plain (reads_viable x.reader h.kind (unlines h.lines) h.reads)
 
   -- So can that of a line, after its whole records.
-  pub line_can_end : (begun : List ℕ) (x : Present) (p : List ℕ) (es : List EntryData) (h : HasConsumedInLine profile begun x p es) → h.lines ≢ [] → (v : Value) × ReadLines h.kind v h.lines
+  pub line_can_end : (begun : List ℕ) (x : CurrentEntry) (p : List ℕ) (es : List EntryData) (h : HasConsumedInLine profile begun x p es) → h.lines ≢ [] → (v : Value) × ReadLines h.kind v h.lines
   line_can_end begun x p es h some =
       let v = reads_viable x.reader h.kind (unlines h.lines ++ h.line) h.reads in
       lines_can_end h.kind h.lines some h.plain (record { rest = h.line ++ v.rest; whole = subst (KindFile h.kind) (append_assoc (unlines h.lines) h.line v.rest) v.whole })
 
-  pub present_entry : (begun : List ℕ) (x : Present) (p : List ℕ) (es : List EntryData) (h : HasConsumedInPath profile begun x p es) → (e : EntryData) × (e.path ≡ x.path.items) × AreEntryLines profile e h.lines
+  pub present_entry : (begun : List ℕ) (x : CurrentEntry) (p : List ℕ) (es : List EntryData) (h : HasConsumedInPath profile begun x p es) → (e : EntryData) × (e.path ≡ x.path.items) × AreEntryLines profile e h.lines
   present_entry begun x p es h =
       let v = path_ends begun x p es h in
       let e = has_entry profile x.path.items h.kind v.0 h.lines h.good h.reads_at h.some v.1 in
@@ -429,7 +429,7 @@ module _ (profile : Profile) where
   pub start_viable : (begun p : List ℕ) (es : List EntryData) → HasConsumedAPath begun p es → Viable (Snap profile) p
   start_viable begun p es h = let r = begun_record begun [] h.begun_path in record { rest = r.0; whole = (r.1 ∷ [], rw h.bytes r.3) }
 
-  pub path_viable : (begun : List ℕ) (x : Present) (p : List ℕ) (es : List EntryData) → HasConsumedInPath profile begun x p es → Viable (Snap profile) p
+  pub path_viable : (begun : List ℕ) (x : CurrentEntry) (p : List ℕ) (es : List EntryData) → HasConsumedInPath profile begun x p es → Viable (Snap profile) p
   path_viable begun x p es h =
       let r = begun_record begun x.path.items h.begun_path in
       let e = present_entry begun x p es h in
@@ -457,5 +457,5 @@ module _ (profile : Profile) where
       let whole = lines_text_snap es given q k (lines ++ (line ++ m) ∷ []) h o g r (some_push lines (line ++ m)) (all_push (Lacks 10) lines (line ++ m) a (lacks_both 10 line m b c.1)) (subst (Viable (KindFile k)) text c.2) in
       record { rest = m ++ 10 ∷ []; whole = subst (Snap profile) (line_text p given (records q lines) q line m (records q (lines ++ (line ++ m) ∷ [])) (records-append q lines ((line ++ m) ∷ [])) split) whole }
 
-  pub line_viable : (begun : List ℕ) (x : Present) (p : List ℕ) (es : List EntryData) → HasConsumedInLine profile begun x p es → Viable (Snap profile) p
+  pub line_viable : (begun : List ℕ) (x : CurrentEntry) (p : List ℕ) (es : List EntryData) → HasConsumedInLine profile begun x p es → Viable (Snap profile) p
   line_viable begun x p es h = line_text_viable es h.given x.path.items h.kind h.lines h.line p h.entries h.other h.good h.reads_at h.plain h.plain_line h.goes h.split

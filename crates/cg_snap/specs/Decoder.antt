@@ -14,7 +14,7 @@ use Rattle.cg_snap.specs.SnapStop.{IsSnapUnstopped}
 use Rattle.cg_snap.specs.declared.event.Event.{Event}
 use Rattle.cg_snap.specs.declared.decoder.Decoder.{Decoder}
 use Rattle.cg_snap.specs.declared.limits.Limits.{Limits}
-use Rattle.cg_snap.specs.declared.present.Present.{Present}
+use Rattle.cg_snap.specs.declared.present.CurrentEntry.{CurrentEntry}
 use Rattle.cg_snap.specs.declared.snapshot_records.SnapshotRecords.{SnapshotRecords}
 use Rattle.cg_snap.specs.declared.stop.Stop.{Stop}
 use Rattle.cg_snap.specs.declared.stop.Stop.TheVariants as stops
@@ -37,7 +37,7 @@ abbrev pub stop_of : SnapshotDecoder → Option Stop
 stop_of d = d.stop
 
 -- The sum of the lengths of its vectors.
-abbrev pub held_in : Option Present → ℕ
+abbrev pub held_in : Option CurrentEntry → ℕ
 held_in None = 0
 held_in (Some x) = length x.path.items + reader.held_by x.reader
 

@@ -17,7 +17,7 @@ use Rattle.cg_snap.specs.Course.{BreaksAfter, RefusedBy}
 use Rattle.cg_snap.specs.PathBytes.{ArePathBytes}
 use Rattle.cg_snap.specs.Snap.{Snap, SnapText}
 use Rattle.cg_snap.specs.SnapStop.{IsNameless, IsRecordWhy}
-use Rattle.cg_snap.specs.declared.present.Present.{Present}
+use Rattle.cg_snap.specs.declared.present.CurrentEntry.{CurrentEntry}
 use Rattle.cg_snap.specs.declared.snapshot_records.SnapshotRecords.{SnapshotRecords}
 use Rattle.cg_snap.specs.declared.stop.Why.{Why}
 use Rattle.cg_snap.specs.declared.stop.Why.TheVariants as whys
@@ -47,7 +47,7 @@ pub record HasConsumedAPath (begun p : List ℕ) (es : List EntryData) : Type 0 
   pub begun_path : ArePathBytes begun
 
 -- After the entries that were given came whole records of the present one, and then the front of a path.
-pub record HasConsumedInPath (profile : Profile) (begun : List ℕ) (x : Present) (p : List ℕ) (es : List EntryData) : Type 0 where
+pub record HasConsumedInPath (profile : Profile) (begun : List ℕ) (x : CurrentEntry) (p : List ℕ) (es : List EntryData) : Type 0 where
   pub given : List ℕ
   pub lines : List (List ℕ)
   pub kind : ReadForm
@@ -64,7 +64,7 @@ pub record HasConsumedInPath (profile : Profile) (begun : List ℕ) (x : Present
 
 -- After the entries that were given came whole records of the present one, also none, and then its path, a NUL, and the
 -- front of a line.
-pub record HasConsumedInLine (profile : Profile) (begun : List ℕ) (x : Present) (p : List ℕ) (es : List EntryData) : Type 0 where
+pub record HasConsumedInLine (profile : Profile) (begun : List ℕ) (x : CurrentEntry) (p : List ℕ) (es : List EntryData) : Type 0 where
   pub given : List ℕ
   pub lines : List (List ℕ)
   pub line : List ℕ
@@ -82,26 +82,26 @@ pub record HasConsumedInLine (profile : Profile) (begun : List ℕ) (x : Present
   pub count : x.lines ≡ saturated (length lines)
 
 -- The bytes p came, and the entries es were given.
-abbrev pub HasConsumed : Profile → List ℕ → Option Present → List ℕ → List EntryData → Type 0
+abbrev pub HasConsumed : Profile → List ℕ → Option CurrentEntry → List ℕ → List EntryData → Type 0
 HasConsumed profile begun None p es = HasConsumedAPath begun p es
 HasConsumed profile begun (Some x) p es = MatchBool x.in_line (HasConsumedInLine profile begun x p es) (HasConsumedInPath profile begun x p es)
 
 -- The same where no line is begun.
-abbrev pub HasConsumedBetween : Profile → List ℕ → Option Present → List ℕ → List EntryData → Type 0
+abbrev pub HasConsumedBetween : Profile → List ℕ → Option CurrentEntry → List ℕ → List EntryData → Type 0
 HasConsumedBetween profile begun None p es = HasConsumedAPath begun p es
 HasConsumedBetween profile begun (Some x) p es = HasConsumedInPath profile begun x p es
 
 -- No line is begun.
-abbrev pub IsBetween : Option Present → Type 0
+abbrev pub IsBetween : Option CurrentEntry → Type 0
 IsBetween None = Unit {0}
 IsBetween (Some x) = x.in_line ≡ false
 
-abbrev pub IsLineFlag : Option Present → Bool → Type 0
+abbrev pub IsLineFlag : Option CurrentEntry → Bool → Type 0
 IsLineFlag None flag = flag ≡ false
 IsLineFlag (Some x) flag = flag ≡ x.in_line
 
 -- How many records have ended of the entry of the path that is begun.
-abbrev pub IsLineCount : List ℕ → Option Present → ℕ → Type 0
+abbrev pub IsLineCount : List ℕ → Option CurrentEntry → ℕ → Type 0
 IsLineCount begun None n = n ≡ 0
 IsLineCount begun (Some x) n = (x.path.items ≡ begun → n ≡ x.lines) × ((x.path.items ≡ begun → ⊥) → n ≡ 0)
 
@@ -114,11 +114,11 @@ abbrev pub RefusalIs : Profile → List ℕ → ℕ → Option Why → Type 0
 RefusalIs profile = RefusedBy (Snap profile) (IsRecordWhy profile)
 
 -- The path that is begun is that of the present entry, whose file takes no further line; and otherwise, where it is, it takes one.
-abbrev pub IsOver : List ℕ → Option Present → Type 0
+abbrev pub IsOver : List ℕ → Option CurrentEntry → Type 0
 IsOver begun None = ⊥
 IsOver begun (Some x) = (x.path.items ≡ begun) × ((kind : ReadForm) (taken : List ℕ) → Reads x.reader kind taken → TakesLine kind taken → ⊥)
 
-abbrev pub TakesMore : List ℕ → Option Present → Type 0
+abbrev pub TakesMore : List ℕ → Option CurrentEntry → Type 0
 TakesMore begun None = Unit {0}
 TakesMore begun (Some x) = x.path.items ≡ begun → (kind : ReadForm) (taken : List ℕ) → Reads x.reader kind taken → TakesLine kind taken
 

@@ -21,7 +21,7 @@ use Rattle.cg_snap.specs.declared.going_on.Found.{Found}
 use Rattle.cg_snap.specs.declared.going_on.LeftOut.{LeftOut}
 use Rattle.cg_snap.specs.declared.going_on_records.GoingOnRecords.{GoingOnRecords}
 use Rattle.cg_snap.specs.declared.limits.Limits.{Limits}
-use Rattle.cg_snap.specs.declared.present.Present.{Present}
+use Rattle.cg_snap.specs.declared.present.CurrentEntry.{CurrentEntry}
 use Rattle.cg_snap.specs.declared.snapshot_records.SnapshotRecords.{SnapshotRecords}
 use Rattle.cg_snap.specs.declared.stop.Stop.{Stop}
 use Rattle.cg_snap.specs.declared.stop.Stop.TheVariants as stops
@@ -85,7 +85,7 @@ pub record HasTold (s : GoingOnRecords) (profile : Profile) (limits : Limits) (b
 -- ---- What is said of a byte at fault
 
 -- The byte is of the present entry: it is in a line of it, or begins one more.
-abbrev pub IsOfPresent : List ℕ → ℕ → Option Present → Type 0
+abbrev pub IsOfPresent : List ℕ → ℕ → Option CurrentEntry → Type 0
 IsOfPresent begun byte None = ⊥
 IsOfPresent begun byte (Some x) = (x.in_line ≡ true) ⊎ ((byte ≡ 0) × (x.path.items ≡ begun))
 
@@ -98,22 +98,22 @@ IsPathBegun begun byte room (Some path) = (path ≡ begun) × (byte ≡ 0) × (r
 IsPathBegun begun byte room None = byte ≡ 0 → room ≡ true → (IsNameless begun → ⊥) → ⊥
 
 -- The path of the line that the byte is of.
-abbrev pub IsPathAt : List ℕ → ℕ → Bool → Option Present → Bool → Option (List ℕ) → Type 0
+abbrev pub IsPathAt : List ℕ → ℕ → Bool → Option CurrentEntry → Bool → Option (List ℕ) → Type 0
 IsPathAt begun byte room None of path = IsPathBegun begun byte room path
 IsPathAt begun byte room (Some x) true path = path ≡ Some x.path.items
 IsPathAt begun byte room (Some x) false path = IsPathBegun begun byte room path
 
 -- The entry of the records of the present one.
-abbrev pub IsEnded : Option Present → Option EntryData → Type 0
+abbrev pub IsEnded : Option CurrentEntry → Option EntryData → Type 0
 IsEnded None e = e ≡ None
 IsEnded (Some x) e = (profile : Profile) (begun p : List ℕ) (es : List EntryData) (h : HasConsumedInPath profile begun x p es) →
     MatchOption e ⊥ (λ f. (f.path ≡ x.path.items) × AreEntryLines profile f h.lines)
 
 -- Whether the present path is that of a block that was left out.
-abbrev pub IsAgain : Option (List ℕ) → Option Present → Option Bool → Type 0
+abbrev pub IsAgain : Option (List ℕ) → Option CurrentEntry → Option Bool → Type 0
 IsAgain out o None = (out ≡ None) ⊎ (o ≡ None)
-IsAgain out o (Some true) = (path : List ℕ) × (x : Present) × (out ≡ Some path) × (o ≡ Some x) × (path ≡ x.path.items)
-IsAgain out o (Some false) = (path : List ℕ) × (x : Present) × (out ≡ Some path) × (o ≡ Some x) × (path ≢ x.path.items)
+IsAgain out o (Some true) = (path : List ℕ) × (x : CurrentEntry) × (out ≡ Some path) × (o ≡ Some x) × (path ≡ x.path.items)
+IsAgain out o (Some false) = (path : List ℕ) × (x : CurrentEntry) × (out ≡ Some path) × (o ≡ Some x) × (path ≢ x.path.items)
 
 -- Only the whole stream has such a stop.
 abbrev pub IsWholeStop : Stop → Type 0

@@ -3,7 +3,7 @@ use Rattle.std.specs.Prelude.{◌≡◌, ℕ, ◌+◌, List, length, Option, Som
 use Rattle.cg_text.specs.Texts.{Viable}
 use Rattle.cg_value.specs.Entry.{ItemData}
 use Rattle.cg_value.specs.declared.profile.Profile.{Profile}
-use Rattle.cg_line.specs.Takes.{held_of}
+use Rattle.cg_line.specs.SettingReads.{held_of}
 use Rattle.cg_snap.specs.Streams.{plan_stream}
 use Rattle.cg_snap.specs.Plan.{ClosedPlan, Plan, PlanText}
 use Rattle.cg_snap.specs.PlanStop.{IsPlanUnstopped}
@@ -11,7 +11,7 @@ use Rattle.cg_snap.specs.Pulled.{StandsFor}
 use Rattle.cg_snap.specs.declared.limits.Limits.{Limits}
 use Rattle.cg_snap.specs.declared.decoder.Decoder.{Decoder}
 use Rattle.cg_snap.specs.declared.plan_records.PlanRecords.{PlanRecords}
-use Rattle.cg_snap.specs.declared.plan.Writing.{Writing}
+use Rattle.cg_snap.specs.declared.plan.CurrentItem.{CurrentItem}
 use Rattle.cg_snap.specs.declared.stop.Stop.{Stop}
 use Rattle.cg_snap.specs.declared.stop.Stop.TheVariants as stops
 
@@ -33,7 +33,7 @@ abbrev pub plan_stop_of : PlanDecoder → Option Stop
 plan_stop_of d = d.stop
 
 -- The sum of the lengths of its vectors.
-abbrev pub held_in_line : Option Writing → ℕ
+abbrev pub held_in_line : Option CurrentItem → ℕ
 held_in_line None = 0
 held_in_line (Some x) = length x.path.items + held_of x.reader
 

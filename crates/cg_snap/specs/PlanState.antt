@@ -4,12 +4,12 @@ use Rattle.cg_text.specs.Texts.{Lacks, Viable}
 use Rattle.cg_value.specs.Entry.{IsPath, ItemData, WritesAt}
 use Rattle.cg_value.specs.declared.kind.WriteForm.{WriteForm}
 use Rattle.cg_value.specs.declared.profile.Profile.{Profile}
-use Rattle.cg_line.specs.Takes.{Takes}
+use Rattle.cg_line.specs.SettingReads.{SettingReads}
 use Rattle.cg_snap.specs.PathBytes.{ArePathBytes}
 use Rattle.cg_snap.specs.Plan.{ClosedPlan, Plan, PlanText}
 use Rattle.cg_snap.specs.SnapStop.{IsNameless}
 use Rattle.cg_snap.specs.declared.plan_records.PlanRecords.{PlanRecords}
-use Rattle.cg_snap.specs.declared.plan.Writing.{Writing}
+use Rattle.cg_snap.specs.declared.plan.CurrentItem.{CurrentItem}
 use Rattle.cg_snap.specs.declared.stop.Why.{Why}
 use Rattle.cg_snap.specs.declared.stop.Why.TheVariants as whys
 
@@ -41,7 +41,7 @@ pub record AtItemPath (profile : Profile) (begun p : List ℕ) (items : List Ite
   pub begun_path : ArePathBytes begun
 
 -- After the items that were given came a path, a NUL and the front of a line.
-pub record AtItemLine (profile : Profile) (begun : List ℕ) (x : Writing) (p : List ℕ) (items : List ItemData) : Type 0 where
+pub record AtItemLine (profile : Profile) (begun : List ℕ) (x : CurrentItem) (p : List ℕ) (items : List ItemData) : Type 0 where
   pub given : List ℕ
   pub line : List ℕ
   pub kind : WriteForm
@@ -50,11 +50,11 @@ pub record AtItemLine (profile : Profile) (begun : List ℕ) (x : Writing) (p : 
   pub good : IsPath x.path.items
   pub writes_at : WritesAt profile x.path.items (Some kind)
   pub plain : Lacks 10 line
-  pub takes : Takes x.reader kind line
+  pub takes : SettingReads x.reader kind line
   pub nothing_begun : begun ≡ []
 
 -- The bytes p came, and the items were given.
-abbrev pub HasConsumedItems : Profile → List ℕ → Option Writing → List ℕ → List ItemData → Type 0
+abbrev pub HasConsumedItems : Profile → List ℕ → Option CurrentItem → List ℕ → List ItemData → Type 0
 HasConsumedItems profile begun None p items = AtItemPath profile begun p items
 HasConsumedItems profile begun (Some x) p items = AtItemLine profile begun x p items
 

@@ -17,10 +17,10 @@ pub(crate) fn advance<R: Records>(
     piece: &[u8],
 ) -> Progress<R::Part>
     requires { 0 < length piece.now }
-    ensures advances { (form : R.Form) (p : List ℕ) (es : List R.Part) →
+    ensures advances { (form : R.Setup) (p : List ℕ) (es : List R.Part) →
         HasProgressed (R.stream form) records.old meter.old p es →
         Advances (R.stream form) records.new meter.new p es piece.now result.used result.what }
-    ensures of_record { (form : R.Form) (p : List ℕ) (es : List R.Part) →
+    ensures of_record { (form : R.Setup) (p : List ℕ) (es : List R.Part) →
         HasProgressed (R.stream form) records.old meter.old p es → AreOfRecord (take result.used piece.now) }
     ensures used { result.used ≤ length piece.now }
     ensures forward { GoesForward (length piece.now) result.used result.what }
@@ -53,7 +53,7 @@ pub(crate) fn pull<R: Records>(
     meter: &mut Meter,
     piece: &[u8],
 ) -> Progress<R::Part>
-    ensures pulled { (form : R.Form) (p : List ℕ) (es : List R.Part) →
+    ensures pulled { (form : R.Setup) (p : List ℕ) (es : List R.Part) →
         HasProgressed (R.stream form) records.old meter.old p es →
         PieceDid (R.stream form) records.new meter.new p es piece.now result.used result.what }
     ensures used { result.used ≤ length piece.now }
@@ -85,7 +85,7 @@ pub(crate) fn pull_rest<R: Records>(
     at: usize,
 ) -> Progress<R::Part>
     requires { at ≤ length piece.now }
-    ensures pulled { (form : R.Form) (p : List ℕ) (es : List R.Part) →
+    ensures pulled { (form : R.Setup) (p : List ℕ) (es : List R.Part) →
         HasProgressed (R.stream form) records.old meter.old (p ++ take at piece.now) es →
         PieceDid (R.stream form) records.new meter.new p es piece.now result.used result.what }
     ensures used { result.used ≤ length piece.now }
@@ -103,7 +103,7 @@ pub(crate) fn pull_rest<R: Records>(
 
 /// The bytes with which some text goes on.
 pub(crate) fn allowed<R: Records>(records: &R) -> ByteSet
-    ensures { (form : R.Form) (p : List ℕ) (es : List R.Part) → (R.stream form).at records.now p es → (byte : ℕ) →
+    ensures { (form : R.Setup) (p : List ℕ) (es : List R.Part) → (R.stream form).at records.now p es → (byte : ℕ) →
         HasByte result byte ↔ Next (R.stream form).language p byte }
 {
     if let Some(set) = records.line_allowed() {

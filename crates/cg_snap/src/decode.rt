@@ -35,7 +35,7 @@ fn take_piece<R: Pull>(
     parts: &mut Vec<R::Part>,
     piece: &[u8],
 ) -> Option<StreamFault>
-    ensures { (form : R.Form) (limits : Limits) (p : List ℕ) →
+    ensures { (form : R.Setup) (limits : Limits) (p : List ℕ) →
         HasPulled R.stream R.form_of decoder.old form limits p parts.old.items →
         MatchOption result (HasPulled R.stream R.form_of decoder.new form limits (p ++ piece.now) parts.new.items)
         (λ fault. EndsStream (R.stream form) limits (p ++ piece.now) fault) }
@@ -64,7 +64,7 @@ fn take_pieces<R: Pull>(
     parts: &mut Vec<R::Part>,
     pieces: &[&[u8]],
 ) -> Option<StreamFault>
-    ensures { (form : R.Form) (limits : Limits) →
+    ensures { (form : R.Setup) (limits : Limits) →
         HasPulled R.stream R.form_of decoder.old form limits [] parts.old.items →
         MatchOption result (HasPulled R.stream R.form_of decoder.new form limits (joined pieces.now) parts.new.items)
         (λ fault. IsStreamFault (R.stream form).language (R.stream form).breaks (R.stream form).many limits

@@ -58,7 +58,7 @@ pub type PlanPulled = Progress<PlanItem>;
 impl<R: Pull> Decoder<R> {
     /// A decoder that consumed nothing, of these records, of which none came.
     pub(crate) fn begin(records: R, limits: Limits) -> Decoder<R>
-        ensures stands { (form : R.Form) → (R.stream form).at records [] [] → StandsFor (R.stream form) result [] [] }
+        ensures stands { (form : R.Setup) → (R.stream form).at records [] [] → StandsFor (R.stream form) result [] [] }
         ensures records { result.records ≡ records }
         ensures limits { result.meter.limits ≡ limits }
         ensures stop { result.stop ≡ None }

@@ -12,13 +12,13 @@ ghost use Rattle.cg_snap.specs.Streams.{snap_stream};
 
 use crate::event::{Event, Progress};
 use crate::path::ends_line;
-use crate::present::Present;
+use crate::present::CurrentEntry;
 use crate::stop::{Stop, Why};
 use cg_line::PushFault;
 use cg_value::{Entry, Value};
 
 /// Whether the bytes begin with the entry's path and a NUL, and one more record isn't one too many.
-fn repeats(present: &Present, bytes: &[u8], max_lines: u64) -> bool
+fn repeats(present: &CurrentEntry, bytes: &[u8], max_lines: u64) -> bool
     ensures { IsTrue result → Repeats present.now bytes.now max_lines }
 {
     let size = present.path.len();
@@ -31,7 +31,7 @@ fn repeats(present: &Present, bytes: &[u8], max_lines: u64) -> bool
 
 /// Takes the path of one more record with its NUL, where the bytes begin with them, no path and no line is begun, and
 /// one more record may come; with its line, where that is there whole. Answers how many bytes it took, 0 where none.
-pub(crate) fn take_again(present: &mut Present, bytes: &[u8], max_lines: u64) -> usize
+pub(crate) fn take_again(present: &mut CurrentEntry, bytes: &[u8], max_lines: u64) -> usize
     requires { present.old.in_line ≡ false }
     ensures taken { (profile : Profile) (p : List ℕ) (es : List EntryData) →
         HasConsumedInPath profile [] present.old p es →
@@ -76,7 +76,7 @@ pub(crate) fn line_event<Part>(fault: Option<PushFault>, at: u64) -> Event<Part>
 /// Takes bytes of the line that is begun, to its newline at the most.
 pub(crate) fn take_line(
     begun: &Vec<u8>,
-    present: &mut Present,
+    present: &mut CurrentEntry,
     bytes: &[u8],
     at: u64,
 ) -> Progress<Entry>
@@ -120,12 +120,12 @@ fn is_lineless(value: &Value) -> bool
 
 /// The entry of the whole records. There always is one.
 #[inline(always)]
-pub(crate) fn ended(present: Present) -> Option<Entry>
+pub(crate) fn ended(present: CurrentEntry) -> Option<Entry>
     ensures { (profile : Profile) (begun p : List ℕ) (es : List EntryData)
         (h : HasConsumedInPath profile begun present p es) →
         MatchOption result ⊥ (λ e. (e.path ≡ present.path.items) × AreEntryLines profile e h.lines) }
 {
-    let Present {
+    let CurrentEntry {
         path,
         reader,
         lines: _,

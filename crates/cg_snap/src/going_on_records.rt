@@ -312,7 +312,7 @@ impl GoingOnRecords {
 impl Records for GoingOnRecords {
     type Part = Found;
 
-    type Form = (Profile, Limits);
+    type Setup = (Profile, Limits);
 
     ghost use Rattle.cg_snap.specs.GoingOnState.{form_of, going_closed, going_goes_on, going_stream};
 

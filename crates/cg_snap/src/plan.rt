@@ -3,7 +3,7 @@ ghost use Rattle.std.specs.Prelude.{◌≡◌, ◌+◌, ◌<◌, ◌≤◌, ◌+
 ghost use Rattle.cg_text.specs.Texts.{Lacks};
 ghost use Rattle.cg_value.specs.Entry.{IsPath, ItemData, WritesAt};
 ghost use Rattle.cg_value.specs.declared.kind.WriteForm.{WriteForm};
-ghost use Rattle.cg_line.specs.Takes.{Takes};
+ghost use Rattle.cg_line.specs.SettingReads.{SettingReads};
 ghost use Rattle.cg_snap.specs.Course.{AreOfRecord, GoesForward, Leaves, RefusedBy};
 ghost use Rattle.cg_snap.specs.PathBytes.{ArePathBytes, EndsPath};
 ghost use Rattle.cg_snap.specs.Plan.{IsItemLine, Plan};
@@ -18,20 +18,20 @@ use crate::path::{ends_line, take_path};
 use crate::stop::{Stop, Why};
 use cg_line::{PushFault, SettingReader};
 use cg_value::{PlanItem, Profile, Setting, WriteKind};
-use cg_write::WriteText;
+use cg_write::AnyWrite;
 use memchr::memchr;
 use std::alloc::Global;
 use std::mem;
 
 /// The item whose line comes.
 #[derive(Drop)]
-pub(crate) struct Writing {
+pub(crate) struct CurrentItem {
     pub(crate) path: Vec<u8>,
     pub(crate) reader: SettingReader,
 }
 
 /// Why the byte can't come within a line.
-pub(crate) fn line_refusal(begun: &Vec<u8>, writing: &Writing, byte: u8) -> Option<Why>
+pub(crate) fn line_refusal(begun: &Vec<u8>, writing: &CurrentItem, byte: u8) -> Option<Why>
     ensures { (profile : Profile) (p : List ℕ) (items : List ItemData) →
         AtItemLine profile begun.now.items writing.now p items →
         RefusedBy (Plan profile) (IsItemWhy profile) p byte result }
@@ -56,12 +56,12 @@ pub(crate) fn path_refusal(profile: Profile, begun: &Vec<u8>, byte: u8) -> Optio
 }
 
 /// The item of a whole line. There always is one.
-fn written(profile: Profile, writing: Writing) -> Option<PlanItem>
+fn written(profile: Profile, writing: CurrentItem) -> Option<PlanItem>
     ensures { (kind : WriteForm) (line : List ℕ) → IsPath writing.path.items →
-        WritesAt profile writing.path.items (Some kind) → Lacks 10 line → Takes writing.reader kind (line ++ 10 ∷ []) →
+        WritesAt profile writing.path.items (Some kind) → Lacks 10 line → SettingReads writing.reader kind (line ++ 10 ∷ []) →
         MatchOption result ⊥ (λ item. (item.path ≡ writing.path.items) × IsItemLine profile item line) }
 {
-    let Writing { path, reader } = writing;
+    let CurrentItem { path, reader } = writing;
     match reader.finish() {
         Ok(setting) => match PlanItem::new(profile, path, setting) {
             Ok(item) => Some(item),
@@ -75,8 +75,8 @@ fn written(profile: Profile, writing: Writing) -> Option<PlanItem>
 pub(crate) fn take_line(
     profile: Profile,
     begun: &Vec<u8>,
-    present: &mut Option<Writing>,
-    mut writing: Writing,
+    present: &mut Option<CurrentItem>,
+    mut writing: CurrentItem,
     bytes: &[u8],
     at: u64,
 ) -> Progress<PlanItem>
@@ -147,7 +147,7 @@ fn setting_in_front(alloc: Global, kind: WriteKind, bytes: &[u8]) -> Option<(Set
 {
     let end = memchr(b'\n', bytes)?;
     let (line, _) = bytes.split_at(end + 1);
-    let setting = WriteText::read(alloc, kind, line)?;
+    let setting = AnyWrite::read(alloc, kind, line)?;
     Some((setting, end + 1))
 }
 
@@ -156,7 +156,7 @@ fn setting_in_front(alloc: Global, kind: WriteKind, bytes: &[u8]) -> Option<(Set
 fn begin_line(
     alloc: Global,
     begun: &mut Vec<u8>,
-    present: &mut Option<Writing>,
+    present: &mut Option<CurrentItem>,
     kind: WriteKind,
     bytes: &[u8],
 ) -> Option<(PlanItem, usize)>
@@ -172,7 +172,7 @@ fn begin_line(
     match setting_in_front(alloc, kind, bytes) {
         Some((setting, used)) => Some((PlanItem::known(path, setting), used)),
         None => {
-            *present = Some(Writing {
+            *present = Some(CurrentItem {
                 path,
                 reader: SettingReader::new(alloc, kind),
             });
@@ -186,7 +186,7 @@ pub(crate) fn take_head(
     alloc: Global,
     profile: Profile,
     begun: &mut Vec<u8>,
-    present: &mut Option<Writing>,
+    present: &mut Option<CurrentItem>,
     bytes: &[u8],
     at: u64,
 ) -> Progress<PlanItem>

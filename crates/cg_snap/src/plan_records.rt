@@ -3,7 +3,7 @@ ghost use Rattle.std.specs.Prelude.{◌≡◌, []};
 ghost use Rattle.cg_snap.specs.PathBytes.{ArePathBytes, path_bytes_prop};
 
 use crate::event::Progress;
-use crate::plan::{Writing, line_refusal, path_refusal, take_head, take_line};
+use crate::plan::{CurrentItem, line_refusal, path_refusal, take_head, take_line};
 use crate::records::Records;
 use crate::stop::Why;
 use cg_text::ByteSet;
@@ -16,7 +16,7 @@ pub struct PlanRecords {
     pub(crate) alloc: Global,
     pub(crate) profile: Profile,
     pub(crate) begun: Vec<u8>,
-    pub(crate) present: Option<Writing>,
+    pub(crate) present: Option<CurrentItem>,
     ghost path: { ArePathBytes begun.items } by { path_bytes_prop begun.items },
 }
 
@@ -40,7 +40,7 @@ impl PlanRecords {
 impl Records for PlanRecords {
     type Part = PlanItem;
 
-    type Form = Profile;
+    type Setup = Profile;
 
     ghost use Rattle.cg_snap.specs.PlanState.{items_closed, items_go_on};
     ghost use Rattle.cg_snap.specs.Streams.{plan_stream};

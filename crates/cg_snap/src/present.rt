@@ -5,7 +5,7 @@ use cg_line::ValueReader;
 
 /// The entry whose records come.
 #[derive(Drop)]
-pub(crate) struct Present {
+pub(crate) struct CurrentEntry {
     pub(crate) path: Vec<u8>,
     pub(crate) reader: ValueReader,
     /// How many of its records have ended, or `u64::MAX` where that is more.

@@ -17,7 +17,7 @@ pub trait Pull: Records {
     /// Takes bytes until a part is there, a byte stops the stream or no memory is left; where none of these comes, the
     /// whole piece. Counts them.
     fn pull(&mut self, meter: &mut Meter, piece: &[u8]) -> Progress<Self::Part>
-        ensures pulled { (form : Self.Form) (p : List ℕ) (es : List Self.Part) →
+        ensures pulled { (form : Self.Setup) (p : List ℕ) (es : List Self.Part) →
             HasProgressed (Self.stream form) self.old meter.old p es →
             PieceDid (Self.stream form) self.new meter.new p es piece.now result.used result.what }
         ensures used { result.used ≤ length piece.now }

@@ -6,12 +6,12 @@ ghost use Rattle.cg_snap.specs.DecoderState.{HasConsumed, IsBetween, IsOfKind, I
 ghost use Rattle.cg_snap.specs.Snap.{Snap};
 
 use crate::class::readable;
-use crate::present::Present;
+use crate::present::CurrentEntry;
 use crate::stop::Why;
 use cg_value::{Profile, ReadKind};
 
 /// Why the byte can't come within a line.
-fn line_refusal(begun: &Vec<u8>, present: &Present, byte: u8) -> Option<Why>
+fn line_refusal(begun: &Vec<u8>, present: &CurrentEntry, byte: u8) -> Option<Why>
     ensures { (profile : Profile) (p : List ℕ) (es : List EntryData) →
         HasConsumed profile begun.now.items (Some present.now) p es → present.now.in_line ≡ true →
         RefusalIs profile p byte result }
@@ -24,7 +24,7 @@ fn line_refusal(begun: &Vec<u8>, present: &Present, byte: u8) -> Option<Why>
 }
 
 /// Whether the path that is begun is that of the present entry, whose file takes no further line.
-fn is_over(begun: &Vec<u8>, present: &Option<Present>) -> bool
+fn is_over(begun: &Vec<u8>, present: &Option<CurrentEntry>) -> bool
     ensures { MatchBool result (IsOver begun.now.items present.now) (TakesMore begun.now.items present.now) }
 {
     match present {
@@ -37,7 +37,7 @@ fn is_over(begun: &Vec<u8>, present: &Option<Present>) -> bool
 pub(crate) fn kind_after(
     profile: Profile,
     begun: &Vec<u8>,
-    present: &Option<Present>,
+    present: &Option<CurrentEntry>,
 ) -> Result<ReadKind, Why>
     ensures after { (p : List ℕ) (es : List EntryData) → HasConsumed profile begun.now.items present.now p es →
         IsBetween present.now → MatchResult result (λ kind. IsOfKind profile begun.now.items kind ×
@@ -54,7 +54,7 @@ pub(crate) fn kind_after(
 fn path_refusal(
     profile: Profile,
     begun: &Vec<u8>,
-    present: &Option<Present>,
+    present: &Option<CurrentEntry>,
     byte: u8,
 ) -> Option<Why>
     ensures { (p : List ℕ) (es : List EntryData) → HasConsumed profile begun.now.items present.now p es →
@@ -77,7 +77,7 @@ fn path_refusal(
 pub(crate) fn refusal(
     profile: Profile,
     begun: &Vec<u8>,
-    present: &Option<Present>,
+    present: &Option<CurrentEntry>,
     byte: u8,
 ) -> Option<Why>
     ensures { (p : List ℕ) (es : List EntryData) → HasConsumed profile begun.now.items present.now p es →

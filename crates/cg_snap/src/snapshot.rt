@@ -15,7 +15,7 @@ ghost use Rattle.cg_snap.specs.Streams.{snap_stream};
 use crate::entry::{ended, take_again, take_line};
 use crate::event::{Event, Progress};
 use crate::path::take_path;
-use crate::present::Present;
+use crate::present::CurrentEntry;
 use crate::refusal::kind_after;
 use crate::stop::{Stop, Why};
 use cg_line::ValueReader;
@@ -24,7 +24,7 @@ use std::alloc::Global;
 use std::mem;
 
 /// Whether the NUL of a record came that hasn't ended.
-fn is_in_line(present: &Option<Present>) -> bool
+fn is_in_line(present: &Option<CurrentEntry>) -> bool
     ensures { IsLineFlag present.now result }
 {
     match present {
@@ -35,7 +35,7 @@ fn is_in_line(present: &Option<Present>) -> bool
 
 /// Whether so many records have ended of the entry whose path is begun: none where it's another entry than the present
 /// one. The paths are compared only where so many have ended of the present entry.
-fn has_lines(begun: &Vec<u8>, present: &Option<Present>, count: u64) -> bool
+fn has_lines(begun: &Vec<u8>, present: &Option<CurrentEntry>, count: u64) -> bool
     ensures { (n : ℕ) → IsLineCount begun.now.items present.now n → IsTrue result ↔ count ≤ n }
 {
     if count == 0 {
@@ -49,7 +49,7 @@ fn has_lines(begun: &Vec<u8>, present: &Option<Present>, count: u64) -> bool
 }
 
 /// Whether a NUL would begin a record too many of its entry.
-pub(crate) fn is_full(begun: &Vec<u8>, present: &Option<Present>, max_lines: u64) -> bool
+pub(crate) fn is_full(begun: &Vec<u8>, present: &Option<CurrentEntry>, max_lines: u64) -> bool
     ensures { (profile : Profile) (p : List ℕ) (es : List EntryData) →
         HasConsumed profile begun.now.items present.now p es →
         FullIs (Snap profile) (IsManyRecords profile) max_lines p 0 result }
@@ -58,7 +58,7 @@ pub(crate) fn is_full(begun: &Vec<u8>, present: &Option<Present>, max_lines: u64
 }
 
 /// The entry whose path ended, of a file of this kind: its first line is begun, and no path any more.
-fn begin(alloc: Global, begun: &mut Vec<u8>, kind: ReadKind) -> Present
+fn begin(alloc: Global, begun: &mut Vec<u8>, kind: ReadKind) -> CurrentEntry
     requires { IsReadable begun.old.items kind }
     ensures path { result.path.items ≡ begun.old.items }
     ensures begun { begun.new.items ≡ [] }
@@ -66,7 +66,7 @@ fn begin(alloc: Global, begun: &mut Vec<u8>, kind: ReadKind) -> Present
     ensures lines { result.lines ≡ 0 }
     ensures in_line { result.in_line ≡ true }
 {
-    Present {
+    CurrentEntry {
         path: mem::replace(begun, Vec::new(alloc)),
         reader: ValueReader::new(alloc, kind),
         lines: 0,
@@ -79,7 +79,7 @@ fn begin(alloc: Global, begun: &mut Vec<u8>, kind: ReadKind) -> Present
 fn begin_line(
     alloc: Global,
     begun: &mut Vec<u8>,
-    present: &mut Option<Present>,
+    present: &mut Option<CurrentEntry>,
     kind: ReadKind,
 ) -> Option<Entry>
     requires path { ArePathBytes begun.old.items }
@@ -114,7 +114,7 @@ fn end_path(
     alloc: Global,
     profile: Profile,
     begun: &mut Vec<u8>,
-    present: &mut Option<Present>,
+    present: &mut Option<CurrentEntry>,
     byte: u8,
     at: u64,
     max_lines: u64,
@@ -153,7 +153,7 @@ fn take_head(
     alloc: Global,
     profile: Profile,
     begun: &mut Vec<u8>,
-    present: &mut Option<Present>,
+    present: &mut Option<CurrentEntry>,
     bytes: &[u8],
     at: u64,
     max_lines: u64,
@@ -217,7 +217,7 @@ pub(crate) fn take(
     alloc: Global,
     profile: Profile,
     begun: &mut Vec<u8>,
-    present: &mut Option<Present>,
+    present: &mut Option<CurrentEntry>,
     bytes: &[u8],
     at: u64,
     max_lines: u64,

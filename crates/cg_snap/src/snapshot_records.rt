@@ -9,7 +9,7 @@ ghost use Rattle.cg_snap.specs.RecordPlace.{IsRecordPlace};
 ghost use Rattle.cg_snap.specs.Snap.{Snap};
 
 use crate::event::Progress;
-use crate::present::Present;
+use crate::present::CurrentEntry;
 use crate::record_place::RecordPlace;
 use crate::records::Records;
 use crate::refusal::refusal;
@@ -25,12 +25,12 @@ pub struct SnapshotRecords {
     pub(crate) alloc: Global,
     pub(crate) profile: Profile,
     pub(crate) begun: Vec<u8>,
-    pub(crate) present: Option<Present>,
+    pub(crate) present: Option<CurrentEntry>,
     ghost path: { ArePathBytes begun.items } by { path_bytes_prop begun.items },
 }
 
 /// Lets go of an entry whose records have come.
-fn let_go(_present: Option<Present>) {}
+fn let_go(_present: Option<CurrentEntry>) {}
 
 impl SnapshotRecords {
     ghost use Rattle.cg_snap.specs.Decoder.{held_by_records};
@@ -108,7 +108,7 @@ impl SnapshotRecords {
 impl Records for SnapshotRecords {
     type Part = Entry;
 
-    type Form = Profile;
+    type Setup = Profile;
 
     ghost use Rattle.cg_snap.specs.DecoderState.{records_closed, records_go_on};
     ghost use Rattle.cg_snap.specs.Streams.{snap_stream};

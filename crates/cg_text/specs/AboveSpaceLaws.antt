@@ -17,8 +17,8 @@ use Rattle.cg_text.specs.Size.{HasFactor, HasSize, IsSize}
 use Rattle.cg_text.specs.Texts.{Lacks}
 use Rattle.cg_text.specs.Word.{AreWordBytes, IsWordText}
 use Rattle.cg_text.specs.WordLaws.{text_word}
-use Rattle.cg_text.specs.declared.hundredths.Form.{Form}
-use Rattle.cg_text.specs.declared.hundredths.Form.TheVariants.{Read, Written}
+use Rattle.cg_text.specs.declared.hundredths.Spelling.{Spelling}
+use Rattle.cg_text.specs.declared.hundredths.Spelling.TheVariants.{Read, Written}
 use Rattle.cg_text.specs.declared.values.Amount.{Amount}
 use Rattle.cg_text.specs.declared.values.Amount.TheVariants as amount
 use Rattle.cg_text.specs.declared.values.Clamp.{Clamp}
@@ -61,16 +61,16 @@ limit_above lo hi (limit.At n) text h = numeral_above n text h.2
 two_above : (count : ℕ) (text : List ℕ) → HasTwoDigits count text → AreAboveSpace text
 two_above count text h = rw h.text_is (above_append h.digits (46 ∷ h.tenth ∷ h.hundredth ∷ []) (numeral_above h.whole h.digits h.whole_is) (omega arith, (omega (arith, h.tenth_is), (omega (arith, h.hundredth_is), tt))))
 
-digits_are_above : (form : Form) (count : ℕ) (text : List ℕ) → HasDigits form count text → AreAboveSpace text
+digits_are_above : (form : Spelling) (count : ℕ) (text : List ℕ) → HasDigits form count text → AreAboveSpace text
 digits_are_above Read count text h = two_above count text h
 digits_are_above Written count text (inl h) = two_above count text h
 digits_are_above Written count text (inr (inl h)) = rw h.text_is (above_append h.digits (46 ∷ h.tenth ∷ []) (numeral_above h.whole h.digits h.whole_is) (omega arith, (omega (arith, h.tenth_is), tt)))
 digits_are_above Written count text (inr (inr h)) = numeral_above h.whole text h.whole_is
 
-pub hundredths_above : (form : Form) (most : ℕ) (v : Hundredths) (text : List ℕ) → IsHundredths form most v text → AreAboveSpace text
+pub hundredths_above : (form : Spelling) (most : ℕ) (v : Hundredths) (text : List ℕ) → IsHundredths form most v text → AreAboveSpace text
 hundredths_above form most v text h = digits_are_above form v.count text h.1
 
-pub clamp_above : (form : Form) (v : Clamp) (text : List ℕ) → IsClamp form v text → AreAboveSpace text
+pub clamp_above : (form : Spelling) (v : Clamp) (text : List ℕ) → IsClamp form v text → AreAboveSpace text
 clamp_above form clamp.Max text h = max_above text h
 clamp_above form (clamp.At v) text h = hundredths_above form 10000 v text h
 

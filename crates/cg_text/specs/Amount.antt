@@ -4,7 +4,7 @@ use Rattle.cg_text.specs.Decimal.{IsDecimal}
 use Rattle.cg_text.specs.Hundredths.{IsHundredths}
 use Rattle.cg_text.specs.declared.values.Amount.{Amount}
 use Rattle.cg_text.specs.declared.values.Amount.TheVariants.{Whole, Decimal, Max, Below}
-use Rattle.cg_text.specs.declared.hundredths.Form.TheVariants.{Read}
+use Rattle.cg_text.specs.declared.hundredths.Spelling.TheVariants.{Read}
 
 -- The text is a minus sign, and that of how much below 0.
 pub record IsBelow (n : ℕ) (text : List ℕ) : Type 0 where

@@ -3,8 +3,8 @@
 use Rattle.std.specs.Prelude.{◌≡◌, ℕ, ◌+◌, ◌-◌, ◌*◌, ◌≤◌, ◌⊎◌, List, [], ◌∷◌, ◌++◌}
 use Rattle.cg_text.specs.Decimal.{IsNumeral}
 use Rattle.cg_text.specs.declared.values.Hundredths.{Hundredths}
-use Rattle.cg_text.specs.declared.hundredths.Form.{Form}
-use Rattle.cg_text.specs.declared.hundredths.Form.TheVariants.{Read, Written}
+use Rattle.cg_text.specs.declared.hundredths.Spelling.{Spelling}
+use Rattle.cg_text.specs.declared.hundredths.Spelling.TheVariants.{Read, Written}
 
 abbrev pub IsDigit : ℕ → Type 0
 IsDigit c = (48 ≤ c) × (c ≤ 57)
@@ -38,10 +38,10 @@ pub record HasNoDigit (count : ℕ) (text : List ℕ) : Type 0 where
   pub count_is : count ≡ 100 * whole
 
 -- The text is that of the number: with two digits where it is read; with two, one or none where it is written.
-abbrev pub HasDigits : Form → ℕ → List ℕ → Type 0
+abbrev pub HasDigits : Spelling → ℕ → List ℕ → Type 0
 HasDigits Read count text = HasTwoDigits count text
 HasDigits Written count text = HasTwoDigits count text ⊎ (HasOneDigit count text ⊎ HasNoDigit count text)
 
 -- The text is that of a number of at most this many hundredths.
-abbrev pub IsHundredths : Form → ℕ → Hundredths → List ℕ → Type 0
+abbrev pub IsHundredths : Spelling → ℕ → Hundredths → List ℕ → Type 0
 IsHundredths form most h text = (h.count ≤ most) × HasDigits form h.count text

@@ -12,8 +12,8 @@ use Rattle.cg_text.specs.TokenLaws.{bytes_append}
 use Rattle.cg_text.specs.declared.decimal.Progress.{Progress}
 use Rattle.cg_text.specs.declared.decimal.Progress.TheVariants.{Start, Zero, Number}
 use Rattle.cg_text.specs.declared.values.Hundredths.{Hundredths}
-use Rattle.cg_text.specs.declared.hundredths.Form.{Form}
-use Rattle.cg_text.specs.declared.hundredths.Form.TheVariants.{Read, Written}
+use Rattle.cg_text.specs.declared.hundredths.Spelling.{Spelling}
+use Rattle.cg_text.specs.declared.hundredths.Spelling.TheVariants.{Read, Written}
 use Rattle.cg_text.specs.declared.hundredths.Part.{Part}
 use Rattle.cg_text.specs.declared.hundredths.Part.TheVariants.{Whole, Dot, Tenth, Hundredth}
 
@@ -28,19 +28,19 @@ append_nil [] = refl
 append_nil (x ∷ xs) = ap (λ y. x ∷ y) (append_nil xs)
 
 -- A new token: what follows a whole part is a number's digits.
-with_two : (form : Form) (count : ℕ) (text : List ℕ) → HasTwoDigits count text → HasDigits form count text
+with_two : (form : Spelling) (count : ℕ) (text : List ℕ) → HasTwoDigits count text → HasDigits form count text
 with_two Read count text h = h
 with_two Written count text h = inl h
 
-with_one : (form : Form) (count : ℕ) (text : List ℕ) → may_leave_out form ≡ true → HasOneDigit count text → HasDigits form count text
+with_one : (form : Spelling) (count : ℕ) (text : List ℕ) → may_leave_out form ≡ true → HasOneDigit count text → HasDigits form count text
 with_one Read count text e h = absurd (cc)
 with_one Written count text e h = inr (inl h)
 
-with_none : (form : Form) (count : ℕ) (text : List ℕ) → may_leave_out form ≡ true → HasNoDigit count text → HasDigits form count text
+with_none : (form : Spelling) (count : ℕ) (text : List ℕ) → may_leave_out form ≡ true → HasNoDigit count text → HasDigits form count text
 with_none Read count text e h = absurd (cc)
 with_none Written count text e h = inr (inr h)
 
-module _ (form : Form) (most : ℕ) (P : List ℕ → ℕ → Type 0) (f : (x : List ℕ) (n : ℕ) → P x n ↔ IsDecimal 0 (most / 100) n x) where
+module _ (form : Spelling) (most : ℕ) (P : List ℕ → ℕ → Type 0) (f : (x : List ℕ) (n : ℕ) → P x n ↔ IsDecimal 0 (most / 100) n x) where
   digits_from : (whole count : ℕ) (text front back : List ℕ) → text ≡ front ++ back → P front whole → AfterWhole form whole back count → HasDigits form count text
   digits_from whole count text front [] e p h = with_none form count text h.0 (record { whole = whole; whole_is = rw (e, append_nil front) (((f front whole).0 p).2); count_is = h.1 })
   digits_from whole count text front (c ∷ []) e p h = absurd h.1
@@ -95,14 +95,14 @@ module _ (form : Form) (most : ℕ) (P : List ℕ → ℕ → Type 0) (f : (x : 
     ends = (e, h.count_is);
   }
 
-digits_to : (form : Form) (most : ℕ) (P : List ℕ → ℕ → Type 0) → ((x : List ℕ) (n : ℕ) → P x n ↔ IsDecimal 0 (most / 100) n x) →
+digits_to : (form : Spelling) (most : ℕ) (P : List ℕ → ℕ → Type 0) → ((x : List ℕ) (n : ℕ) → P x n ↔ IsDecimal 0 (most / 100) n x) →
     (count : ℕ) (text : List ℕ) → count ≤ most → HasDigits form count text → WholeRest form P text count
 digits_to Read most P f count text le h = from_two Read most P f count text le h
 digits_to Written most P f count text le (inl h) = from_two Written most P f count text le h
 digits_to Written most P f count text le (inr (inl h)) = from_one Written most P f refl count text le h
 digits_to Written most P f count text le (inr (inr h)) = from_none Written most P f refl count text le h
 
-pub hundredths_new : (form : Form) (most : ℕ) (P : List ℕ → ℕ → Type 0) → ((x : List ℕ) (n : ℕ) → P x n ↔ IsDecimal 0 (most / 100) n x) →
+pub hundredths_new : (form : Spelling) (most : ℕ) (P : List ℕ → ℕ → Type 0) → ((x : List ℕ) (n : ℕ) → P x n ↔ IsDecimal 0 (most / 100) n x) →
     (text : List ℕ) (h : Hundredths) → ((h.count ≤ most) × WholeRest form P text h.count) ↔ IsHundredths form most h text
 hundredths_new form most P f text h = (
   λ k. (k.0, digits_from form most P f k.1.whole h.count text k.1.front k.1.back k.1.text_is k.1.begins k.1.ends),
@@ -114,12 +114,12 @@ abbrev EndsNumber : List ℕ → Type 0
 EndsNumber [] = Unit {0}
 EndsNumber (c ∷ cs) = c < 48
 
-after_ends : (form : Form) (whole : ℕ) (back : List ℕ) (count : ℕ) → AfterWhole form whole back count → EndsNumber back
+after_ends : (form : Spelling) (whole : ℕ) (back : List ℕ) (count : ℕ) → AfterWhole form whole back count → EndsNumber back
 after_ends form whole [] count h = tt
 after_ends form whole (c ∷ cs) count h = omega (arith, h.0)
 
 -- A digit of the whole part.
-module _ (form : Form) (byte : ℕ) (P P' : List ℕ → ℕ → Type 0) (digit : 48 ≤ byte) (f : (x : List ℕ) (n : ℕ) → P' x n ↔ P (byte ∷ x) n) where
+module _ (form : Spelling) (byte : ℕ) (P P' : List ℕ → ℕ → Type 0) (digit : 48 ≤ byte) (f : (x : List ℕ) (n : ℕ) → P' x n ↔ P (byte ∷ x) n) where
   digit_at : (text front back : List ℕ) (whole count : ℕ) → byte ∷ text ≡ front ++ back → P front whole → AfterWhole form whole back count → WholeRest form P' text count
   digit_at text [] [] whole count e p h = absurd (cc)
   digit_at text [] (c ∷ back) whole count e p h = let s : c ≡ byte = cc in absurd (omega (arith, h.0, s, digit))
@@ -158,7 +158,7 @@ digit_byte most old new byte live f =
     (whole_digits most old (byte ∷ done.0) done.1 ((f done.0 done.1).0 done.2)).0
 
 -- The dot.
-module _ (form : Form) (end : ℕ) (P : List ℕ → ℕ → Type 0) (ended : P [] end) (one : (m : ℕ) → P [] m → m ≡ end) (digits : (x : List ℕ) (m : ℕ) → P x m → AreDigits x) where
+module _ (form : Spelling) (end : ℕ) (P : List ℕ → ℕ → Type 0) (ended : P [] end) (one : (m : ℕ) → P [] m → m ≡ end) (digits : (x : List ℕ) (m : ℕ) → P x m → AreDigits x) where
   dot_at : (text front back : List ℕ) (whole count : ℕ) → 46 ∷ text ≡ front ++ back → P front whole → AfterWhole form whole back count → AfterDot form (100 * end) text count
   dot_at text [] [] whole count e p h = absurd (cc)
   dot_at text [] (c ∷ back) whole count e p h =
@@ -173,7 +173,7 @@ module _ (form : Form) (end : ℕ) (P : List ℕ → ℕ → Type 0) (ended : P 
   )
 
 -- No dot stands inside a number, or before it may end.
-module _ (form : Form) (P : List ℕ → ℕ → Type 0) (digits : (x : List ℕ) (m : ℕ) → P x m → AreDigits x) (goes_on : (n : ℕ) → P [] n → ⊥) where
+module _ (form : Spelling) (P : List ℕ → ℕ → Type 0) (digits : (x : List ℕ) (m : ℕ) → P x m → AreDigits x) (goes_on : (n : ℕ) → P [] n → ⊥) where
   no_dot_at : (text front back : List ℕ) (whole : ℕ) → 46 ∷ text ≡ front ++ back → P front whole → ⊥
   no_dot_at text [] back whole e p = goes_on whole p
   no_dot_at text (x ∷ front) back whole e p = let s : x ≡ 46 = cc in omega (arith, s, (digits (x ∷ front) whole p).0)
@@ -182,14 +182,14 @@ module _ (form : Form) (P : List ℕ → ℕ → Type 0) (digits : (x : List ℕ
   whole_dot_none text count h = no_dot_at text h.front h.back h.whole h.text_is h.begins
 
 -- A byte that neither goes on with the number nor is a dot after it.
-module _ (form : Form) (byte : ℕ) (P : List ℕ → ℕ → Type 0) (none : (x : List ℕ) (n : ℕ) → P (byte ∷ x) n → ⊥) (no_dot : byte ≡ 46 → (n : ℕ) → P [] n → ⊥) where
+module _ (form : Spelling) (byte : ℕ) (P : List ℕ → ℕ → Type 0) (none : (x : List ℕ) (n : ℕ) → P (byte ∷ x) n → ⊥) (no_dot : byte ≡ 46 → (n : ℕ) → P [] n → ⊥) where
   none_at : (text front back : List ℕ) (whole count : ℕ) → byte ∷ text ≡ front ++ back → P front whole → AfterWhole form whole back count → ⊥
   none_at text [] [] whole count e p h = cc
   none_at text [] (c ∷ back) whole count e p h = let s : c ≡ byte = cc in no_dot (sym s ∙ h.0) whole p
   none_at text (x ∷ front) back whole count e p h = let s : x ≡ byte = cc in none front whole (rw s at p)
 
 -- Every state can be completed.
-pub hundredths_completes : (form : Form) (most : ℕ) (part : Part) → IsWithin most part → (rest : List ℕ) × (h : Hundredths) × HundredthsRest form most part rest h
+pub hundredths_completes : (form : Spelling) (most : ℕ) (part : Part) → IsWithin most part → (rest : List ℕ) × (h : Hundredths) × HundredthsRest form most part rest h
 hundredths_completes form most (Whole progress) w =
     let done = whole_completes most progress w in (
       done.0 ++ 46 ∷ 48 ∷ 48 ∷ [],
@@ -211,7 +211,7 @@ hundredths_completes form most (Tenth base) w = (48 ∷ [], record { count = bas
 hundredths_completes form most (Hundredth base) w = ([], record { count = base }, (w, (refl, refl)))
 
 -- Nothing need follow exactly where the empty rest has a number.
-whole_ends_from : (form : Form) (most : ℕ) (P : List ℕ → ℕ → Type 0) (e : Bool) → IsTrue e ↔ ((n : ℕ) × P [] n) →
+whole_ends_from : (form : Spelling) (most : ℕ) (P : List ℕ → ℕ → Type 0) (e : Bool) → IsTrue e ↔ ((n : ℕ) × P [] n) →
     ((rest : List ℕ) (n : ℕ) → P rest n → 100 * n ≤ most) → IsTrue (may_leave_out form && e) →
     (h : Hundredths) × ((h.count ≤ most) × WholeRest form P [] h.count)
 whole_ends_from form most P e is w t =
@@ -219,14 +219,14 @@ whole_ends_from form most P e is w t =
     let n = is.0 both.1 in
     (record { count = 100 * n.0 }, (w [] n.0 n.1, record { whole = n.0; front = []; back = []; text_is = refl; begins = n.1; ends = (both.0, refl) }))
 
-whole_ends_at : (form : Form) (P : List ℕ → ℕ → Type 0) (e : Bool) → IsTrue e ↔ ((n : ℕ) × P [] n) →
+whole_ends_at : (form : Spelling) (P : List ℕ → ℕ → Type 0) (e : Bool) → IsTrue e ↔ ((n : ℕ) × P [] n) →
     (front back : List ℕ) (whole count : ℕ) → [] ≡ front ++ back → P front whole →
     AfterWhole form whole back count → IsTrue (may_leave_out form && e)
 whole_ends_at form P e is [] [] whole count t p h = and_from (may_leave_out form) e h.0 (is.1 (whole, p))
 whole_ends_at form P e is [] (c ∷ back) whole count t p h = absurd (cc)
 whole_ends_at form P e is (x ∷ front) back whole count t p h = absurd (cc)
 
-pub hundredths_ends_is : (form : Form) (most : ℕ) (part : Part) → IsWithin most part → IsTrue (hundredths_ends form most part) ↔ ((h : Hundredths) × HundredthsRest form most part [] h)
+pub hundredths_ends_is : (form : Spelling) (most : ℕ) (part : Part) → IsWithin most part → IsTrue (hundredths_ends form most part) ↔ ((h : Hundredths) × HundredthsRest form most part [] h)
 hundredths_ends_is form most (Whole progress) w =
     let is = whole_ends_is most progress in (
       λ t. whole_ends_from form most (WholePart most progress) (whole_ends most progress) is (whole_within most progress) t,
@@ -249,19 +249,19 @@ split_one (x ∷ front) (y ∷ front') back back' d d' n n' e =
     let again = split_one front front' back back' d.2 d'.2 n n' more in
     (rw (s, again.0) refl, again.1)
 
-tenth_one : (form : Form) (base : ℕ) (rest : List ℕ) (m n : ℕ) → AfterTenth form base rest m → AfterTenth form base rest n → m ≡ n
+tenth_one : (form : Spelling) (base : ℕ) (rest : List ℕ) (m n : ℕ) → AfterTenth form base rest m → AfterTenth form base rest n → m ≡ n
 tenth_one form base [] m n h k = h.1 ∙ sym k.1
 tenth_one form base (c ∷ cs) m n h k = h.2 ∙ sym k.2
 
-dot_one : (form : Form) (base : ℕ) (rest : List ℕ) (m n : ℕ) → AfterDot form base rest m → AfterDot form base rest n → m ≡ n
+dot_one : (form : Spelling) (base : ℕ) (rest : List ℕ) (m n : ℕ) → AfterDot form base rest m → AfterDot form base rest n → m ≡ n
 dot_one form base [] m n h k = absurd h
 dot_one form base (c ∷ cs) m n h k = tenth_one form (base + 10 * (c - 48)) cs m n h.1 k.1
 
-after_one : (form : Form) (whole : ℕ) (rest : List ℕ) (m n : ℕ) → AfterWhole form whole rest m → AfterWhole form whole rest n → m ≡ n
+after_one : (form : Spelling) (whole : ℕ) (rest : List ℕ) (m n : ℕ) → AfterWhole form whole rest m → AfterWhole form whole rest n → m ≡ n
 after_one form whole [] m n h k = h.1 ∙ sym k.1
 after_one form whole (c ∷ cs) m n h k = dot_one form (100 * whole) cs m n h.1 k.1
 
-whole_one : (form : Form) (P : List ℕ → ℕ → Type 0) → ((x : List ℕ) (m : ℕ) → P x m → AreDigits x) → ((x : List ℕ) (m n : ℕ) → P x m → P x n → m ≡ n) →
+whole_one : (form : Spelling) (P : List ℕ → ℕ → Type 0) → ((x : List ℕ) (m : ℕ) → P x m → AreDigits x) → ((x : List ℕ) (m n : ℕ) → P x m → P x n → m ≡ n) →
     (rest : List ℕ) (m n : ℕ) → WholeRest form P rest m → WholeRest form P rest n → m ≡ n
 whole_one form P digits one rest m n h k =
     let s = split_one h.front k.front h.back k.back (digits h.front h.whole h.begins) (digits k.front k.whole k.begins) (after_ends form h.whole h.back m h.ends) (after_ends form k.whole k.back n k.ends) (sym h.text_is ∙ k.text_is) in
@@ -271,33 +271,33 @@ whole_one form P digits one rest m n h k =
 count_one : (m n : ℕ) → m ≡ n → (let r : Hundredths = record { count = m } in r) ≡ record { count = n }
 count_one m n e = ap (λ c. record { count = c }) e
 
-part_one : (form : Form) (most : ℕ) (part : Part) (rest : List ℕ) (m n : ℕ) → PartRest form most part rest m → PartRest form most part rest n → m ≡ n
+part_one : (form : Spelling) (most : ℕ) (part : Part) (rest : List ℕ) (m n : ℕ) → PartRest form most part rest m → PartRest form most part rest n → m ≡ n
 part_one form most (Whole progress) rest m n h k = whole_one form (WholePart most progress) (whole_digits most progress) (whole_is_one most progress) rest m n h k
 part_one form most (Dot base) rest m n h k = dot_one form base rest m n h k
 part_one form most (Tenth base) rest m n h k = tenth_one form base rest m n h k
 part_one form most (Hundredth base) rest m n h k = h.1 ∙ sym k.1
 
-pub hundredths_one : (form : Form) (most : ℕ) (part : Part) (rest : List ℕ) (v w : Hundredths) → HundredthsRest form most part rest v → HundredthsRest form most part rest w → v ≡ w
+pub hundredths_one : (form : Spelling) (most : ℕ) (part : Part) (rest : List ℕ) (v w : Hundredths) → HundredthsRest form most part rest v → HundredthsRest form most part rest w → v ≡ w
 hundredths_one form most part rest v w h k = count_one v.count w.count (part_one form most part rest v.count w.count h.1 k.1)
 
 -- A rest holds bytes.
-tenth_bytes : (form : Form) (base : ℕ) (rest : List ℕ) (count : ℕ) → AfterTenth form base rest count → AreBytes rest
+tenth_bytes : (form : Spelling) (base : ℕ) (rest : List ℕ) (count : ℕ) → AfterTenth form base rest count → AreBytes rest
 tenth_bytes form base [] count h = tt
 tenth_bytes form base (c ∷ cs) count h = (omega (arith, h.0.1), rw h.1 tt)
 
-dot_bytes : (form : Form) (base : ℕ) (rest : List ℕ) (count : ℕ) → AfterDot form base rest count → AreBytes rest
+dot_bytes : (form : Spelling) (base : ℕ) (rest : List ℕ) (count : ℕ) → AfterDot form base rest count → AreBytes rest
 dot_bytes form base [] count h = tt
 dot_bytes form base (c ∷ cs) count h = (omega (arith, h.0.1), tenth_bytes form (base + 10 * (c - 48)) cs count h.1)
 
-after_bytes : (form : Form) (whole : ℕ) (rest : List ℕ) (count : ℕ) → AfterWhole form whole rest count → AreBytes rest
+after_bytes : (form : Spelling) (whole : ℕ) (rest : List ℕ) (count : ℕ) → AfterWhole form whole rest count → AreBytes rest
 after_bytes form whole [] count h = tt
 after_bytes form whole (c ∷ cs) count h = (omega (arith, h.0), dot_bytes form (100 * whole) cs count h.1)
 
-part_bytes : (form : Form) (most : ℕ) (part : Part) (rest : List ℕ) (count : ℕ) → PartRest form most part rest count → AreBytes rest
+part_bytes : (form : Spelling) (most : ℕ) (part : Part) (rest : List ℕ) (count : ℕ) → PartRest form most part rest count → AreBytes rest
 part_bytes form most (Whole progress) rest count h = rw h.text_is (bytes_append h.front h.back (digits_bytes h.front (whole_digits most progress h.front h.whole h.begins)) (after_bytes form h.whole h.back count h.ends))
 part_bytes form most (Dot base) rest count h = dot_bytes form base rest count h
 part_bytes form most (Tenth base) rest count h = tenth_bytes form base rest count h
 part_bytes form most (Hundredth base) rest count h = rw h.0 tt
 
-pub hundredths_bytes : (form : Form) (most : ℕ) (part : Part) (rest : List ℕ) (h : Hundredths) → HundredthsRest form most part rest h → AreBytes rest
+pub hundredths_bytes : (form : Spelling) (most : ℕ) (part : Part) (rest : List ℕ) (h : Hundredths) → HundredthsRest form most part rest h → AreBytes rest
 hundredths_bytes form most part rest h k = part_bytes form most part rest h.count k.1

@@ -5,33 +5,33 @@ use Rattle.cg_text.specs.Hundredths.{IsDigit}
 use Rattle.cg_text.specs.declared.decimal.Progress.{Progress}
 use Rattle.cg_text.specs.declared.decimal.Progress.TheVariants.{Start, Zero, Number}
 use Rattle.cg_text.specs.declared.values.Hundredths.{Hundredths}
-use Rattle.cg_text.specs.declared.hundredths.Form.{Form}
-use Rattle.cg_text.specs.declared.hundredths.Form.TheVariants.{Read, Written}
+use Rattle.cg_text.specs.declared.hundredths.Spelling.{Spelling}
+use Rattle.cg_text.specs.declared.hundredths.Spelling.TheVariants.{Read, Written}
 use Rattle.cg_text.specs.declared.hundredths.Part.{Part}
 use Rattle.cg_text.specs.declared.hundredths.Part.TheVariants.{Whole, Dot, Tenth, Hundredth}
 
 -- Digits after the dot may be left out.
-abbrev pub may_leave_out : Form → Bool
+abbrev pub may_leave_out : Spelling → Bool
 may_leave_out Read = false
 may_leave_out Written = true
 
 -- What follows one digit after the dot, where there are so many hundredths up to it.
-abbrev pub AfterTenth : Form → ℕ → List ℕ → ℕ → Type 0
+abbrev pub AfterTenth : Spelling → ℕ → List ℕ → ℕ → Type 0
 AfterTenth form base [] count = (may_leave_out form ≡ true) × (count ≡ base)
 AfterTenth form base (c ∷ cs) count = IsDigit c × (cs ≡ []) × (count ≡ base + (c - 48))
 
 -- What follows the dot.
-abbrev pub AfterDot : Form → ℕ → List ℕ → ℕ → Type 0
+abbrev pub AfterDot : Spelling → ℕ → List ℕ → ℕ → Type 0
 AfterDot form base [] count = ⊥
 AfterDot form base (c ∷ cs) count = IsDigit c × AfterTenth form (base + 10 * (c - 48)) cs count
 
 -- What follows the whole part.
-abbrev pub AfterWhole : Form → ℕ → List ℕ → ℕ → Type 0
+abbrev pub AfterWhole : Spelling → ℕ → List ℕ → ℕ → Type 0
 AfterWhole form whole [] count = (may_leave_out form ≡ true) × (count ≡ 100 * whole)
 AfterWhole form whole (c ∷ cs) count = (c ≡ 46) × AfterDot form (100 * whole) cs count
 
 -- What is left of the whole part by P, and what follows.
-pub record WholeRest (form : Form) (P : List ℕ → ℕ → Type 0) (text : List ℕ) (count : ℕ) : Type 0 where
+pub record WholeRest (form : Spelling) (P : List ℕ → ℕ → Type 0) (text : List ℕ) (count : ℕ) : Type 0 where
   pub whole : ℕ
   pub front : List ℕ
   pub back : List ℕ
@@ -50,14 +50,14 @@ whole_ends most Zero = true
 whole_ends most (Number n) = leb n (most / 100)
 
 -- The rest completes a count.
-abbrev pub PartRest : Form → ℕ → Part → List ℕ → ℕ → Type 0
+abbrev pub PartRest : Spelling → ℕ → Part → List ℕ → ℕ → Type 0
 PartRest form most (Whole progress) rest count = WholeRest form (WholePart most progress) rest count
 PartRest form most (Dot base) rest count = AfterDot form base rest count
 PartRest form most (Tenth base) rest count = AfterTenth form base rest count
 PartRest form most (Hundredth base) rest count = (rest ≡ []) × (count ≡ base)
 
 -- The rest completes a number of at most this many hundredths.
-abbrev pub HundredthsRest : Form → ℕ → Part → List ℕ → Hundredths → Type 0
+abbrev pub HundredthsRest : Spelling → ℕ → Part → List ℕ → Hundredths → Type 0
 HundredthsRest form most part rest h = (h.count ≤ most) × PartRest form most part rest h.count
 
 -- What was taken can be completed to at most so many hundredths.
@@ -68,7 +68,7 @@ IsWithin most (Tenth base) = base ≤ most
 IsWithin most (Hundredth base) = base ≤ most
 
 -- Whether nothing need follow.
-abbrev pub hundredths_ends : Form → ℕ → Part → Bool
+abbrev pub hundredths_ends : Spelling → ℕ → Part → Bool
 hundredths_ends form most (Whole progress) = may_leave_out form && whole_ends most progress
 hundredths_ends form most (Dot base) = false
 hundredths_ends form most (Tenth base) = may_leave_out form

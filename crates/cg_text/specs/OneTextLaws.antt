@@ -7,7 +7,7 @@ use Rattle.cg_text.specs.Hundredths.{IsHundredths, HasTwoDigits}
 use Rattle.cg_text.specs.Limit.{IsLimit}
 use Rattle.cg_text.specs.NumeralLaws.{numeral_one_text}
 use Rattle.cg_text.specs.Param.{IsParam}
-use Rattle.cg_text.specs.declared.hundredths.Form.TheVariants.{Read}
+use Rattle.cg_text.specs.declared.hundredths.Spelling.TheVariants.{Read}
 use Rattle.cg_text.specs.declared.values.Amount.{Amount}
 use Rattle.cg_text.specs.declared.values.Amount.TheVariants as amount
 use Rattle.cg_text.specs.declared.values.Device.{Device}

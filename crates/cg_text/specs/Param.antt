@@ -5,7 +5,7 @@ use Rattle.cg_text.specs.Hundredths.{IsHundredths}
 use Rattle.cg_text.specs.Name.{IsNameValue}
 use Rattle.cg_text.specs.declared.values.ParamValue.{ParamValue}
 use Rattle.cg_text.specs.declared.values.ParamValue.TheVariants.{Whole, Decimal, Name}
-use Rattle.cg_text.specs.declared.hundredths.Form.TheVariants.{Read}
+use Rattle.cg_text.specs.declared.hundredths.Spelling.TheVariants.{Read}
 
 -- The text is that of a whole number, that of one with two decimals, whose whole part is at most 999999999, or a name value.
 abbrev pub IsParam : ParamValue → List ℕ → Type 0

@@ -13,19 +13,19 @@ use crate::values::Hundredths;
 
 /// How hundredths are spelled: with exactly two digits after the dot, or, as they may be written, with fewer.
 #[derive(Clone, Copy, Debug, PartialEq, Eq)]
-pub enum Form {
+pub enum Spelling {
     Read,
     Written,
 }
 
-impl Form {
+impl Spelling {
     /// Whether digits after the dot may be left out.
     fn may_leave_out(self) -> bool
         ensures { result ≡ may_leave_out self }
     {
         match self {
-            Form::Read => false,
-            Form::Written => true,
+            Spelling::Read => false,
+            Spelling::Written => true,
         }
     }
 }
@@ -46,7 +46,7 @@ enum Part {
 /// Hundredths of at most `most`, in a form.
 #[derive(Clone, Copy, Drop)]
 pub struct HundredthsText {
-    form: Form,
+    form: Spelling,
     most: u64,
     part: Part,
     ghost within: { IsWithin most part } by { IsWithin_prop most part },
@@ -95,7 +95,7 @@ fn whole_part(most: u64, progress: Progress) -> u64
 
 /// The state after one more byte, where some rest begins with it.
 #[inline(always)]
-fn after(form: Form, most: u64, part: Part, byte: u8) -> Option<Part>
+fn after(form: Spelling, most: u64, part: Part, byte: u8) -> Option<Part>
     requires { IsWithin most part }
     ensures follows { MatchOption result (NoneBegins (HundredthsRest form most) part byte)
         (Follows (HundredthsRest form most) part byte) }
@@ -129,7 +129,7 @@ fn after(form: Form, most: u64, part: Part, byte: u8) -> Option<Part>
 
 impl HundredthsText {
     /// A token of the numbers of at most `most` hundredths, in the form.
-    pub fn new(form: Form, most: u64) -> HundredthsText
+    pub fn new(form: Spelling, most: u64) -> HundredthsText
         ensures spells { Spells ⟦<HundredthsText as Token>⟧.means result (λ rest h. IsHundredths form most h rest) }
         ensures size { ⟦<HundredthsText as Token>⟧.size result ≡ 0 }
     {

@@ -34,7 +34,7 @@ pub use count::count_before;
 pub use decimal::DecimalText;
 pub use fixed::FixedText;
 pub use hash::hash_of;
-pub use hundredths::{Form, HundredthsText};
+pub use hundredths::{HundredthsText, Spelling};
 pub use items::Items;
 pub use key::{Key, KeyFault};
 pub use keyword::{Keyword, KeywordText};

@@ -10,7 +10,7 @@ use Rattle.cg_text.specs.ListFacts.{not_nil}
 use Rattle.cg_text.specs.NumeralLaws.{decimal_is}
 use Rattle.cg_text.specs.Signed.{IsSigned}
 use Rattle.cg_text.specs.Word.{IsControllerWord}
-use Rattle.cg_text.specs.declared.hundredths.Form.TheVariants.{Read}
+use Rattle.cg_text.specs.declared.hundredths.Spelling.TheVariants.{Read}
 use Rattle.cg_text.specs.declared.values.Clamp.TheVariants as clamp
 use Rattle.cg_text.specs.declared.values.Limit.TheVariants as limit
 use Rattle.cg_value.specs.Files.{ReadLines, KindFile}

@@ -7,7 +7,7 @@ use Rattle.cg_text.specs.Distinct.{AreDistinct}
 use Rattle.cg_text.specs.Limit.{IsLimit}
 use Rattle.cg_text.specs.List.{IsStrictList}
 use Rattle.cg_text.specs.Signed.{IsSigned}
-use Rattle.cg_text.specs.declared.hundredths.Form.TheVariants.{Read}
+use Rattle.cg_text.specs.declared.hundredths.Spelling.TheVariants.{Read}
 use Rattle.cg_text.specs.declared.values.Clamp.{Clamp}
 use Rattle.cg_text.specs.declared.values.Limit.{Limit}
 use Rattle.cg_value.specs.Files.{IsMadeOf, ReadLines, Fits}

@@ -11,7 +11,7 @@ use Rattle.cg_text.specs.List.{IsLooseRangeText, AreLooseTexts, IsLooseList}
 use Rattle.cg_text.specs.Numbers.{IsSetFrom, IsSet, Has}
 use Rattle.cg_text.specs.Signed.{IsSigned, IsSignedNumeral}
 use Rattle.cg_text.specs.Word.{IsControllerWord}
-use Rattle.cg_text.specs.declared.hundredths.Form.TheVariants.{Written}
+use Rattle.cg_text.specs.declared.hundredths.Spelling.TheVariants.{Written}
 use Rattle.cg_text.specs.declared.pairs.LimitKey.{LimitKey}
 use Rattle.cg_text.specs.declared.pairs.LimitKey.TheVariants.{Rbps, Wbps, Riops, Wiops}
 use Rattle.cg_text.specs.declared.pairs.LimitPairs.{LimitPairs}

@@ -18,7 +18,7 @@ use Rattle.cg_text.specs.Texts.{Lacks}
 use Rattle.cg_text.specs.Token.{AreBytes}
 use Rattle.cg_text.specs.Trigger.{AreTimes}
 use Rattle.cg_text.specs.Word.{AreWordBytes, IsControllerWord}
-use Rattle.cg_text.specs.declared.hundredths.Form.TheVariants.{Written}
+use Rattle.cg_text.specs.declared.hundredths.Spelling.TheVariants.{Written}
 use Rattle.cg_text.specs.declared.pairs.LimitKey.{LimitKey}
 use Rattle.cg_text.specs.declared.pairs.LimitKey.TheVariants.{Rbps, Wbps, Riops, Wiops}
 use Rattle.cg_text.specs.declared.pairs.LimitPairs.{LimitPairs}

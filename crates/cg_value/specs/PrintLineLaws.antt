@@ -12,7 +12,7 @@ use Rattle.cg_text.specs.Limit.{IsLimit}
 use Rattle.cg_text.specs.List.{IsRangeText, AreRangeTexts}
 use Rattle.cg_text.specs.NumeralLaws.{numeral_is_decimal}
 use Rattle.cg_text.specs.Signed.{IsSignedNumeral}
-use Rattle.cg_text.specs.declared.hundredths.Form.TheVariants.{Read}
+use Rattle.cg_text.specs.declared.hundredths.Spelling.TheVariants.{Read}
 use Rattle.cg_text.specs.declared.values.Amount.{Amount}
 use Rattle.cg_text.specs.declared.values.Amount.TheVariants as amount
 use Rattle.cg_text.specs.declared.values.Clamp.{Clamp}

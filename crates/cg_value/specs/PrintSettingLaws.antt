@@ -8,7 +8,7 @@ use Rattle.cg_text.specs.Limit.{IsLimit}
 use Rattle.cg_text.specs.List.{IsLooseList}
 use Rattle.cg_text.specs.NumeralLaws.{signed_decimal_is}
 use Rattle.cg_text.specs.Signed.{IsSigned}
-use Rattle.cg_text.specs.declared.hundredths.Form.TheVariants.{Written}
+use Rattle.cg_text.specs.declared.hundredths.Spelling.TheVariants.{Written}
 use Rattle.cg_text.specs.declared.trigger.Times.{Times}
 use Rattle.cg_text.specs.declared.values.Device.{Device}
 use Rattle.cg_text.specs.declared.values.Limit.{Limit}

@@ -10,8 +10,8 @@ use Rattle.cg_text.specs.List.{IsRangeText, AreRangeTexts, IsLooseRangeText, Are
 use Rattle.cg_text.specs.NumeralLaws.{decimal_is, decimal_numeral, plain_size}
 use Rattle.cg_text.specs.Numbers.{IsSetFrom}
 use Rattle.cg_text.specs.Size.{IsSize}
-use Rattle.cg_text.specs.declared.hundredths.Form.{Form}
-use Rattle.cg_text.specs.declared.hundredths.Form.TheVariants.{Read, Written}
+use Rattle.cg_text.specs.declared.hundredths.Spelling.{Spelling}
+use Rattle.cg_text.specs.declared.hundredths.Spelling.TheVariants.{Read, Written}
 use Rattle.cg_text.specs.declared.values.Clamp.{Clamp}
 use Rattle.cg_text.specs.declared.values.Clamp.TheVariants as clamp
 use Rattle.cg_text.specs.declared.values.Device.{Device}
@@ -46,14 +46,14 @@ two_digits_print h b = record {
 }
 
 -- Two digits are a form of every number.
-two_digits_has : (form : Form) (count : ℕ) (text : List ℕ) → HasTwoDigits count text → HasDigits form count text
+two_digits_has : (form : Spelling) (count : ℕ) (text : List ℕ) → HasTwoDigits count text → HasDigits form count text
 two_digits_has Read count text h = h
 two_digits_has Written count text h = inl h
 
-pub hundredths_print : (form : Form) (most : ℕ) (h : Hundredths) → h.count ≤ most → most ≤ any_u64 → IsHundredths form most h (print_hundredths h)
+pub hundredths_print : (form : Spelling) (most : ℕ) (h : Hundredths) → h.count ≤ most → most ≤ any_u64 → IsHundredths form most h (print_hundredths h)
 hundredths_print form most h le b = (le, two_digits_has form h.count (print_hundredths h) (two_digits_print h (omega arith)))
 
-pub clamp_prints : (form : Form) (c : Clamp) → IsClampWithin c → IsClamp form c (print_clamp c)
+pub clamp_prints : (form : Spelling) (c : Clamp) → IsClampWithin c → IsClamp form c (print_clamp c)
 clamp_prints form clamp.Max h = refl
 clamp_prints form (clamp.At s) h = hundredths_print form 10000 s h (omega arith)
 

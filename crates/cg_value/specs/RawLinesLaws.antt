@@ -18,7 +18,7 @@ use Rattle.cg_text.specs.RawLaws.{raw_append}
 use Rattle.cg_text.specs.Signed.{IsSignedNumeral}
 use Rattle.cg_text.specs.Token.{AreBytes}
 use Rattle.cg_text.specs.Word.{AreWordBytes, IsWord, IsControllerWord}
-use Rattle.cg_text.specs.declared.hundredths.Form.TheVariants.{Read}
+use Rattle.cg_text.specs.declared.hundredths.Spelling.TheVariants.{Read}
 use Rattle.cg_text.specs.declared.values.Amount.{Amount}
 use Rattle.cg_text.specs.declared.values.Amount.TheVariants as amount
 use Rattle.cg_text.specs.declared.values.Clamp.{Clamp}

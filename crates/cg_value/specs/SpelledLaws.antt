@@ -19,7 +19,7 @@ use Rattle.cg_text.specs.Numbers.{IsSet, IsSetFrom}
 use Rattle.cg_text.specs.Raw.{IsRawLine}
 use Rattle.cg_text.specs.Signed.{IsSignedNumeral, IsSigned}
 use Rattle.cg_text.specs.Word.{IsControllerWord}
-use Rattle.cg_text.specs.declared.hundredths.Form.TheVariants.{Read}
+use Rattle.cg_text.specs.declared.hundredths.Spelling.TheVariants.{Read}
 use Rattle.cg_text.specs.declared.values.Device.{Device}
 use Rattle.cg_text.specs.declared.values.Hundredths.{Hundredths}
 use Rattle.cg_text.specs.declared.values.Amount.{Amount}

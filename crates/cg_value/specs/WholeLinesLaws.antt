@@ -8,7 +8,7 @@ use Rattle.cg_text.specs.Limit.{IsLimit}
 use Rattle.cg_text.specs.List.{IsStrictList}
 use Rattle.cg_text.specs.Signed.{IsSigned}
 use Rattle.cg_text.specs.Texts.{Viable}
-use Rattle.cg_text.specs.declared.hundredths.Form.TheVariants.{Read}
+use Rattle.cg_text.specs.declared.hundredths.Spelling.TheVariants.{Read}
 use Rattle.cg_text.specs.declared.values.Limit.{Limit}
 use Rattle.cg_value.specs.Files.{ReadLines, KindFile}
 use Rattle.cg_value.specs.Kind.{any_u64}

@@ -12,7 +12,7 @@ use Rattle.cg_text.specs.Signed.{IsSigned}
 use Rattle.cg_text.specs.Size.{IsSize}
 use Rattle.cg_text.specs.Trigger.{AreTimes}
 use Rattle.cg_text.specs.Word.{IsControllerWord}
-use Rattle.cg_text.specs.declared.hundredths.Form.TheVariants.{Written}
+use Rattle.cg_text.specs.declared.hundredths.Spelling.TheVariants.{Written}
 use Rattle.cg_text.specs.declared.pairs.LimitPairs.{LimitPairs}
 use Rattle.cg_text.specs.declared.trigger.Times.{Times}
 use Rattle.cg_text.specs.declared.values.Device.{Device}

@@ -10,7 +10,7 @@ ghost use Rattle.cg_text.specs.Hundredths.{IsHundredths};
 ghost use Rattle.cg_text.specs.Limit.{IsLimit};
 ghost use Rattle.cg_text.specs.Raw.{IsRawLine};
 ghost use Rattle.cg_text.specs.Signed.{IsSigned};
-ghost use Rattle.cg_text.specs.declared.hundredths.Form.TheVariants.{Read};
+ghost use Rattle.cg_text.specs.declared.hundredths.Spelling.TheVariants.{Read};
 ghost use Rattle.cg_value.specs.Kind.{any_u64};
 ghost use Rattle.cg_value.specs.Lines.{IsKey};
 ghost use Rattle.cg_value.specs.ReadLine.{AreAverages, IsFlatLine, IsLimitLine, IsNestedLine, IsNestedPair, IsStatLine, IsStatPair, IsTargetLine, IsWeightLine};

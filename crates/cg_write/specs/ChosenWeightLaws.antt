@@ -6,22 +6,22 @@ use Rattle.cg_join.specs.BeginsLaws.{decimal_begins, fixed_begins}
 use Rattle.cg_join.specs.DisjointLaws.{digits_disjoint}
 use Rattle.cg_join.specs.FilledLaws.{fixed_filled}
 use Rattle.cg_join.specs.LackingLaws.{decimal_lacking, either_lacking, fixed_lacking}
-use Rattle.cg_join.specs.Spelling.{Disjoint, IsTurned}
+use Rattle.cg_join.specs.Spelling.{Disjoint, IsMappedText}
 use Rattle.cg_join.specs.TextBytes.{IsFixed, Lacking}
 use Rattle.cg_join.specs.declared.choice.Either.{Either}
 use Rattle.cg_join.specs.declared.choice.Either.TheVariants.{Left, Right}
 use Rattle.cg_write.specs.Texts.{IsChosen, IsWeight, IsWordOrWeight}
-use Rattle.cg_write.specs.Turned.{chosen_weight}
+use Rattle.cg_write.specs.Mapped.{chosen_weight}
 
 chosen_from : (most : ℕ) (text : List ℕ) (v : Either (Unit {0}) ℕ) → IsWordOrWeight most text v → IsChosen most text (chosen_weight v)
 chosen_from most text (Left u) h = h
 chosen_from most text (Right n) h = h
 
-chosen_to : (most : ℕ) (text : List ℕ) (w : Option ℕ) → IsChosen most text w → IsTurned (IsWordOrWeight most) chosen_weight text w
+chosen_to : (most : ℕ) (text : List ℕ) (w : Option ℕ) → IsChosen most text w → IsMappedText (IsWordOrWeight most) chosen_weight text w
 chosen_to most text None h = (Left tt, h, refl)
 chosen_to most text (Some n) h = (Right n, h, refl)
 
-pub chosen_is : (most : ℕ) (text : List ℕ) (w : Option ℕ) → IsTurned (IsWordOrWeight most) chosen_weight text w ↔ IsChosen most text w
+pub chosen_is : (most : ℕ) (text : List ℕ) (w : Option ℕ) → IsMappedText (IsWordOrWeight most) chosen_weight text w ↔ IsChosen most text w
 chosen_is most text w = (λ h. (let k = chosen_from most text h.0 h.1 in rw h.2 at k), λ h. chosen_to most text w h)
 
 pub word_no_weight : (most : ℕ) → Disjoint (IsFixed (text_of word.Default)) (IsWeight most)

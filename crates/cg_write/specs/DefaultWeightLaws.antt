@@ -7,12 +7,12 @@ use Rattle.cg_join.specs.CutLaws.{label_is}
 use Rattle.cg_join.specs.DisjointLaws.{begins_disjoint}
 use Rattle.cg_join.specs.FilledLaws.{decimal_is_filled}
 use Rattle.cg_join.specs.LackingLaws.{concat_lacking, digits_lacking, either_lacking}
-use Rattle.cg_join.specs.Spelling.{Disjoint, IsConcat, IsTurned}
+use Rattle.cg_join.specs.Spelling.{Disjoint, IsConcat, IsMappedText}
 use Rattle.cg_join.specs.TextBytes.{IsFixed, Lacking}
 use Rattle.cg_join.specs.declared.choice.Either.{Either}
 use Rattle.cg_join.specs.declared.choice.Either.TheVariants.{Left, Right}
 use Rattle.cg_write.specs.Texts.{IsDefault, IsNamedWeight, IsPlainOrNamed, IsWeight}
-use Rattle.cg_write.specs.Turned.{default_weight}
+use Rattle.cg_write.specs.Mapped.{default_weight}
 
 word_to : (most : ℕ) (text : List ℕ) (v : Unit {0} × (Unit {0} × ℕ)) → IsNamedWeight most text v → IsDefault most text v.1.1
 word_to most text v h =
@@ -24,7 +24,7 @@ default_from : (most : ℕ) (text : List ℕ) (v : Either ℕ (Unit {0} × (Unit
 default_from most text (Left n) h = inl h
 default_from most text (Right v) h = word_to most text v h
 
-default_to : (most : ℕ) (text : List ℕ) (n : ℕ) → IsDefault most text n → IsTurned (IsPlainOrNamed most) default_weight text n
+default_to : (most : ℕ) (text : List ℕ) (n : ℕ) → IsDefault most text n → IsMappedText (IsPlainOrNamed most) default_weight text n
 default_to most text n (inl h) = (Left n, h, refl)
 default_to most text n (inr h) = (
   Right (tt, (tt, n)),
@@ -32,7 +32,7 @@ default_to most text n (inr h) = (
   refl,
 )
 
-pub default_is : (most : ℕ) (text : List ℕ) (n : ℕ) → IsTurned (IsPlainOrNamed most) default_weight text n ↔ IsDefault most text n
+pub default_is : (most : ℕ) (text : List ℕ) (n : ℕ) → IsMappedText (IsPlainOrNamed most) default_weight text n ↔ IsDefault most text n
 default_is most text n = (λ h. (let k = default_from most text h.0 h.1 in rw h.2 at k), λ h. default_to most text n h)
 
 pub weight_no_word : (most : ℕ) → Disjoint (IsWeight most) (IsNamedWeight most)

@@ -6,14 +6,14 @@ use Rattle.cg_text.specs.declared.pairs.LimitPairs.{LimitPairs}
 use Rattle.cg_text.specs.declared.values.Device.{Device}
 use Rattle.cg_join.specs.ApartLaws.{label_apart}
 use Rattle.cg_join.specs.LackingLaws.{concat_lacking, device_lacking, fixed_lacking, limits_lacking}
-use Rattle.cg_join.specs.Spelling.{Apart, IsConcat, IsTurned}
+use Rattle.cg_join.specs.Spelling.{Apart, IsConcat, IsMappedText}
 use Rattle.cg_join.specs.TextBytes.{IsFixed, Lacking}
 use Rattle.cg_value.specs.WriteLine.{IsLimitWrite}
 use Rattle.cg_write.specs.Texts.{IsSpacedLimits}
-use Rattle.cg_write.specs.Turned.{both_of}
+use Rattle.cg_write.specs.Mapped.{both_of}
 use Rattle.cg_write.specs.DeviceLaws.{parts_are}
 
-pub limits_are : (text : List ℕ) (x : Device × LimitPairs) → IsTurned IsSpacedLimits both_of text x ↔ IsLimitWrite x text
+pub limits_are : (text : List ℕ) (x : Device × LimitPairs) → IsMappedText IsSpacedLimits both_of text x ↔ IsLimitWrite x text
 limits_are text x = parts_are IsDevice (codes " ") AreLimits text x
 
 pub limits_apart : Apart (λ t d. IsDevice d t) (IsConcat (IsFixed (32 ∷ [])) (λ t l. AreLimits l t))

@@ -17,7 +17,7 @@ use Rattle.cg_value.specs.WriteLine.{IsWeightSetting}
 use Rattle.cg_value.specs.declared.setting.Setting.{Setting}
 use Rattle.cg_value.specs.declared.setting.Setting.TheVariants as setting
 use Rattle.cg_write.specs.Texts.{IsAnyWeight, IsChosen, IsDefault, IsDeviceAndWeight}
-use Rattle.cg_write.specs.Turned.{weight_of}
+use Rattle.cg_write.specs.Mapped.{weight_of}
 use Rattle.cg_write.specs.ChosenWeightLaws.{chosen_lacking}
 use Rattle.cg_write.specs.DefaultWeightLaws.{default_lacking}
 

@@ -17,7 +17,7 @@ pub mod SizeLimitLaws
 pub mod Texts
 pub mod ToggleLaws
 pub mod TriggerLaws
-pub mod Turned
+pub mod Mapped
 pub mod WriteLaws
-pub mod WriteText
-pub mod WriteTextLaws
+pub mod AnyWrite
+pub mod AnyWriteLaws

@@ -23,7 +23,7 @@ use Rattle.cg_text.specs.Token.{HasOneText}
 use Rattle.cg_text.specs.TriggerLaws as triggers
 use Rattle.cg_text.specs.declared.decimal.DecimalText.{DecimalText}
 use Rattle.cg_text.specs.declared.decimal.Progress.TheVariants.{Start}
-use Rattle.cg_text.specs.declared.hundredths.Form.TheVariants.{Written}
+use Rattle.cg_text.specs.declared.hundredths.Spelling.TheVariants.{Written}
 use Rattle.cg_text.specs.declared.hundredths.Part.TheVariants.{Whole}
 use Rattle.cg_text.specs.declared.keyword.Keyword.TheVariants as word
 use Rattle.cg_text.specs.declared.pairs.LimitKey.TheVariants.{Rbps}
@@ -42,7 +42,7 @@ use Rattle.cg_join.specs.KeyedLaws.{some_one}
 use Rattle.cg_join.specs.LackingLaws.{limit_lacking}
 use Rattle.cg_join.specs.LimitState.{limit_of}
 use Rattle.cg_join.specs.MaxLaws.{max_not_decimal, max_not_hundredths}
-use Rattle.cg_join.specs.OneTextLaws.{concat_one, either_one, fixed_one, maybe_one, one_as, turned_one}
+use Rattle.cg_join.specs.OneTextLaws.{concat_one, either_one, fixed_one, maybe_one, one_as, mapped_text_one}
 use Rattle.cg_join.specs.ProperLaws.{device_proper, device_target_proper}
 use Rattle.cg_join.specs.RepeatLaws as repeat
 use Rattle.cg_join.specs.StartLaws.{one_decimal}
@@ -71,7 +71,7 @@ use Rattle.cg_write.specs.SizeLimitLaws.{size_limit_is, size_no_max}
 use Rattle.cg_write.specs.Texts.{AreSomeLimits, AreSomeTimes, IsAnyWeight, IsASize, IsChosen, IsDefault, IsSwappiness, IsToggle, IsWeight}
 use Rattle.cg_write.specs.ToggleLaws.{one_toggle}
 use Rattle.cg_write.specs.TriggerLaws.{some_not_full, tasks_apart, trigger_is}
-use Rattle.cg_write.specs.Turned.{both_of, chosen_weight, default_weight, perhaps_both, role_of, threshold_of, weight_of}
+use Rattle.cg_write.specs.Mapped.{both_of, chosen_weight, default_weight, perhaps_both, role_of, threshold_of, weight_of}
 
 -- ---- Numbers
 
@@ -121,7 +121,7 @@ size_one text v w h k =
 -- ---- Lines of one setting
 
 size_limit_one : HasOneText (λ line v. IsSizeLimit v line)
-size_limit_one = one_as size_limit_is (turned_one limit_of (either_one size_no_max size_one (fixed_one (text_of word.Max))))
+size_limit_one = one_as size_limit_is (mapped_text_one limit_of (either_one size_no_max size_one (fixed_one (text_of word.Max))))
 
 toggles_one : HasOneText (λ line ts. AreToggles ts line)
 toggles_one = one_as toggles_are (repeat.list_one 32 IsToggle IsToggle toggle_stops toggle_stops one_toggle one_toggle)
@@ -134,32 +134,32 @@ written_quota_one = concat_one (lacking_apart (limit_lacking 32 1000 any_u64 (om
     (maybe_one (first_filled (fixed_filled 32 _)) (spaced_one (IsNumberIn 1000 1000000) (one_decimal 1000 1000000)))
 
 quota_one : HasOneText (λ line (x : Limit × Option ℕ). IsQuota (x.0) (x.1) line)
-quota_one = one_as written_quota_is (turned_one perhaps_both written_quota_one)
+quota_one = one_as written_quota_is (mapped_text_one perhaps_both written_quota_one)
 
 swappiness_one : HasOneText IsSwappiness
 swappiness_one = concat_one (fixed_apart (text_of word.Swappiness) (IsNumberIn 0 200)) (fixed_one (text_of word.Swappiness)) (one_decimal 0 200)
 
 reclaim_one : HasOneText (λ line (x : ℕ × Option ℕ). IsReclaim (x.0) (x.1) line)
-reclaim_one = one_as reclaim_is (turned_one perhaps_both (concat_one reclaim_apart size_one (maybe_one (first_filled (fixed_filled 32 _)) swappiness_one)))
+reclaim_one = one_as reclaim_is (mapped_text_one perhaps_both (concat_one reclaim_apart size_one (maybe_one (first_filled (fixed_filled 32 _)) swappiness_one)))
 
 some_limits_one : HasOneText AreSomeLimits
 some_limits_one = one_as limits_new (limits_one no_limits (InKey Rbps 0))
 
 limit_write_one : HasOneText (λ line x. IsLimitWrite x line)
-limit_write_one = one_as limits_are (turned_one both_of (concat_one limits_apart device_proper.one_text (spaced_one AreSomeLimits some_limits_one)))
+limit_write_one = one_as limits_are (mapped_text_one both_of (concat_one limits_apart device_proper.one_text (spaced_one AreSomeLimits some_limits_one)))
 
 default_one : (most : ℕ) → HasOneText (IsDefault most)
-default_one most = one_as (default_is most) (turned_one default_weight (either_one (weight_no_word most) (one_decimal 1 most)
+default_one most = one_as (default_is most) (mapped_text_one default_weight (either_one (weight_no_word most) (one_decimal 1 most)
     (concat_one (fixed_apart (text_of word.Default) (IsSpaced (IsWeight most))) (fixed_one (text_of word.Default)) (spaced_one (IsWeight most) (one_decimal 1 most)))))
 
 chosen_one : (most : ℕ) → HasOneText (IsChosen most)
-chosen_one most = one_as (chosen_is most) (turned_one chosen_weight (either_one (word_no_weight most) (fixed_one (text_of word.Default)) (one_decimal 1 most)))
+chosen_one most = one_as (chosen_is most) (mapped_text_one chosen_weight (either_one (word_no_weight most) (fixed_one (text_of word.Default)) (one_decimal 1 most)))
 
 any_weight_one : (most : ℕ) → HasOneText (IsAnyWeight most)
 any_weight_one most = either_one (default_no_device most) (default_one most) (concat_one (device_apart most) device_proper.one_text (spaced_one (IsChosen most) (chosen_one most)))
 
 target_one : HasOneText (λ line x. IsTargetWrite x line)
-target_one = one_as target_is (turned_one both_of device_target_proper.one_text)
+target_one = one_as target_is (mapped_text_one both_of device_target_proper.one_text)
 
 set_one : (most : ℕ) → HasOneText (λ line set. IsLooseList most set line)
 set_one most =
@@ -168,7 +168,7 @@ set_one most =
     (loose_one ranges (list_one false most (λ x n. IsDecimal 0 most n x) (λ x n h. number_digits 0 most Start x n h) (λ x m n h k. one_decimal 0 most x m n h k) [] None (λ e n h. h.2)))
 
 role_one : HasOneText (λ line role. IsRole role line)
-role_one = one_as role_is (turned_one role_of (either_one member_no_root (fixed_one (text_of word.Member)) (either_one root_not_isolated (fixed_one (text_of word.Root)) (fixed_one (text_of word.Isolated)))))
+role_one = one_as role_is (mapped_text_one role_of (either_one member_no_root (fixed_one (text_of word.Member)) (either_one root_not_isolated (fixed_one (text_of word.Root)) (fixed_one (text_of word.Isolated)))))
 
 times_one : HasOneText AreSomeTimes
 times_one text v w h k =
@@ -176,7 +176,7 @@ times_one text v w h k =
     (h.stall, h.window, h.text_is, h.stall_is, h.window_is) (k.stall, k.window, k.text_is, k.stall_is, k.window_is)
 
 trigger_one : HasOneText (λ line x. IsTrigger x line)
-trigger_one = one_as trigger_is (turned_one threshold_of (concat_one tasks_apart (either_one some_not_full (fixed_one (text_of word.Some)) (fixed_one (text_of word.Full))) (spaced_one AreSomeTimes times_one)))
+trigger_one = one_as trigger_is (mapped_text_one threshold_of (concat_one tasks_apart (either_one some_not_full (fixed_one (text_of word.Some)) (fixed_one (text_of word.Full))) (spaced_one AreSomeTimes times_one)))
 
 raw_one : HasOneText (λ line bytes. IsRaw bytes line)
 raw_one line v w h k = sym h.0 ∙ k.0

@@ -7,14 +7,14 @@ use Rattle.cg_join.specs.ApartLaws.{lacking_apart}
 use Rattle.cg_join.specs.BeginsLaws.{label_begins, maybe_begins_by}
 use Rattle.cg_join.specs.LackingLaws.{concat_lacking, decimal_lacking, keyword_lacking, maybe_lacking, size_lacking}
 use Rattle.cg_join.specs.Maybe.{IsMaybe}
-use Rattle.cg_join.specs.Spelling.{Apart, IsTurned}
+use Rattle.cg_join.specs.Spelling.{Apart, IsMappedText}
 use Rattle.cg_join.specs.TextBytes.{Lacking}
 use Rattle.cg_value.specs.WriteLine.{IsReclaim}
 use Rattle.cg_write.specs.Texts.{IsSwappiness, IsWrittenReclaim}
-use Rattle.cg_write.specs.Turned.{perhaps_both}
+use Rattle.cg_write.specs.Mapped.{perhaps_both}
 use Rattle.cg_write.specs.FollowedLaws.{perhaps_is}
 
-pub reclaim_is : (text : List ℕ) (x : ℕ × Option ℕ) → IsTurned IsWrittenReclaim perhaps_both text x ↔ IsReclaim (x.0) (x.1) text
+pub reclaim_is : (text : List ℕ) (x : ℕ × Option ℕ) → IsMappedText IsWrittenReclaim perhaps_both text x ↔ IsReclaim (x.0) (x.1) text
 reclaim_is text x = perhaps_is IsSize (codes " swappiness=") (IsDecimal 0 200) IsReclaim (λ v t. (λ h. h, λ h. h)) (λ v w t. (λ h. h, λ h. h)) text x
 
 pub reclaim_apart : Apart (λ t n. IsSize n t) (IsMaybe IsSwappiness)

@@ -9,7 +9,7 @@ use Rattle.cg_join.specs.DisjointLaws.{digits_disjoint}
 use Rattle.cg_join.specs.FilledLaws.{fixed_filled}
 use Rattle.cg_join.specs.LackingLaws.{either_lacking, keyword_lacking, size_lacking}
 use Rattle.cg_join.specs.LimitState.{limit_of}
-use Rattle.cg_join.specs.Spelling.{Disjoint, IsTurned}
+use Rattle.cg_join.specs.Spelling.{Disjoint, IsMappedText}
 use Rattle.cg_join.specs.TextBytes.{IsFixed, Lacking}
 use Rattle.cg_join.specs.declared.choice.Either.{Either}
 use Rattle.cg_join.specs.declared.choice.Either.TheVariants.{Left, Right}
@@ -20,12 +20,12 @@ size_limit_from : (text : List ℕ) (x : Either ℕ (Unit {0})) → IsSizeOrMax 
 size_limit_from text (Left n) h = h
 size_limit_from text (Right u) h = h
 
-size_limit_to : (text : List ℕ) (v : Limit) → IsSizeLimit v text → IsTurned IsSizeOrMax limit_of text v
+size_limit_to : (text : List ℕ) (v : Limit) → IsSizeLimit v text → IsMappedText IsSizeOrMax limit_of text v
 size_limit_to text Max h = (Right tt, h, refl)
 size_limit_to text (At n) h = (Left n, h, refl)
 
 -- The two alternatives, turned into a limit.
-pub size_limit_is : (text : List ℕ) (v : Limit) → IsTurned IsSizeOrMax limit_of text v ↔ IsSizeLimit v text
+pub size_limit_is : (text : List ℕ) (v : Limit) → IsMappedText IsSizeOrMax limit_of text v ↔ IsSizeLimit v text
 size_limit_is text v = (λ h. (let k = size_limit_from text h.0 h.1 in rw h.2 at k), λ h. size_limit_to text v h)
 
 max_no_size : Disjoint (IsFixed (text_of word.Max)) IsASize

@@ -4,16 +4,16 @@ use Rattle.cg_text.specs.AboveSpace.{AreAboveSpace}
 use Rattle.cg_text.specs.Token.{AreBytes, HasOneText}
 use Rattle.cg_text.specs.WordLaws.{text_word, words_bytes}
 use Rattle.cg_join.specs.DisjointLaws.{fixed_disjoint}
-use Rattle.cg_join.specs.LackingLaws.{above_lacking, concat_lacking, turned_lacking, word_lacking}
+use Rattle.cg_join.specs.LackingLaws.{above_lacking, concat_lacking, mapped_text_lacking, word_lacking}
 use Rattle.cg_join.specs.Repeat.{LacksEmpty}
-use Rattle.cg_join.specs.Spelling.{Disjoint, IsTurned}
+use Rattle.cg_join.specs.Spelling.{Disjoint, IsMappedText}
 use Rattle.cg_join.specs.TextBytes.{IsFixed, Lacking}
 use Rattle.cg_join.specs.WordStartLaws.{some_word}
 use Rattle.cg_join.specs.declared.choice.Either.TheVariants.{Left, Right}
 use Rattle.cg_value.specs.WriteLine.{sign_of}
 use Rattle.cg_value.specs.declared.setting.Toggle.{Toggle}
 use Rattle.cg_write.specs.Texts.{IsSign, IsSignAndWord, IsToggle, OneOfTwo}
-use Rattle.cg_write.specs.Turned.{is_on, toggle_of}
+use Rattle.cg_write.specs.Mapped.{is_on, toggle_of}
 
 -- ---- A sign and a word are a toggle
 
@@ -21,7 +21,7 @@ sign_to : (text : List ℕ) (v : OneOfTwo) → IsSign text v → text ≡ sign_o
 sign_to text (Left u) h = h
 sign_to text (Right u) h = h
 
-sign_from : (on : Bool) → IsTurned IsSign is_on (sign_of on ∷ []) on
+sign_from : (on : Bool) → IsMappedText IsSign is_on (sign_of on ∷ []) on
 sign_from true = (Left tt, refl, refl)
 sign_from false = (Right tt, refl, refl)
 
@@ -31,7 +31,7 @@ toggle_to text v h =
     let whole : text ≡ sign_of (is_on v.0) ∷ h.back = rw front at h.whole in
     (whole ∙ ap (λ w. sign_of (is_on v.0) ∷ w) (sym h.ends.0), rw h.ends.0 h.ends.1)
 
-pub toggle_is : (text : List ℕ) (t : Toggle) → IsTurned IsSignAndWord toggle_of text t ↔ IsToggle text t
+pub toggle_is : (text : List ℕ) (t : Toggle) → IsMappedText IsSignAndWord toggle_of text t ↔ IsToggle text t
 toggle_is text t = (
   λ h. subst (λ u. IsToggle text u) h.2 (toggle_to text h.0 h.1),
   λ h. (let sign = sign_from t.on in (
@@ -52,7 +52,7 @@ signs_above text (Right u) h = rw h (omega arith, tt)
 
 pub toggle_lacking : (b : ℕ) → b ≤ 32 → Lacking IsToggle b
 toggle_lacking b low =
-    let parts = turned_lacking {f = toggle_of} (concat_lacking (above_lacking IsSign b low signs_above) (word_lacking b true low)) in
+    let parts = mapped_text_lacking {f = toggle_of} (concat_lacking (above_lacking IsSign b low signs_above) (word_lacking b true low)) in
     record { is = λ front more t h. parts.is front more t ((toggle_is (front ++ b ∷ more) t).1 h) }
 
 pub toggle_filled : LacksEmpty IsToggle

@@ -8,23 +8,23 @@ use Rattle.cg_join.specs.Composites.{IsSpaced}
 use Rattle.cg_join.specs.CutLaws.{parts_is}
 use Rattle.cg_join.specs.DisjointLaws.{fixed_disjoint}
 use Rattle.cg_join.specs.LackingLaws.{concat_lacking, either_lacking, fixed_lacking, keyword_lacking, times_lacking}
-use Rattle.cg_join.specs.Spelling.{Apart, Disjoint, IsTurned}
+use Rattle.cg_join.specs.Spelling.{Apart, Disjoint, IsMappedText}
 use Rattle.cg_join.specs.TextBytes.{IsFixed, Lacking}
 use Rattle.cg_join.specs.declared.choice.Either.TheVariants.{Left, Right}
 use Rattle.cg_value.specs.WriteLine.{IsTrigger, pressure_word}
 use Rattle.cg_write.specs.Texts.{AreSomeTimes, IsTasksWord, IsThreshold, OneOfTwo}
-use Rattle.cg_write.specs.Turned.{is_full, threshold_of}
+use Rattle.cg_write.specs.Mapped.{is_full, threshold_of}
 
 tasks_to : (text : List ℕ) (v : OneOfTwo) → IsTasksWord text v → text ≡ pressure_word (is_full v)
 tasks_to text (Left u) h = h
 tasks_to text (Right u) h = h
 
-tasks_from : (full : Bool) → IsTurned IsTasksWord is_full (pressure_word full) full
+tasks_from : (full : Bool) → IsMappedText IsTasksWord is_full (pressure_word full) full
 tasks_from true = (Right tt, refl, refl)
 tasks_from false = (Left tt, refl, refl)
 
 -- The words and the times, turned into a trigger's.
-pub trigger_is : (text : List ℕ) (x : Bool × Times) → IsTurned IsThreshold threshold_of text x ↔ IsTrigger x text
+pub trigger_is : (text : List ℕ) (x : Bool × Times) → IsMappedText IsThreshold threshold_of text x ↔ IsTrigger x text
 trigger_is text x = (
   λ h. (let k = (parts_is (codes " ") AreSomeTimes IsTasksWord text h.0).0 h.1 in
       let front : k.0 ≡ pressure_word (is_full h.0.0) = tasks_to k.0 h.0.0 k.3 in

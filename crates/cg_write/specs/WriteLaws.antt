@@ -3,7 +3,7 @@ use Rattle.std.proofs.Common.{ℕ, ◌↔◌, List, refl, sym, ◌∙◌, ap}
 use Rattle.cg_text.specs.Token.{Spells}
 use Rattle.cg_join.specs.Line.{IsLine}
 use Rattle.cg_join.specs.LineLaws.{line_as}
-use Rattle.cg_join.specs.Spelling.{IsTurned, spells_as}
+use Rattle.cg_join.specs.Spelling.{IsMappedText, spells_as}
 use Rattle.cg_value.specs.Lines.{IsLineOf}
 use Rattle.cg_value.specs.Settings.{WriteText}
 use Rattle.cg_value.specs.WriteLine.{WriteLine}
@@ -13,7 +13,7 @@ use Rattle.cg_value.specs.declared.setting.Setting.{Setting}
 -- A line and its newline, turned into a setting, are a write of a kind whose lines are such.
 pub write_is : {V : Type 0} (kind : WriteForm) (R : List ℕ → V → Type 0) (make : V → Setting) →
     ((s : Setting) (line : List ℕ) → WriteLine kind s line ↔ IsLineOf (λ v l. R l v) make s line) →
-    (text : List ℕ) (s : Setting) → IsTurned (IsLine R) (λ v. make v.0) text s ↔ WriteText kind s text
+    (text : List ℕ) (s : Setting) → IsMappedText (IsLine R) (λ v. make v.0) text s ↔ WriteText kind s text
 write_is kind R make lines text s = (
   λ h. record {
     line = h.1.front;
@@ -26,13 +26,13 @@ write_is kind R make lines text s = (
 
 -- The token of a line, ended by a newline and turned, is that of a write.
 pub write_spells : {S X V : Type 0} {A : S → List ℕ → V → Type 0} {a : S} {R : List ℕ → V → Type 0} {M : X → List ℕ → Setting → Type 0} {x : X} (kind : WriteForm) (make : V → Setting) →
-    Spells A a R → Spells M x (IsTurned (IsLine (A a)) (λ v. make v.0)) →
+    Spells A a R → Spells M x (IsMappedText (IsLine (A a)) (λ v. make v.0)) →
     ((s : Setting) (line : List ℕ) → WriteLine kind s line ↔ IsLineOf (λ v l. R l v) make s line) → Spells M x (λ text s. WriteText kind s text)
 write_spells {R = R} kind make h whole lines = spells_as (spells_as whole (line_as (λ v. make v.0) h.is)) (write_is kind R make lines)
 
 -- A line by Q, where what R spells is turned into what Q does.
 pub line_through : {V Y : Type 0} (R : List ℕ → V → Type 0) (Q : Y → List ℕ → Type 0) (f : V → Y) (make : Y → Setting) →
-    ((text : List ℕ) (y : Y) → IsTurned R f text y ↔ Q y text) →
+    ((text : List ℕ) (y : Y) → IsMappedText R f text y ↔ Q y text) →
     (s : Setting) (line : List ℕ) → IsLineOf Q make s line ↔ IsLineOf (λ v l. R l v) (λ v. make (f v)) s line
 line_through R Q f make is s line = (
   λ h. (let k = (is line h.x).1 h.spelled in record { x = k.0; value = h.value ∙ ap make (sym k.2); spelled = k.1 }),

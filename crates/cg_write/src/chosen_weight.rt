@@ -3,24 +3,24 @@ ghost use Rattle.std.specs.Prelude.{◌≡◌, ◌≤◌};
 ghost use Rattle.cg_text.specs.Token.{Spells};
 ghost use Rattle.cg_write.specs.Texts.{IsChosen};
 
-use cg_join::{Choice, Either, Mapped, Turn, decimal_in};
+use cg_join::{Choice, Either, MapValue, Mapped, decimal_in};
 use cg_text::{DecimalText, Keyword, KeywordText, OutOfMemory, Token};
 
 /// The value, without how it is spelled.
 #[derive(Clone, Copy)]
 struct ToChosen;
 
-impl Turn<Choice<KeywordText, DecimalText>> for ToChosen {
+impl MapValue<Choice<KeywordText, DecimalText>> for ToChosen {
     type To = Option<u64>;
 
-    ghost use Rattle.cg_write.specs.Turned.{chosen_weight};
+    ghost use Rattle.cg_write.specs.Mapped.{chosen_weight};
     ghost use Rattle.std.proofs.Common.{arith};
 
-    ghost turned = { chosen_weight };
+    ghost mapped = { chosen_weight };
 
     ghost value_size = { λ _. 0 };
 
-    fn turn(value: Either<(), u64>) -> Option<u64> {
+    fn map_value(value: Either<(), u64>) -> Option<u64> {
         match value {
             Either::Left(_) => None,
             Either::Right(weight) => Some(weight),
@@ -31,7 +31,7 @@ impl Turn<Choice<KeywordText, DecimalText>> for ToChosen {
         0
     }
 
-    ghost no_more = { λ v. Prim.omega arith };
+    ghost adds_no_memory = { λ v. Prim.omega arith };
 }
 
 type Parts = Mapped<Choice<KeywordText, DecimalText>, ToChosen>;

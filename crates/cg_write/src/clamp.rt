@@ -4,25 +4,25 @@ ghost use Rattle.cg_text.specs.Token.{Spells};
 ghost use Rattle.cg_value.specs.Settings.{WriteText};
 ghost use Rattle.cg_value.specs.declared.kind.WriteForm.TheVariants.{Clamp as ClampForm};
 
-use cg_join::{ClampText, Line, Sequence, Turn, one_line};
-use cg_text::{ByteText, Clamp, Form, OutOfMemory, Token};
+use cg_join::{ClampText, Line, MapValue, Sequence, one_line};
+use cg_text::{ByteText, Clamp, OutOfMemory, Spelling, Token};
 use cg_value::Setting;
 
 /// The line, turned into the setting.
 #[derive(Clone, Copy)]
 struct ToClamp;
 
-impl Turn<Sequence<ClampText, ByteText>> for ToClamp {
+impl MapValue<Sequence<ClampText, ByteText>> for ToClamp {
     type To = Setting;
 
-    ghost use Rattle.cg_write.specs.Turned.{clamp_setting};
+    ghost use Rattle.cg_write.specs.Mapped.{clamp_setting};
     ghost use Rattle.std.proofs.Common.{arith};
 
-    ghost turned = { clamp_setting };
+    ghost mapped = { clamp_setting };
 
     ghost value_size = { λ _. 0 };
 
-    fn turn(value: (Clamp, ())) -> Setting {
+    fn map_value(value: (Clamp, ())) -> Setting {
         Setting::Clamp(value.0)
     }
 
@@ -30,7 +30,7 @@ impl Turn<Sequence<ClampText, ByteText>> for ToClamp {
         0
     }
 
-    ghost no_more = { λ v. Prim.omega arith };
+    ghost adds_no_memory = { λ v. Prim.omega arith };
 }
 
 type Text = Line<ClampText, ToClamp>;
@@ -48,7 +48,7 @@ impl ClampWrite {
         ensures size { ⟦<ClampWrite as Token>⟧.size result ≡ 0 }
     {
         ClampWrite {
-            text: one_line(ClampText::new(Form::Written)),
+            text: one_line(ClampText::new(Spelling::Written)),
         }
     }
 }

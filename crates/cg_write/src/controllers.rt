@@ -6,7 +6,7 @@ ghost use Rattle.cg_value.specs.declared.kind.WriteForm.TheVariants.{Controllers
 ghost use Rattle.cg_write.specs.Texts.{AreJoinedToggles};
 
 use crate::toggle::{ToggleStart, ToggleText};
-use cg_join::{Line, Repeat, Sequence, Turn, one_line};
+use cg_join::{Line, MapValue, Repeat, Sequence, one_line};
 use cg_text::{ByteText, Items, OutOfMemory, Token};
 use cg_value::{Setting, Toggle};
 use std::alloc::Global;
@@ -26,17 +26,17 @@ fn toggles_text(alloc: Global) -> TogglesText
 #[derive(Clone, Copy)]
 struct ToControllers;
 
-impl Turn<Sequence<TogglesText, ByteText>> for ToControllers {
+impl MapValue<Sequence<TogglesText, ByteText>> for ToControllers {
     type To = Setting;
 
-    ghost use Rattle.cg_write.specs.Turned.{controllers_setting};
+    ghost use Rattle.cg_write.specs.Mapped.{controllers_setting};
     ghost use Rattle.std.proofs.Common.{arith};
 
-    ghost turned = { controllers_setting };
+    ghost mapped = { controllers_setting };
 
     ghost value_size = { λ _. 0 };
 
-    fn turn(value: (Items<Toggle>, ())) -> Setting {
+    fn map_value(value: (Items<Toggle>, ())) -> Setting {
         Setting::Controllers(value.0)
     }
 
@@ -44,7 +44,7 @@ impl Turn<Sequence<TogglesText, ByteText>> for ToControllers {
         0
     }
 
-    ghost no_more = { λ v. Prim.omega arith };
+    ghost adds_no_memory = { λ v. Prim.omega arith };
 }
 
 type Text = Line<TogglesText, ToControllers>;

@@ -5,7 +5,7 @@ ghost use Rattle.cg_value.specs.Settings.{WriteText};
 ghost use Rattle.cg_value.specs.declared.kind.WriteForm.TheVariants.{CpuMax as CpuMaxForm};
 
 use crate::followed::second_of;
-use cg_join::{Line, Sequence, Turn, WrittenQuota, one_line, written_quota};
+use cg_join::{Line, MapValue, Sequence, WrittenQuota, one_line, written_quota};
 use cg_text::{ByteText, Limit, OutOfMemory, Token};
 use cg_value::Setting;
 
@@ -13,17 +13,17 @@ use cg_value::Setting;
 #[derive(Clone, Copy)]
 struct ToCpuMax;
 
-impl Turn<Sequence<WrittenQuota, ByteText>> for ToCpuMax {
+impl MapValue<Sequence<WrittenQuota, ByteText>> for ToCpuMax {
     type To = Setting;
 
-    ghost use Rattle.cg_write.specs.Turned.{cpu_max_setting};
+    ghost use Rattle.cg_write.specs.Mapped.{cpu_max_setting};
     ghost use Rattle.std.proofs.Common.{arith};
 
-    ghost turned = { cpu_max_setting };
+    ghost mapped = { cpu_max_setting };
 
     ghost value_size = { λ _. 0 };
 
-    fn turn(value: ((Limit, Option<((), u64)>), ())) -> Setting {
+    fn map_value(value: ((Limit, Option<((), u64)>), ())) -> Setting {
         let (quota, period) = value.0;
         Setting::CpuMax {
             quota,
@@ -35,7 +35,7 @@ impl Turn<Sequence<WrittenQuota, ByteText>> for ToCpuMax {
         0
     }
 
-    ghost no_more = { λ v. Prim.omega arith };
+    ghost adds_no_memory = { λ v. Prim.omega arith };
 }
 
 type Text = Line<WrittenQuota, ToCpuMax>;

@@ -3,24 +3,24 @@ ghost use Rattle.std.specs.Prelude.{◌≡◌, ◌≤◌};
 ghost use Rattle.cg_text.specs.Token.{Spells};
 ghost use Rattle.cg_write.specs.Texts.{IsDefault};
 
-use cg_join::{Choice, Either, LabelText, Mapped, Spaced, Turn, decimal_in, labelled, spaced};
+use cg_join::{Choice, Either, LabelText, MapValue, Mapped, Spaced, decimal_in, labelled, spaced};
 use cg_text::{DecimalText, Keyword, OutOfMemory, Token};
 
 /// The value, without how it is spelled.
 #[derive(Clone, Copy)]
 struct ToDefault;
 
-impl Turn<Choice<DecimalText, LabelText<Spaced<DecimalText>>>> for ToDefault {
+impl MapValue<Choice<DecimalText, LabelText<Spaced<DecimalText>>>> for ToDefault {
     type To = u64;
 
-    ghost use Rattle.cg_write.specs.Turned.{default_weight};
+    ghost use Rattle.cg_write.specs.Mapped.{default_weight};
     ghost use Rattle.std.proofs.Common.{arith};
 
-    ghost turned = { default_weight };
+    ghost mapped = { default_weight };
 
     ghost value_size = { λ _. 0 };
 
-    fn turn(value: Either<u64, ((), ((), u64))>) -> u64 {
+    fn map_value(value: Either<u64, ((), ((), u64))>) -> u64 {
         match value {
             Either::Left(weight) => weight,
             Either::Right((_, (_, weight))) => weight,
@@ -31,7 +31,7 @@ impl Turn<Choice<DecimalText, LabelText<Spaced<DecimalText>>>> for ToDefault {
         0
     }
 
-    ghost no_more = { λ v. Prim.omega arith };
+    ghost adds_no_memory = { λ v. Prim.omega arith };
 }
 
 type Parts = Mapped<Choice<DecimalText, LabelText<Spaced<DecimalText>>>, ToDefault>;

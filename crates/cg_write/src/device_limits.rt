@@ -5,7 +5,7 @@ ghost use Rattle.cg_value.specs.Settings.{WriteText};
 ghost use Rattle.cg_value.specs.declared.kind.WriteForm.TheVariants.{DeviceLimits as DeviceLimitsForm};
 ghost use Rattle.cg_write.specs.Texts.{IsSpacedLimits};
 
-use cg_join::{DeviceText, Line, Sequence, Spaced, Turn, one_line, spaced};
+use cg_join::{DeviceText, Line, MapValue, Sequence, Spaced, one_line, spaced};
 use cg_text::{ByteText, Device, LimitPairs, LimitPairsText, OutOfMemory, Token};
 use cg_value::Setting;
 
@@ -89,17 +89,17 @@ impl Token for DeviceLimitsText {
 #[derive(Clone, Copy)]
 struct ToDeviceLimits;
 
-impl Turn<Sequence<DeviceLimitsText, ByteText>> for ToDeviceLimits {
+impl MapValue<Sequence<DeviceLimitsText, ByteText>> for ToDeviceLimits {
     type To = Setting;
 
-    ghost use Rattle.cg_write.specs.Turned.{device_limits_setting};
+    ghost use Rattle.cg_write.specs.Mapped.{device_limits_setting};
     ghost use Rattle.std.proofs.Common.{arith};
 
-    ghost turned = { device_limits_setting };
+    ghost mapped = { device_limits_setting };
 
     ghost value_size = { λ _. 0 };
 
-    fn turn(value: ((Device, ((), LimitPairs)), ())) -> Setting {
+    fn map_value(value: ((Device, ((), LimitPairs)), ())) -> Setting {
         let (device, (_, limits)) = value.0;
         Setting::DeviceLimits {
             device,
@@ -114,7 +114,7 @@ impl Turn<Sequence<DeviceLimitsText, ByteText>> for ToDeviceLimits {
         0
     }
 
-    ghost no_more = { λ v. Prim.omega arith };
+    ghost adds_no_memory = { λ v. Prim.omega arith };
 }
 
 type Text = Line<DeviceLimitsText, ToDeviceLimits>;

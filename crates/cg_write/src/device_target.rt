@@ -4,7 +4,7 @@ ghost use Rattle.cg_text.specs.Token.{Spells};
 ghost use Rattle.cg_value.specs.Settings.{WriteText};
 ghost use Rattle.cg_value.specs.declared.kind.WriteForm.TheVariants.{DeviceTarget as DeviceTargetForm};
 
-use cg_join::{DeviceTarget, Line, Sequence, Turn, device_target, one_line};
+use cg_join::{DeviceTarget, Line, MapValue, Sequence, device_target, one_line};
 use cg_text::{ByteText, Device, OutOfMemory, Token};
 use cg_value::Setting;
 
@@ -12,17 +12,17 @@ use cg_value::Setting;
 #[derive(Clone, Copy)]
 struct ToDeviceTarget;
 
-impl Turn<Sequence<DeviceTarget, ByteText>> for ToDeviceTarget {
+impl MapValue<Sequence<DeviceTarget, ByteText>> for ToDeviceTarget {
     type To = Setting;
 
-    ghost use Rattle.cg_write.specs.Turned.{device_target_setting};
+    ghost use Rattle.cg_write.specs.Mapped.{device_target_setting};
     ghost use Rattle.std.proofs.Common.{arith};
 
-    ghost turned = { device_target_setting };
+    ghost mapped = { device_target_setting };
 
     ghost value_size = { λ _. 0 };
 
-    fn turn(value: ((Device, ((), u64)), ())) -> Setting {
+    fn map_value(value: ((Device, ((), u64)), ())) -> Setting {
         let (device, (_, target)) = value.0;
         Setting::DeviceTarget { device, target }
     }
@@ -31,7 +31,7 @@ impl Turn<Sequence<DeviceTarget, ByteText>> for ToDeviceTarget {
         0
     }
 
-    ghost no_more = { λ v. Prim.omega arith };
+    ghost adds_no_memory = { λ v. Prim.omega arith };
 }
 
 type Text = Line<DeviceTarget, ToDeviceTarget>;

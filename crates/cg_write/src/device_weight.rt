@@ -7,7 +7,7 @@ ghost use Rattle.cg_write.specs.Texts.{IsAnyWeight, IsDeviceAndWeight};
 
 use crate::chosen_weight::ChosenText;
 use crate::default_weight::DefaultText;
-use cg_join::{Choice, DeviceText, Either, Line, Sequence, Spaced, Turn, one_line, spaced};
+use cg_join::{Choice, DeviceText, Either, Line, MapValue, Sequence, Spaced, one_line, spaced};
 use cg_text::{ByteText, Device, OutOfMemory, Token};
 use cg_value::Setting;
 
@@ -104,17 +104,17 @@ impl Token for AnyWeightText {
 #[derive(Clone, Copy)]
 struct ToDeviceWeight;
 
-impl Turn<Sequence<AnyWeightText, ByteText>> for ToDeviceWeight {
+impl MapValue<Sequence<AnyWeightText, ByteText>> for ToDeviceWeight {
     type To = Setting;
 
-    ghost use Rattle.cg_write.specs.Turned.{weight_setting};
+    ghost use Rattle.cg_write.specs.Mapped.{weight_setting};
     ghost use Rattle.std.proofs.Common.{arith};
 
-    ghost turned = { weight_setting };
+    ghost mapped = { weight_setting };
 
     ghost value_size = { λ _. 0 };
 
-    fn turn(value: (Either<u64, (Device, ((), Option<u64>))>, ())) -> Setting {
+    fn map_value(value: (Either<u64, (Device, ((), Option<u64>))>, ())) -> Setting {
         match value.0 {
             Either::Left(weight) => Setting::DefaultWeight(weight),
             Either::Right((device, (_, weight))) => Setting::DeviceWeight { device, weight },
@@ -125,7 +125,7 @@ impl Turn<Sequence<AnyWeightText, ByteText>> for ToDeviceWeight {
         0
     }
 
-    ghost no_more = { λ v. Prim.omega arith };
+    ghost adds_no_memory = { λ v. Prim.omega arith };
 }
 
 type Text = Line<AnyWeightText, ToDeviceWeight>;

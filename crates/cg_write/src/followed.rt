@@ -1,6 +1,6 @@
 //! A value that another may follow.
 ghost use Rattle.std.specs.Prelude.{◌≡◌};
-ghost use Rattle.cg_write.specs.Turned.{second_of};
+ghost use Rattle.cg_write.specs.Mapped.{second_of};
 
 /// The second of two values, where there are two.
 pub(crate) fn second_of(pair: Option<((), u64)>) -> Option<u64>

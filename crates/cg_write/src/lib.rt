@@ -1,6 +1,7 @@
 //! The text of one whole write of each kind, as a token.
 #![tactic(auto)]
 
+pub mod any_write;
 pub mod chosen_weight;
 pub mod clamp;
 pub mod controllers;
@@ -22,6 +23,5 @@ pub mod signed;
 pub mod size_limit;
 pub mod toggle;
 pub mod trigger;
-pub mod write_text;
 
-pub use write_text::WriteText;
+pub use any_write::AnyWrite;

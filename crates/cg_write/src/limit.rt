@@ -4,7 +4,7 @@ ghost use Rattle.cg_text.specs.Token.{Spells};
 ghost use Rattle.cg_value.specs.Settings.{WriteText};
 ghost use Rattle.cg_value.specs.declared.kind.WriteForm.TheVariants.{Limit as LimitForm};
 
-use cg_join::{LimitText, Line, Sequence, Turn, limit_in, one_line};
+use cg_join::{LimitText, Line, MapValue, Sequence, limit_in, one_line};
 use cg_text::{ByteText, Limit, OutOfMemory, Token};
 use cg_value::Setting;
 
@@ -12,17 +12,17 @@ use cg_value::Setting;
 #[derive(Clone, Copy)]
 struct ToLimit;
 
-impl Turn<Sequence<LimitText, ByteText>> for ToLimit {
+impl MapValue<Sequence<LimitText, ByteText>> for ToLimit {
     type To = Setting;
 
-    ghost use Rattle.cg_write.specs.Turned.{limit_setting};
+    ghost use Rattle.cg_write.specs.Mapped.{limit_setting};
     ghost use Rattle.std.proofs.Common.{arith};
 
-    ghost turned = { limit_setting };
+    ghost mapped = { limit_setting };
 
     ghost value_size = { λ _. 0 };
 
-    fn turn(value: (Limit, ())) -> Setting {
+    fn map_value(value: (Limit, ())) -> Setting {
         Setting::Limit(value.0)
     }
 
@@ -30,7 +30,7 @@ impl Turn<Sequence<LimitText, ByteText>> for ToLimit {
         0
     }
 
-    ghost no_more = { λ v. Prim.omega arith };
+    ghost adds_no_memory = { λ v. Prim.omega arith };
 }
 
 type Text = Line<LimitText, ToLimit>;

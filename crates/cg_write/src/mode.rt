@@ -4,7 +4,7 @@ ghost use Rattle.cg_text.specs.Token.{Spells};
 ghost use Rattle.cg_value.specs.Settings.{WriteText};
 ghost use Rattle.cg_value.specs.declared.kind.WriteForm.TheVariants.{Mode as ModeForm};
 
-use cg_join::{Line, Sequence, Turn, one_line};
+use cg_join::{Line, MapValue, Sequence, one_line};
 use cg_text::{ByteText, Keyword, KeywordText, OutOfMemory, Token};
 use cg_value::Setting;
 
@@ -12,17 +12,17 @@ use cg_value::Setting;
 #[derive(Clone, Copy)]
 struct ToMode;
 
-impl Turn<Sequence<KeywordText, ByteText>> for ToMode {
+impl MapValue<Sequence<KeywordText, ByteText>> for ToMode {
     type To = Setting;
 
-    ghost use Rattle.cg_write.specs.Turned.{mode_setting};
+    ghost use Rattle.cg_write.specs.Mapped.{mode_setting};
     ghost use Rattle.std.proofs.Common.{arith};
 
-    ghost turned = { mode_setting };
+    ghost mapped = { mode_setting };
 
     ghost value_size = { λ _. 0 };
 
-    fn turn(_value: ((), ())) -> Setting {
+    fn map_value(_value: ((), ())) -> Setting {
         Setting::Threaded
     }
 
@@ -30,7 +30,7 @@ impl Turn<Sequence<KeywordText, ByteText>> for ToMode {
         0
     }
 
-    ghost no_more = { λ v. Prim.omega arith };
+    ghost adds_no_memory = { λ v. Prim.omega arith };
 }
 
 type Text = Line<KeywordText, ToMode>;

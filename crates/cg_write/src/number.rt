@@ -4,7 +4,7 @@ ghost use Rattle.cg_text.specs.Token.{Spells};
 ghost use Rattle.cg_value.specs.Settings.{WriteText};
 ghost use Rattle.cg_value.specs.declared.kind.WriteForm.TheVariants.{Number as NumberForm};
 
-use cg_join::{Line, Sequence, Turn, decimal_in, one_line};
+use cg_join::{Line, MapValue, Sequence, decimal_in, one_line};
 use cg_text::{ByteText, DecimalText, OutOfMemory, Token};
 use cg_value::Setting;
 
@@ -12,17 +12,17 @@ use cg_value::Setting;
 #[derive(Clone, Copy)]
 struct ToNumber;
 
-impl Turn<Sequence<DecimalText, ByteText>> for ToNumber {
+impl MapValue<Sequence<DecimalText, ByteText>> for ToNumber {
     type To = Setting;
 
-    ghost use Rattle.cg_write.specs.Turned.{number_setting};
+    ghost use Rattle.cg_write.specs.Mapped.{number_setting};
     ghost use Rattle.std.proofs.Common.{arith};
 
-    ghost turned = { number_setting };
+    ghost mapped = { number_setting };
 
     ghost value_size = { λ _. 0 };
 
-    fn turn(value: (u64, ())) -> Setting {
+    fn map_value(value: (u64, ())) -> Setting {
         Setting::Number(value.0)
     }
 
@@ -30,7 +30,7 @@ impl Turn<Sequence<DecimalText, ByteText>> for ToNumber {
         0
     }
 
-    ghost no_more = { λ v. Prim.omega arith };
+    ghost adds_no_memory = { λ v. Prim.omega arith };
 }
 
 type Text = Line<DecimalText, ToNumber>;

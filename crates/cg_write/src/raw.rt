@@ -4,7 +4,7 @@ ghost use Rattle.cg_text.specs.Token.{Spells};
 ghost use Rattle.cg_value.specs.Settings.{WriteText};
 ghost use Rattle.cg_value.specs.declared.kind.WriteForm.TheVariants.{Raw as RawForm};
 
-use cg_join::{Line, Sequence, Turn, one_line};
+use cg_join::{Line, MapValue, Sequence, one_line};
 use cg_text::{ByteText, Items, OutOfMemory, RawText, Token};
 use cg_value::Setting;
 use std::alloc::Global;
@@ -13,17 +13,17 @@ use std::alloc::Global;
 #[derive(Clone, Copy)]
 struct ToRaw;
 
-impl Turn<Sequence<RawText, ByteText>> for ToRaw {
+impl MapValue<Sequence<RawText, ByteText>> for ToRaw {
     type To = Setting;
 
-    ghost use Rattle.cg_write.specs.Turned.{raw_setting};
+    ghost use Rattle.cg_write.specs.Mapped.{raw_setting};
     ghost use Rattle.std.proofs.Common.{arith};
 
-    ghost turned = { raw_setting };
+    ghost mapped = { raw_setting };
 
     ghost value_size = { λ _. 0 };
 
-    fn turn(value: (Items<u8>, ())) -> Setting {
+    fn map_value(value: (Items<u8>, ())) -> Setting {
         Setting::Raw(value.0)
     }
 
@@ -31,7 +31,7 @@ impl Turn<Sequence<RawText, ByteText>> for ToRaw {
         0
     }
 
-    ghost no_more = { λ v. Prim.omega arith };
+    ghost adds_no_memory = { λ v. Prim.omega arith };
 }
 
 type Text = Line<RawText, ToRaw>;

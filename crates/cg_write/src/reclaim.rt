@@ -6,7 +6,7 @@ ghost use Rattle.cg_value.specs.declared.kind.WriteForm.TheVariants.{Reclaim as 
 ghost use Rattle.cg_write.specs.Texts.{IsWrittenReclaim};
 
 use crate::followed::second_of;
-use cg_join::{LabelText, Line, Maybe, Sequence, Turn, decimal_in, labelled, one_line};
+use cg_join::{LabelText, Line, MapValue, Maybe, Sequence, decimal_in, labelled, one_line};
 use cg_text::{ByteText, DecimalText, Keyword, OutOfMemory, SizeText, Token};
 use cg_value::Setting;
 
@@ -27,17 +27,17 @@ fn reclaim_text() -> ReclaimText
 #[derive(Clone, Copy)]
 struct ToReclaim;
 
-impl Turn<Sequence<ReclaimText, ByteText>> for ToReclaim {
+impl MapValue<Sequence<ReclaimText, ByteText>> for ToReclaim {
     type To = Setting;
 
-    ghost use Rattle.cg_write.specs.Turned.{reclaim_setting};
+    ghost use Rattle.cg_write.specs.Mapped.{reclaim_setting};
     ghost use Rattle.std.proofs.Common.{arith};
 
-    ghost turned = { reclaim_setting };
+    ghost mapped = { reclaim_setting };
 
     ghost value_size = { λ _. 0 };
 
-    fn turn(value: ((u64, Option<((), u64)>), ())) -> Setting {
+    fn map_value(value: ((u64, Option<((), u64)>), ())) -> Setting {
         let (size, swappiness) = value.0;
         Setting::Reclaim {
             size,
@@ -49,7 +49,7 @@ impl Turn<Sequence<ReclaimText, ByteText>> for ToReclaim {
         0
     }
 
-    ghost no_more = { λ v. Prim.omega arith };
+    ghost adds_no_memory = { λ v. Prim.omega arith };
 }
 
 type Text = Line<ReclaimText, ToReclaim>;

@@ -5,7 +5,7 @@ ghost use Rattle.cg_value.specs.Settings.{WriteText};
 ghost use Rattle.cg_value.specs.declared.kind.WriteForm.TheVariants.{Role as RoleForm};
 ghost use Rattle.cg_write.specs.Texts.{IsRoleWord};
 
-use cg_join::{Choice, Either, Line, Sequence, Turn, one_line};
+use cg_join::{Choice, Either, Line, MapValue, Sequence, one_line};
 use cg_text::{ByteText, Keyword, KeywordText, OutOfMemory, Token};
 use cg_value::{Role, Setting};
 
@@ -31,17 +31,17 @@ fn role_text() -> RoleText
 #[derive(Clone, Copy)]
 struct ToRole;
 
-impl Turn<Sequence<RoleText, ByteText>> for ToRole {
+impl MapValue<Sequence<RoleText, ByteText>> for ToRole {
     type To = Setting;
 
-    ghost use Rattle.cg_write.specs.Turned.{role_setting};
+    ghost use Rattle.cg_write.specs.Mapped.{role_setting};
     ghost use Rattle.std.proofs.Common.{arith};
 
-    ghost turned = { role_setting };
+    ghost mapped = { role_setting };
 
     ghost value_size = { λ _. 0 };
 
-    fn turn(value: (Either<(), Either<(), ()>>, ())) -> Setting {
+    fn map_value(value: (Either<(), Either<(), ()>>, ())) -> Setting {
         Setting::Role(match value.0 {
             Either::Left(_) => Role::Member,
             Either::Right(Either::Left(_)) => Role::Root,
@@ -53,7 +53,7 @@ impl Turn<Sequence<RoleText, ByteText>> for ToRole {
         0
     }
 
-    ghost no_more = { λ v. Prim.omega arith };
+    ghost adds_no_memory = { λ v. Prim.omega arith };
 }
 
 type Text = Line<RoleText, ToRole>;

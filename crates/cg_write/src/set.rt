@@ -4,7 +4,7 @@ ghost use Rattle.cg_text.specs.Token.{Spells};
 ghost use Rattle.cg_value.specs.Settings.{WriteText};
 ghost use Rattle.cg_value.specs.declared.kind.WriteForm.TheVariants.{Set as SetForm};
 
-use cg_join::{Line, Sequence, Turn, one_line};
+use cg_join::{Line, MapValue, Sequence, one_line};
 use cg_text::{ByteText, LooseListText, NumberSet, OutOfMemory, Token};
 use cg_value::Setting;
 use std::alloc::Global;
@@ -13,17 +13,17 @@ use std::alloc::Global;
 #[derive(Clone, Copy)]
 struct ToSet;
 
-impl Turn<Sequence<LooseListText, ByteText>> for ToSet {
+impl MapValue<Sequence<LooseListText, ByteText>> for ToSet {
     type To = Setting;
 
-    ghost use Rattle.cg_write.specs.Turned.{set_setting};
+    ghost use Rattle.cg_write.specs.Mapped.{set_setting};
     ghost use Rattle.std.proofs.Common.{arith};
 
-    ghost turned = { set_setting };
+    ghost mapped = { set_setting };
 
     ghost value_size = { λ _. 0 };
 
-    fn turn(value: (NumberSet, ())) -> Setting {
+    fn map_value(value: (NumberSet, ())) -> Setting {
         Setting::Set(value.0)
     }
 
@@ -31,7 +31,7 @@ impl Turn<Sequence<LooseListText, ByteText>> for ToSet {
         0
     }
 
-    ghost no_more = { λ v. Prim.omega arith };
+    ghost adds_no_memory = { λ v. Prim.omega arith };
 }
 
 type Text = Line<LooseListText, ToSet>;

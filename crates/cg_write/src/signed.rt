@@ -4,7 +4,7 @@ ghost use Rattle.cg_text.specs.Token.{Spells};
 ghost use Rattle.cg_value.specs.Settings.{WriteText};
 ghost use Rattle.cg_value.specs.declared.kind.WriteForm.TheVariants.{Signed as SignedForm};
 
-use cg_join::{Line, Sequence, Turn, one_line};
+use cg_join::{Line, MapValue, Sequence, one_line};
 use cg_text::{ByteText, OutOfMemory, SignedText, Token};
 use cg_value::Setting;
 
@@ -12,17 +12,17 @@ use cg_value::Setting;
 #[derive(Clone, Copy)]
 struct ToSigned;
 
-impl Turn<Sequence<SignedText, ByteText>> for ToSigned {
+impl MapValue<Sequence<SignedText, ByteText>> for ToSigned {
     type To = Setting;
 
-    ghost use Rattle.cg_write.specs.Turned.{signed_setting};
+    ghost use Rattle.cg_write.specs.Mapped.{signed_setting};
     ghost use Rattle.std.proofs.Common.{arith};
 
-    ghost turned = { signed_setting };
+    ghost mapped = { signed_setting };
 
     ghost value_size = { λ _. 0 };
 
-    fn turn(value: (i64, ())) -> Setting {
+    fn map_value(value: (i64, ())) -> Setting {
         Setting::Signed(value.0)
     }
 
@@ -30,7 +30,7 @@ impl Turn<Sequence<SignedText, ByteText>> for ToSigned {
         0
     }
 
-    ghost no_more = { λ v. Prim.omega arith };
+    ghost adds_no_memory = { λ v. Prim.omega arith };
 }
 
 type Text = Line<SignedText, ToSigned>;

@@ -5,7 +5,7 @@ ghost use Rattle.cg_value.specs.Settings.{WriteText};
 ghost use Rattle.cg_value.specs.declared.kind.WriteForm.TheVariants.{SizeLimit as SizeLimitForm};
 ghost use Rattle.cg_write.specs.Texts.{IsSizeOrMax};
 
-use cg_join::{Choice, Either, Line, Sequence, Turn, one_line};
+use cg_join::{Choice, Either, Line, MapValue, Sequence, one_line};
 use cg_text::{ByteText, Keyword, KeywordText, Limit, OutOfMemory, SizeText, Token};
 use cg_value::Setting;
 
@@ -24,17 +24,17 @@ fn size_limit_text() -> SizeLimitText
 #[derive(Clone, Copy)]
 struct ToSizeLimit;
 
-impl Turn<Sequence<SizeLimitText, ByteText>> for ToSizeLimit {
+impl MapValue<Sequence<SizeLimitText, ByteText>> for ToSizeLimit {
     type To = Setting;
 
-    ghost use Rattle.cg_write.specs.Turned.{size_limit_setting};
+    ghost use Rattle.cg_write.specs.Mapped.{size_limit_setting};
     ghost use Rattle.std.proofs.Common.{arith};
 
-    ghost turned = { size_limit_setting };
+    ghost mapped = { size_limit_setting };
 
     ghost value_size = { λ _. 0 };
 
-    fn turn(value: (Either<u64, ()>, ())) -> Setting {
+    fn map_value(value: (Either<u64, ()>, ())) -> Setting {
         Setting::Limit(match value.0 {
             Either::Left(bytes) => Limit::At(bytes),
             Either::Right(_) => Limit::Max,
@@ -45,7 +45,7 @@ impl Turn<Sequence<SizeLimitText, ByteText>> for ToSizeLimit {
         0
     }
 
-    ghost no_more = { λ v. Prim.omega arith };
+    ghost adds_no_memory = { λ v. Prim.omega arith };
 }
 
 type Text = Line<SizeLimitText, ToSizeLimit>;

@@ -3,7 +3,7 @@ ghost use Rattle.std.specs.Prelude.{◌≡◌, ◌+◌, true, length};
 ghost use Rattle.cg_text.specs.Token.{Spells};
 ghost use Rattle.cg_write.specs.Texts.{IsSign, IsToggle};
 
-use cg_join::{Choice, Either, Mapped, Sequence, Start, Turn};
+use cg_join::{Choice, Either, MakeToken, MapValue, Mapped, Sequence};
 use cg_text::{ByteText, Key, OutOfMemory, Token, WordText};
 use cg_value::Toggle;
 use std::alloc::Global;
@@ -15,17 +15,17 @@ type SignText = Choice<ByteText, ByteText>;
 #[derive(Clone, Copy)]
 struct ToToggle;
 
-impl Turn<Sequence<SignText, WordText>> for ToToggle {
+impl MapValue<Sequence<SignText, WordText>> for ToToggle {
     type To = Toggle;
 
-    ghost use Rattle.cg_write.specs.Turned.{toggle_of};
+    ghost use Rattle.cg_write.specs.Mapped.{toggle_of};
     ghost use Rattle.std.proofs.Common.{arith};
 
-    ghost turned = { toggle_of };
+    ghost mapped = { toggle_of };
 
     ghost value_size = { λ t. length t.name };
 
-    fn turn(value: (Either<(), ()>, Key)) -> Toggle {
+    fn map_value(value: (Either<(), ()>, Key)) -> Toggle {
         let (sign, name) = value;
         let on = match sign {
             Either::Left(_) => true,
@@ -38,7 +38,7 @@ impl Turn<Sequence<SignText, WordText>> for ToToggle {
         value.name.bytes().len() as u64
     }
 
-    ghost no_more = { λ v. Prim.omega arith };
+    ghost adds_no_memory = { λ v. Prim.omega arith };
 }
 
 /// What the text of a toggle is made of.
@@ -141,7 +141,7 @@ impl ToggleStart {
     }
 }
 
-impl Start<ToggleText> for ToggleStart {
+impl MakeToken<ToggleText> for ToggleStart {
     ghost use Rattle.cg_write.specs.ToggleLaws.{some_toggle, one_toggle, toggle_bytes};
 
     ghost texts = { λ _ text t. IsToggle text t };

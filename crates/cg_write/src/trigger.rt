@@ -5,7 +5,7 @@ ghost use Rattle.cg_value.specs.Settings.{WriteText};
 ghost use Rattle.cg_value.specs.declared.kind.WriteForm.TheVariants.{Trigger as TriggerForm};
 ghost use Rattle.cg_write.specs.Texts.{IsThreshold};
 
-use cg_join::{Choice, Either, Line, Sequence, Spaced, Turn, one_line, spaced};
+use cg_join::{Choice, Either, Line, MapValue, Sequence, Spaced, one_line, spaced};
 use cg_text::{ByteText, Keyword, KeywordText, OutOfMemory, Times, Token, TriggerText};
 use cg_value::Setting;
 
@@ -30,17 +30,17 @@ fn threshold_text() -> ThresholdText
 #[derive(Clone, Copy)]
 struct ToTrigger;
 
-impl Turn<Sequence<ThresholdText, ByteText>> for ToTrigger {
+impl MapValue<Sequence<ThresholdText, ByteText>> for ToTrigger {
     type To = Setting;
 
-    ghost use Rattle.cg_write.specs.Turned.{trigger_setting};
+    ghost use Rattle.cg_write.specs.Mapped.{trigger_setting};
     ghost use Rattle.std.proofs.Common.{arith};
 
-    ghost turned = { trigger_setting };
+    ghost mapped = { trigger_setting };
 
     ghost value_size = { λ _. 0 };
 
-    fn turn(value: ((Either<(), ()>, ((), Times)), ())) -> Setting {
+    fn map_value(value: ((Either<(), ()>, ((), Times)), ())) -> Setting {
         let (tasks, (_, times)) = value.0;
         Setting::Trigger {
             full: match tasks {
@@ -56,7 +56,7 @@ impl Turn<Sequence<ThresholdText, ByteText>> for ToTrigger {
         0
     }
 
-    ghost no_more = { λ v. Prim.omega arith };
+    ghost adds_no_memory = { λ v. Prim.omega arith };
 }
 
 type Text = Line<ThresholdText, ToTrigger>;

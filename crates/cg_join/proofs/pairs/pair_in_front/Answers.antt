@@ -1,5 +1,5 @@
 use Rattle.std.proofs.Common.{◌+◌, ◌<◌, length, take, drop, ap, ◌∙◌, arith}
-use Rattle.cg_join.specs.WholeLineLaws.{mark_cut}
+use Rattle.cg_join.specs.WholeLineLaws.{delimiter_cut}
 use Rattle.cg_join.proofs.pairs.pair_in_front.Goals as goal
 
 pub returns-clause-front : goal.returns-clause-front
@@ -16,7 +16,7 @@ returns-clause-front g c =
       record {
         front = take n bytes;
         back = take m (drop (n + 1) bytes);
-        whole = mark_cut bytes n m c.args.mark inside c.if-bytes-count.false;
+        whole = delimiter_cut bytes n m c.args.delimiter inside c.if-bytes-count.false;
         begins = rw word first.1;
         ends = rw value second.1;
       },

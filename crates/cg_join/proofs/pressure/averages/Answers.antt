@@ -1,5 +1,5 @@
 use Rattle.std.proofs.Common.{arith}
-use Rattle.cg_text.specs.declared.hundredths.Form.TheVariants.{Read}
+use Rattle.cg_text.specs.declared.hundredths.Spelling.TheVariants.{Read}
 use Rattle.cg_join.specs.ApartLaws.{labelled_apart}
 use Rattle.cg_join.specs.BeginsLaws.{label_begins, lead_begins}
 use Rattle.cg_join.specs.CutLaws.{label_spells}

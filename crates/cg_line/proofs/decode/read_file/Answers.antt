@@ -1,5 +1,5 @@
 use Rattle.cg_file.specs.Kinds.{TextsOf}
-use Rattle.cg_file.specs.contracts.file_text.FileTextToken.TheImpl.{ghosts}
+use Rattle.cg_file.specs.contracts.any_file.AnyFileToken.TheImpl.{ghosts}
 use Rattle.cg_line.specs.DecodeLaws.{read_as}
 use Rattle.cg_line.proofs.decode.read_file.Goals as goal
 

@@ -1,10 +1,10 @@
 use Rattle.std.proofs.Common.{ℕ, List}
 use Rattle.cg_value.specs.Settings.{SettingText}
 use Rattle.cg_value.specs.declared.setting.Setting.{Setting}
-use Rattle.cg_write.specs.contracts.write_text.WriteTextToken.TheImpl.{ghosts}
+use Rattle.cg_write.specs.contracts.any_write.AnyWriteToken.TheImpl.{ghosts}
 use Rattle.cg_line.specs.DecodeLaws.{read_as}
 use Rattle.cg_line.specs.DecodeWriteLaws.{kind_writes}
-use Rattle.cg_line.specs.Takes.{WritesOf}
+use Rattle.cg_line.specs.SettingReads.{WritesOf}
 use Rattle.cg_line.proofs.decode_write.decode_setting.Goals as goal
 
 pub returns-in-Err-read_all : goal.returns-in-Err-read_all

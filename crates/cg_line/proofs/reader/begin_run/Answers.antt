@@ -1,7 +1,7 @@
 use Rattle.std.proofs.Common.{◌<◌, [], length, take, arith}
 use Rattle.cg_value.specs.Files.{KindFile}
 use Rattle.cg_line.specs.ReadsLaws.{first_next}
-use Rattle.cg_line.specs.TookLaws.{took_read}
+use Rattle.cg_line.specs.OpenReadsLaws.{took_read}
 use Rattle.cg_line.proofs.reader.begin_run.Goals as goal
 
 pub returns-in-None-clause-stops : goal.returns-in-None-clause-stops

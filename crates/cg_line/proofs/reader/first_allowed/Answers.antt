@@ -1,7 +1,7 @@
 use Rattle.std.proofs.Common.{[]}
 use Rattle.cg_text.specs.Bytes.{HasByte}
 use Rattle.cg_line.specs.RestsLaws.{next_is}
-use Rattle.cg_line.specs.TookLaws.{took_read}
+use Rattle.cg_line.specs.OpenReadsLaws.{took_read}
 use Rattle.cg_line.proofs.reader.first_allowed.Goals as goal
 
 pub returns : goal.returns

@@ -1,7 +1,7 @@
 use Rattle.std.proofs.Common.{[]}
-use Rattle.cg_file.specs.contracts.file_text.FileTextToken.TheImpl.{ghosts}
+use Rattle.cg_file.specs.contracts.any_file.AnyFileToken.TheImpl.{ghosts}
 use Rattle.cg_line.specs.RestsLaws.{whole_is}
-use Rattle.cg_line.specs.TookLaws.{took_read}
+use Rattle.cg_line.specs.OpenReadsLaws.{took_read}
 use Rattle.cg_line.proofs.reader.may_be_empty.Goals as goal
 
 pub returns : goal.returns

@@ -2,7 +2,7 @@ use Rattle.std.proofs.Common.{◌≡◌, None, List, ℕ}
 use Rattle.cg_text.specs.Texts.{TextOf}
 use Rattle.cg_line.specs.DecodeLaws.{texts_as}
 use Rattle.cg_line.specs.DecodeWriteLaws.{kind_writes}
-use Rattle.cg_line.specs.Takes.{WritesOf}
+use Rattle.cg_line.specs.SettingReads.{WritesOf}
 use Rattle.cg_value.specs.Settings.{SettingText, Write}
 use Rattle.cg_value.specs.Table.{write_form_of}
 use Rattle.cg_value.specs.declared.setting.Setting.{Setting}

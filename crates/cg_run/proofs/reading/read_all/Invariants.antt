@@ -10,7 +10,7 @@ invariant-reads g l = record {
   same : is_some l.lines ≡ is_some l.initial.lines;
   small : l.at ≤ l.max;
   asks : g.R.Source.asks l.source ≤ g.R.Source.asks l.initial.source + l.at;
-  read : (form : g.row.T-Form.Denot) → g.T.TextReader.took l.initial.reader form [] → g.R.Source.has_failed l.initial.source ≡ false → AreBehind l.initial.lines [] →
+  read : (form : g.row.T-Grammar.Denot) → g.T.TextReader.took l.initial.reader form [] → g.R.Source.has_failed l.initial.source ≡ false → AreBehind l.initial.lines [] →
       ReadSoFar (g.T.TextReader.took l.reader form) l.max (g.R.Source.coming l.initial.source) (g.R.Source.coming l.source) (g.R.Source.has_failed l.source) l.at l.lines;
 }
 

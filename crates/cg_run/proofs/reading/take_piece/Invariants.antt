@@ -7,7 +7,7 @@ invariant-loop-used g l = record {
   within : l.used ≤ length l.piece;
   small : l.at + l.used ≤ l.max;
   kept : l.lines ≡ l.initial.lines;
-  goes_on : (form : g.row.T-Form.Denot) (taken : List ℕ) → l.at ≡ length taken → GoesOn (g.T.TextReader.took l.initial.reader form) l.max taken →
+  goes_on : (form : g.row.T-Grammar.Denot) (taken : List ℕ) → l.at ≡ length taken → GoesOn (g.T.TextReader.took l.initial.reader form) l.max taken →
       GoesOn (g.T.TextReader.took l.reader form) l.max (taken ++ take l.used l.piece);
 }
 

@@ -9,10 +9,10 @@ invariant-reads g l = record {
   room : 0 < length l.buffer;
   same : is_some l.lines ≡ is_some l.initial.lines;
   none : l.output.text.items ≡ [];
-  some : (form : g.row.S-Form.Denot) × (g.S.StreamReader.limit form ≡ l.max) × (first : Option (List ℕ)) × (read : List ℕ) ×
+  some : (form : g.row.S-Setup.Denot) × (g.S.StreamReader.limit form ≡ l.max) × (first : Option (List ℕ)) × (read : List ℕ) ×
       Before (g.S.StreamReader.took l.stream form) first (g.W.Sink.taken l.writer) l.output.written read;
   asks : g.R.Source.asks l.reader ≤ g.R.Source.asks l.initial.reader + g.S.StreamReader.offset l.stream;
-  read : (form : g.row.S-Form.Denot) → g.S.StreamReader.limit form ≡ l.max → g.S.StreamReader.took l.initial.stream form [] [] → g.R.Source.has_failed l.initial.reader ≡ false → AreBehind l.initial.lines [] →
+  read : (form : g.row.S-Setup.Denot) → g.S.StreamReader.limit form ≡ l.max → g.S.StreamReader.took l.initial.stream form [] [] → g.R.Source.has_failed l.initial.reader ≡ false → AreBehind l.initial.lines [] →
       StreamedSoFar (g.S.StreamReader.took l.stream form) (g.R.Source.coming l.initial.reader) (g.R.Source.coming l.reader) (g.W.Sink.taken l.initial.writer) (g.W.Sink.taken l.writer) l.output (g.R.Source.has_failed l.reader) l.lines;
 }
 

@@ -5,7 +5,7 @@ use Rattle.cg_run.proofs.streaming.take_parts.Given as goal
 abbrev pub invariant-loop-used : goal.invariant-loop-used
 invariant-loop-used g l = record {
   within : l.used ≤ length l.piece;
-  before : (form : g.row.S-Form.Denot) (first : Option (List ℕ)) (read : List ℕ) →
+  before : (form : g.row.S-Setup.Denot) (first : Option (List ℕ)) (read : List ℕ) →
       BeforeNext (g.S.StreamReader.took l.initial.stream form) first (g.W.Sink.taken l.initial.writer) l.initial.output read →
       BeforeNext (g.S.StreamReader.took l.stream form) first (g.W.Sink.taken l.writer) l.output (read ++ take l.used l.piece);
 }

@@ -4,7 +4,7 @@ use Rattle.cg_snap.proofs.course.pull.Given as goal
 
 abbrev pub invariant-loop-used : goal.invariant-loop-used
 invariant-loop-used g l = record {
-  along : (form : g.row.R-Form.Denot) (p : List ℕ) (es : List g.row.R-Part.Denot) →
+  along : (form : g.row.R-Setup.Denot) (p : List ℕ) (es : List g.row.R-Part.Denot) →
       HasProgressed (g.R.Records.stream form) l.fn.records l.fn.meter p es →
       HasProgressed (g.R.Records.stream form) l.records l.meter (p ++ take l.used l.piece) es;
   within : l.used ≤ length l.piece;

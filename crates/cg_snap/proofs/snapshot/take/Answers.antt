@@ -2,14 +2,14 @@ use Rattle.std.proofs.Common.{◌≡◌, [], ◌++◌, ℕ, List, Option, Some, 
 use Rattle.std.proofs.lemmas.Bool.{eqb-true}
 use Rattle.std.proofs.lemmas.List.{nil_from_length}
 use Rattle.cg_snap.specs.DecoderState.{HasConsumed, HasConsumedInPath, IsBetween}
-use Rattle.cg_snap.specs.declared.present.Present.{Present}
+use Rattle.cg_snap.specs.declared.present.CurrentEntry.{CurrentEntry}
 use Rattle.cg_snap.proofs.Finishes.{between_path}
 use Rattle.cg_snap.proofs.snapshot.take.Goals as goal
 use Rattle.cg_snap.proofs.snapshot.take.Goals.{in-Some+else-x+then-is_empty+else-used-gt0, in-Some+else-x+else-is_empty, in_default}
 
 pub returns-then-x-clause-left : goal.returns-then-x-clause-left
 returns-then-x-clause-left c = λ p es h at.
-    let here = subst (λ (o : Option Present). HasConsumed c.args.profile c.args.begun.now.items o p es) c.in-Some.is h in
+    let here = subst (λ (o : Option CurrentEntry). HasConsumed c.args.profile c.args.begun.now.items o p es) c.in-Some.is h in
     c.take_line.ensures.left c.args.profile p es here c.if-x.true at c.args.max_lines
 
 pub returns-clause-few : goal.returns-clause-few
@@ -31,7 +31,7 @@ returns-clause-few c = λ p es h.
           let zero : w.take_again-used.result ≡ 0 = omega (arith, w.if-used-gt0.false) in
           let t = subst (λ (n : ℕ). HasConsumed profile [] (Some w.take_again-used.new.present) (p ++ take n bytes) es) zero (w.take_again-used.ensures.taken profile p es a) in
           rw (w.present-is, empty) (subst (λ (q : List ℕ). HasConsumed profile [] (Some w.take_again-used.new.present) q es) (append-nil p) t))
-      | in-Some+else-x+else-is_empty w ↦ rw w.present-is (subst (λ (o : Option Present). HasConsumed profile begun o p es) w.in-Some.is h)
+      | in-Some+else-x+else-is_empty w ↦ rw w.present-is (subst (λ (o : Option CurrentEntry). HasConsumed profile begun o p es) w.in-Some.is h)
       | in_default w ↦ rw w.present-is h
     ] in
     c.take_head.ensures.few p es here between

@@ -1,6 +1,6 @@
 use Rattle.std.proofs.Common.{◌↔◌, IsTrue, All, rules}
 use Rattle.cg_text.specs.Hundredths.{IsHundredths}
-use Rattle.cg_text.specs.declared.hundredths.Form.TheVariants.{Read}
+use Rattle.cg_text.specs.declared.hundredths.Spelling.TheVariants.{Read}
 use Rattle.cg_value.specs.SpelledLaws.{HasText, lines_text}
 use Rattle.cg_value.proofs.spelled.are_at_most.Goals as goal
 

@@ -1,13 +1,13 @@
 use Rattle.std.proofs.Common.{arith}
 use Rattle.cg_text.specs.Clamp.{IsClamp}
-use Rattle.cg_text.specs.declared.hundredths.Form.TheVariants.{Read}
+use Rattle.cg_text.specs.declared.hundredths.Spelling.TheVariants.{Read}
 use Rattle.cg_join.specs.LackingLaws.{clamp_lacking}
 use Rattle.cg_join.specs.LineLaws.{lacks_spelled, line_as}
 use Rattle.cg_join.specs.Spelling.{spells_as}
 use Rattle.cg_value.specs.declared.kind.ReadForm.TheVariants.{Clamp as ClampForm}
 use Rattle.cg_value.specs.declared.value.Value.TheVariants.{Clamp as ClampOf}
 use Rattle.cg_file.specs.FileLaws.{one_is}
-use Rattle.cg_file.specs.OneLineTurned.{clamp_value}
+use Rattle.cg_file.specs.OneLineMapped.{clamp_value}
 use Rattle.cg_file.proofs.clamp.ClampFile.new.Goals as goal
 
 pub one_line-requires : goal.one_line-requires

@@ -9,7 +9,7 @@ use Rattle.cg_value.specs.declared.kind.ReadForm.TheVariants.{CpuMax as CpuMaxFo
 use Rattle.cg_value.specs.declared.value.Value.TheVariants.{CpuMax}
 use Rattle.cg_file.specs.FileLaws.{one_is}
 use Rattle.cg_file.specs.OneLineFileLaws.{cpu_max_is, one_through}
-use Rattle.cg_file.specs.OneLineTurned.{cpu_max_value, quota_of}
+use Rattle.cg_file.specs.OneLineMapped.{cpu_max_value, quota_of}
 use Rattle.cg_file.proofs.cpu_max.CpuMaxFile.new.Goals as goal
 
 pub one_line-requires : goal.one_line-requires

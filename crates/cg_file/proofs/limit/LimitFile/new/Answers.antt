@@ -5,7 +5,7 @@ use Rattle.cg_join.specs.Spelling.{spells_as}
 use Rattle.cg_join.specs.LineLaws.{lacks_spelled, line_as}
 use Rattle.cg_value.specs.declared.value.Value.TheVariants.{Limit as LimitOf}
 use Rattle.cg_value.specs.declared.kind.ReadForm.TheVariants.{Limit as LimitForm}
-use Rattle.cg_file.specs.Turned.{limit_value}
+use Rattle.cg_file.specs.Mapped.{limit_value}
 use Rattle.cg_file.specs.FileLaws.{one_is}
 use Rattle.cg_file.proofs.limit.LimitFile.new.Goals as goal
 

@@ -5,7 +5,7 @@ use Rattle.cg_join.specs.Spelling.{spells_as}
 use Rattle.cg_join.specs.LineLaws.{lacks_spelled, line_as}
 use Rattle.cg_value.specs.declared.value.Value.TheVariants.{Number}
 use Rattle.cg_value.specs.declared.kind.ReadForm.TheVariants.{Number as NumberForm}
-use Rattle.cg_file.specs.Turned.{number_value}
+use Rattle.cg_file.specs.Mapped.{number_value}
 use Rattle.cg_file.specs.FileLaws.{one_is}
 use Rattle.cg_file.proofs.number.NumberFile.new.Goals as goal
 

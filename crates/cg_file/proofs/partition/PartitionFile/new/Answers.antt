@@ -8,7 +8,7 @@ use Rattle.cg_value.specs.declared.value.Value.TheVariants.{Partition}
 use Rattle.cg_file.specs.FileLaws.{one_is}
 use Rattle.cg_file.specs.OneLineFileLaws.{one_through}
 use Rattle.cg_file.specs.PartitionFileLaws.{partition_is, partition_lacking}
-use Rattle.cg_file.specs.PartitionTurned.{IsPartitionText, partition_parts, partition_value}
+use Rattle.cg_file.specs.PartitionMapped.{IsPartitionText, partition_parts, partition_value}
 use Rattle.cg_file.proofs.partition.PartitionFile.new.Goals as goal
 
 pub one_line-requires : goal.one_line-requires

@@ -6,7 +6,7 @@ use Rattle.cg_join.specs.Spelling.{spells_as}
 use Rattle.cg_value.specs.declared.kind.ReadForm.TheVariants.{Set as SetForm}
 use Rattle.cg_value.specs.declared.value.Value.TheVariants.{Set}
 use Rattle.cg_file.specs.FileLaws.{one_is}
-use Rattle.cg_file.specs.OneLineTurned.{set_value}
+use Rattle.cg_file.specs.OneLineMapped.{set_value}
 use Rattle.cg_file.proofs.set.SetFile.new.Goals as goal
 
 pub one_line-requires : goal.one_line-requires

@@ -6,7 +6,7 @@ use Rattle.cg_join.specs.Spelling.{spells_as}
 use Rattle.cg_value.specs.declared.kind.ReadForm.TheVariants.{Signed as SignedForm}
 use Rattle.cg_value.specs.declared.value.Value.TheVariants.{Signed}
 use Rattle.cg_file.specs.FileLaws.{one_is}
-use Rattle.cg_file.specs.OneLineTurned.{signed_value}
+use Rattle.cg_file.specs.OneLineMapped.{signed_value}
 use Rattle.cg_file.proofs.signed.SignedFile.new.Goals as goal
 
 pub one_line-requires : goal.one_line-requires

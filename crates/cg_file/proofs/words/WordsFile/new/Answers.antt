@@ -1,6 +1,6 @@
 use Rattle.cg_join.specs.Spelling.{mapped_spells, spells_as}
 use Rattle.cg_file.specs.WordsFileLaws.{words_is}
-use Rattle.cg_file.specs.WordsTurned.{words_value}
+use Rattle.cg_file.specs.WordsMapped.{words_value}
 use Rattle.cg_file.proofs.words.WordsFile.new.Goals as goal
 
 pub returns-clause-spells : goal.returns-clause-spells

@@ -11,13 +11,13 @@ pub invariant_of-self : goal.invariant_of-self
 invariant_of-self g c =
     let old = c.args.self.now in
     record {
-      key_mark = old.key_mark;
+      key_delimiter = old.key_delimiter;
       key_end = old.key_end;
       value_end = lacks_run old.end (g.V.Token.means old.value) (g.V.Token.means c.run_parts.new.token) (take c.run_parts.result c.args.bytes.now) c.run_parts.ensures.follows old.value_end;
       apart = old.apart;
-      small_mark = old.small_mark;
+      small_delimiter = old.small_delimiter;
       small_end = old.small_end;
-      keys_mark = old.keys_mark;
+      keys_delimiter = old.keys_delimiter;
       keys_end = old.keys_end;
       values_end = old.values_end;
       new_key = λ e. absurd (begun_value old.stage c.requires e);
@@ -33,9 +33,9 @@ returns-clause-follows g c =
     let v = g.C.Collection.value_of in
     let given = g.C.Collection.given in
     let items = g.C.Collection.pairs_of old.pairs in
-    let alone = g.B.Follow.alone old.values in
+    let bare_value = g.B.MakeValue.bare_value old.values in
     let K = word_text.ghosts.means old.key in
-    let R = IsKeyed k v (SpellsWord old.keys.controller) (g.B.Start.texts old.values) alone old.mark in
+    let R = IsKeyed k v (SpellsWord old.keys.controller) (g.B.MakeToken.texts old.values) bare_value old.delimiter in
     let new = c.run_parts.new.token in
-    rw c.requires (line_value_run k v given items R alone old.mark old.end K old.ended.items (g.V.Token.means old.value) (g.V.Token.means new)
+    rw c.requires (line_value_run k v given items R bare_value old.delimiter old.end K old.ended.items (g.V.Token.means old.value) (g.V.Token.means new)
     (take c.run_parts.result c.args.bytes.now) old.value_end (g.V.Token.completes new) c.run_parts.ensures.follows)

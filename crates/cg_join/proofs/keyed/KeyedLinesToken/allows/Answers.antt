@@ -12,12 +12,12 @@ returns-then-byte-self g c =
     let v = g.C.Collection.value_of in
     let given = g.C.Collection.given in
     let items = g.C.Collection.pairs_of old.pairs in
-    let alone = g.B.Follow.alone old.values in
+    let bare_value = g.B.MakeValue.bare_value old.values in
     let K = word_text.ghosts.means old.key in
     let D = g.V.Token.means old.value in
-    let R = IsKeyed k v (SpellsWord old.keys.controller) (g.B.Start.texts old.values) alone old.mark in
+    let R = IsKeyed k v (SpellsWord old.keys.controller) (g.B.MakeToken.texts old.values) bare_value old.delimiter in
     let ends = g.V.Token.ends_is old.value in
-    let all = over_begins k v given items R K D alone old.mark old.end true old.ended.items g.C.Collection.paired g.C.Collection.has_key g.C.Collection.has_value old.distinct (rw c.in-InValue.is at old.kept) old.value_end in
+    let all = over_begins k v given items R K D bare_value old.delimiter old.end true old.ended.items g.C.Collection.paired g.C.Collection.has_key g.C.Collection.has_value old.distinct (rw c.in-InValue.is at old.kept) old.value_end in
     rw (c.in-InValue.is, c.if-byte-self.true) (λ h. all.0 (ends.0 (sym c.can_end.ensures ∙ h)), λ h. c.can_end.ensures ∙ ends.1 (all.1 h))
 
 pub returns-else-byte-self : goal.returns-else-byte-self
@@ -27,11 +27,11 @@ returns-else-byte-self g c =
     let v = g.C.Collection.value_of in
     let given = g.C.Collection.given in
     let items = g.C.Collection.pairs_of old.pairs in
-    let alone = g.B.Follow.alone old.values in
+    let bare_value = g.B.MakeValue.bare_value old.values in
     let K = word_text.ghosts.means old.key in
     let D = g.V.Token.means old.value in
-    let R = IsKeyed k v (SpellsWord old.keys.controller) (g.B.Start.texts old.values) alone old.mark in
-    let all = value_begins k v given items R K D alone old.mark old.end true old.ended.items g.C.Collection.paired
+    let R = IsKeyed k v (SpellsWord old.keys.controller) (g.B.MakeToken.texts old.values) bare_value old.delimiter in
+    let all = value_begins k v given items R K D bare_value old.delimiter old.end true old.ended.items g.C.Collection.paired
     g.C.Collection.has_key g.C.Collection.has_value old.distinct
     (rw c.in-InValue.is at old.kept) c.args.byte c.if-byte-self.false in
     rw c.in-InValue.is (λ h. all.0 (c.allows.ensures.0 h), λ h. c.allows.ensures.1 (all.1 h))

@@ -9,7 +9,7 @@ pub invariant_of-self-clause-lacks : goal.invariant_of-self-clause-lacks
 invariant_of-self-clause-lacks g c =
     let old = c.args.self.now in
     let P = g.T.Token.means old.current in
-    let R = g.S.Start.texts old.start in
+    let R = g.S.MakeToken.texts old.start in
     let renewed = g.T.Token.means c.renew.new.current in
     lacks_run old.end renewed (g.T.Token.means c.run_parts-count.new.token) (take c.run_parts-count.result c.args.bytes.now) c.run_parts-count.ensures.follows
     (lacks_same old.end (at_hand old.begun P R) renewed c.renew.ensures.is (hand_lacks P R old.end old.begun old.lacks old.starts))
@@ -18,7 +18,7 @@ pub returns-then-count-gt0-clause-follows : goal.returns-then-count-gt0-clause-f
 returns-then-count-gt0-clause-follows g c =
     let old = c.args.self.now in
     let P = g.T.Token.means old.current in
-    let R = g.S.Start.texts old.start in
+    let R = g.S.MakeToken.texts old.start in
     let some : 0 < length (take c.run_parts-count.result c.args.bytes.now) = some_taken c.run_parts-count.result c.args.bytes.now (omega (arith, c.if-count-gt0.true)) c.run_parts-count.ensures.within in
     let new = c.run_parts-count.new.token in
     let run = take c.run_parts-count.result c.args.bytes.now in
@@ -29,7 +29,7 @@ pub returns-else-count-gt0-clause-follows : goal.returns-else-count-gt0-clause-f
 returns-else-count-gt0-clause-follows g c =
     let old = c.args.self.now in
     let P = g.T.Token.means old.current in
-    let R = g.S.Start.texts old.start in
+    let R = g.S.MakeToken.texts old.start in
     let new = g.T.Token.means c.run_parts-count.new.token in
     let none : c.run_parts-count.result ≡ 0 = omega (arith, c.if-count-gt0.false) in
     let same = rw none at c.run_parts-count.ensures.follows in
@@ -39,7 +39,7 @@ pub invariant_of-self-else-count-gt0 : goal.invariant_of-self-else-count-gt0
 invariant_of-self-else-count-gt0 g c =
     let old = c.args.self.now in
     let P = g.T.Token.means old.current in
-    let R = g.S.Start.texts old.start in
+    let R = g.S.MakeToken.texts old.start in
     let renewed = g.T.Token.means c.renew.new.current in
     let none : c.run_parts-count.result ≡ 0 = omega (arith, c.if-count-gt0.false) in
     record {

@@ -10,7 +10,7 @@ invariant_of-self g c =
     let taken = rw c.in-Ok-true.field-0-test at c.in-Ok-true.ensures.taken in
     let old = c.args.self.now in
     let P = g.T.Token.means old.current in
-    let R = g.S.Start.texts old.start in
+    let R = g.S.MakeToken.texts old.start in
     let H = at_hand old.begun P R in
     let is = c.renew.ensures.is in
     let lacks = hand_lacks P R old.end old.begun old.lacks old.starts in
@@ -26,7 +26,7 @@ returns-in-Ok-true-clause-taken g c =
     let taken = rw c.in-Ok-true.field-0-test at c.in-Ok-true.ensures.taken in
     let old = c.args.self.now in
     let P = g.T.Token.means old.current in
-    let R = g.S.Start.texts old.start in
+    let R = g.S.MakeToken.texts old.start in
     let H = at_hand old.begun P R in
     let is = c.renew.ensures.is in
     lines_taken old.end H (g.T.Token.means c.step.new.self) R c.args.byte c.if-byte-self.true (λ rest v. through (taken rest v) (is (c.args.byte ∷ rest) v)) old.begun old.items.items
@@ -36,7 +36,7 @@ returns-in-Ok-false-clause-refused g c =
     let none = rw c.in-Ok-false.field-0-test at c.in-Ok-false.ensures.refused in
     let old = c.args.self.now in
     let P = g.T.Token.means old.current in
-    let R = g.S.Start.texts old.start in
+    let R = g.S.MakeToken.texts old.start in
     let H = at_hand old.begun P R in
     let is = c.renew.ensures.is in
     lines_none old.end H R c.args.byte (λ rest u h. none rest u ((is (c.args.byte ∷ rest) u).1 h)) (λ e. absurd (c.if-byte-self.true e)) old.begun old.items.items
@@ -46,7 +46,7 @@ returns-in-Ok-false-clause-same g c =
     let same = rw c.in-Ok-false.field-0-test at c.in-Ok-false.ensures.same in
     let old = c.args.self.now in
     let P = g.T.Token.means old.current in
-    let R = g.S.Start.texts old.start in
+    let R = g.S.MakeToken.texts old.start in
     let H = at_hand old.begun P R in
     let is = c.renew.ensures.is in
     let new = g.T.Token.means c.step.new.self in
@@ -57,7 +57,7 @@ returns-in-Err-clause-same g c =
     let same = c.in-Err.ensures.same in
     let old = c.args.self.now in
     let P = g.T.Token.means old.current in
-    let R = g.S.Start.texts old.start in
+    let R = g.S.MakeToken.texts old.start in
     let H = at_hand old.begun P R in
     let is = c.renew.ensures.is in
     let new = g.T.Token.means c.step.new.self in
@@ -67,7 +67,7 @@ pub returns-then-not-can_end-clause-refused : goal.returns-then-not-can_end-clau
 returns-then-not-can_end-clause-refused g c =
     let old = c.args.self.now in
     let P = g.T.Token.means old.current in
-    let R = g.S.Start.texts old.start in
+    let R = g.S.MakeToken.texts old.start in
     let H = at_hand old.begun P R in
     let is = c.renew.ensures.is in
     let lacks = hand_lacks P R old.end old.begun old.lacks old.starts in
@@ -81,7 +81,7 @@ pub returns-clause-taken : goal.returns-clause-taken
 returns-clause-taken g c =
     let old = c.args.self.now in
     let P = g.T.Token.means old.current in
-    let R = g.S.Start.texts old.start in
+    let R = g.S.MakeToken.texts old.start in
     let H = at_hand old.begun P R in
     let is = c.renew.ensures.is in
     let lacks = hand_lacks P R old.end old.begun old.lacks old.starts in
@@ -89,13 +89,13 @@ returns-clause-taken g c =
     let e : c.args.byte ≡ old.end = c.if-byte-self.false in
     let items : c.put.new.items.items ≡ old.items.items ++ v ∷ [] = c.put.ensures ∙ ap (λ x. x ++ v ∷ []) c.make_room.ensures.items in
     let ended = rw c.replace-done.ensures.value at c.take-value.ensures.value in
-    let one = hand_one P R old.begun (g.T.Token.one_value old.current) (g.S.Start.one_text old.start) in
+    let one = hand_one P R old.begun (g.T.Token.one_value old.current) (g.S.MakeToken.one_text old.start) in
     rw (items, e) (lines_next old.end H R R v ((is [] v).0 ended) one lacks (λ rest u. (λ h. h, λ h. h)) old.begun old.items.items)
 
 pub invariant_of-self-2-clause-lacks : goal.invariant_of-self-2-clause-lacks
 invariant_of-self-2-clause-lacks g c =
     let old = c.args.self.now in
-    rw c.replace-done.ensures.after (lacks_same old.end (g.S.Start.texts old.start) (g.T.Token.means c.start-next.result) c.start-next.ensures.spells.is old.starts)
+    rw c.replace-done.ensures.after (lacks_same old.end (g.S.MakeToken.texts old.start) (g.T.Token.means c.start-next.result) c.start-next.ensures.spells.is old.starts)
 
 pub returns-clause-size : goal.returns-clause-size
 returns-clause-size g c =
@@ -112,7 +112,7 @@ pub returns-in-Err-clause-last : goal.returns-in-Err-clause-last
 returns-in-Err-clause-last g c =
     let old = c.args.self.now in
     let P = g.T.Token.means old.current in
-    let R = g.S.Start.texts old.start in
+    let R = g.S.MakeToken.texts old.start in
     let H = at_hand old.begun P R in
     let is = c.renew.ensures.is in
     let last = c.in-Err.ensures.last in
@@ -122,7 +122,7 @@ pub returns-in-Err-make_room-clause-last : goal.returns-in-Err-make_room-clause-
 returns-in-Err-make_room-clause-last g c =
     let old = c.args.self.now in
     let P = g.T.Token.means old.current in
-    let R = g.S.Start.texts old.start in
+    let R = g.S.MakeToken.texts old.start in
     let H = at_hand old.begun P R in
     let is = c.renew.ensures.is in
     let lacks = hand_lacks P R old.end old.begun old.lacks old.starts in
@@ -133,7 +133,7 @@ pub invariant_of-self-in-Ok-false : goal.invariant_of-self-in-Ok-false
 invariant_of-self-in-Ok-false g c =
     let old = c.args.self.now in
     let P = g.T.Token.means old.current in
-    let R = g.S.Start.texts old.start in
+    let R = g.S.MakeToken.texts old.start in
     let same = rw c.in-Ok-false.field-0-test at c.in-Ok-false.ensures.same in
     let size = rw c.in-Ok-false.field-0-test at c.in-Ok-false.ensures.same_size in
     record {
@@ -147,7 +147,7 @@ pub invariant_of-self-in-Err-1 : goal.invariant_of-self-in-Err-1
 invariant_of-self-in-Err-1 g c =
     let old = c.args.self.now in
     let P = g.T.Token.means old.current in
-    let R = g.S.Start.texts old.start in
+    let R = g.S.MakeToken.texts old.start in
     record {
       lacks = lacks_same old.end (at_hand old.begun P R) (g.T.Token.means c.step.new.self) (λ rest v. through (c.in-Err.ensures.same rest v) (c.renew.ensures.is rest v)) (hand_lacks P R old.end old.begun old.lacks old.starts);
       starts = old.starts;
@@ -159,7 +159,7 @@ pub invariant_of-self-then-not-can_end : goal.invariant_of-self-then-not-can_end
 invariant_of-self-then-not-can_end g c =
     let old = c.args.self.now in
     let P = g.T.Token.means old.current in
-    let R = g.S.Start.texts old.start in
+    let R = g.S.MakeToken.texts old.start in
     record {
       lacks = lacks_same old.end (at_hand old.begun P R) (g.T.Token.means c.renew.new.current) c.renew.ensures.is (hand_lacks P R old.end old.begun old.lacks old.starts);
       starts = old.starts;
@@ -171,7 +171,7 @@ pub returns-then-not-can_end-clause-same : goal.returns-then-not-can_end-clause-
 returns-then-not-can_end-clause-same g c =
     let old = c.args.self.now in
     let P = g.T.Token.means old.current in
-    let R = g.S.Start.texts old.start in
+    let R = g.S.MakeToken.texts old.start in
     let new = g.T.Token.means c.renew.new.current in
     lines_same old.end (at_hand old.begun P R) (at_hand old.begun new R) R (hand_same P R old.begun new c.renew.ensures.is) old.begun old.items.items
 
@@ -179,7 +179,7 @@ pub invariant_of-self-in-Err-make_room : goal.invariant_of-self-in-Err-make_room
 invariant_of-self-in-Err-make_room g c =
     let old = c.args.self.now in
     let P = g.T.Token.means old.current in
-    let R = g.S.Start.texts old.start in
+    let R = g.S.MakeToken.texts old.start in
     record {
       lacks = lacks_same old.end (at_hand old.begun P R) (g.T.Token.means c.renew.new.current) c.renew.ensures.is (hand_lacks P R old.end old.begun old.lacks old.starts);
       starts = old.starts;
@@ -191,6 +191,6 @@ pub returns-in-Err-make_room-clause-same : goal.returns-in-Err-make_room-clause-
 returns-in-Err-make_room-clause-same g c =
     let old = c.args.self.now in
     let P = g.T.Token.means old.current in
-    let R = g.S.Start.texts old.start in
+    let R = g.S.MakeToken.texts old.start in
     let new = g.T.Token.means c.renew.new.current in
     rw c.make_room.ensures.items (lines_same old.end (at_hand old.begun P R) (at_hand old.begun new R) R (hand_same P R old.begun new c.renew.ensures.is) old.begun old.items.items)

@@ -20,7 +20,7 @@ invariant_of-self-2 g c =
 pub returns-clause-taken : goal.returns-clause-taken
 returns-clause-taken g c _ =
     let old = c.args.self.now in
-    let R = g.S.Start.texts old.start in
+    let R = g.S.MakeToken.texts old.start in
     let line = c.args.line.now in
     let v = c.in-Some.found.0 in
     let items : c.put.new.items.items ≡ old.items.items ++ v ∷ [] = c.put.ensures ∙ ap (λ x. x ++ v ∷ []) c.make_room.ensures.items in
@@ -29,7 +29,7 @@ returns-clause-taken g c _ =
     let whole = rw (take_all c.in-Some.found.1 line far) at front.1 in
     let text = (c.start-token.ensures.spells.is line v).0 whole in
     rw (items, c.if-self.false, c.if-end-self.false)
-    (lines_whole old.end R R R (λ rest u. (λ h. h, λ h. h)) old.starts (g.S.Start.one_text old.start) line v text false old.items.items)
+    (lines_whole old.end R R R (λ rest u. (λ h. h, λ h. h)) old.starts (g.S.MakeToken.one_text old.start) line v text false old.items.items)
 
 pub returns-clause-size : goal.returns-clause-size
 returns-clause-size g c =

@@ -14,13 +14,13 @@ returns-clause-spells g c =
     let K = word_text.ghosts.means c.start-word.result in
     let D = g.V.Token.means c.start-value.result in
     let T = SpellsWord c.args.words.controller in
-    let U = g.B.Start.texts c.args.values in
-    record { is = rw c.new.ensures (joined_new w c.args.separator (IsPairText w v K D c.args.mark) (IsPairText w v T U c.args.mark) (pair_alike w v c.args.mark T K U D c.start-word.ensures.spells.is c.start-value.ensures.spells.is)) }
+    let U = g.B.MakeToken.texts c.args.values in
+    record { is = rw c.new.ensures (joined_new w c.args.separator (IsPairText w v K D c.args.delimiter) (IsPairText w v T U c.args.delimiter) (pair_alike w v c.args.delimiter T K U D c.start-word.ensures.spells.is c.start-value.ensures.spells.is)) }
 
 pub invariant_of-result-clause-lacks : goal.invariant_of-result-clause-lacks
 invariant_of-result-clause-lacks g c =
-    lacks_same c.args.mark (SpellsWord c.args.words.controller) (word_text.ghosts.means c.start-word.result) c.start-word.ensures.spells.is c.requires.lacks
+    lacks_same c.args.delimiter (SpellsWord c.args.words.controller) (word_text.ghosts.means c.start-word.result) c.start-word.ensures.spells.is c.requires.lacks
 
 pub invariant_of-result-clause-stops : goal.invariant_of-result-clause-stops
 invariant_of-result-clause-stops g c =
-    stops_same c.args.separator (g.B.Start.texts c.args.values) (g.V.Token.means c.start-value.result) c.start-value.ensures.spells.is c.requires.stops
+    stops_same c.args.separator (g.B.MakeToken.texts c.args.values) (g.V.Token.means c.start-value.result) c.start-value.ensures.spells.is c.requires.stops

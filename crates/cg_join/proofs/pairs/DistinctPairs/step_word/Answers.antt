@@ -5,8 +5,8 @@ use Rattle.cg_join.specs.Distinct.{any_value}
 use Rattle.cg_join.specs.DistinctLaws.{lacks_value}
 use Rattle.cg_join.specs.LinesLaws.{lacks_same}
 use Rattle.cg_join.specs.Pairs.{IsPairText, pair_size}
-use Rattle.cg_join.specs.PairsLaws.{lacks_stepped, mark_refused, old_word_refused, paired_rest, word_step_refused, word_step_same, word_step_taken, words_pushed, word_begins, mark_begins}
-use Rattle.cg_join.specs.PairsStateLaws.{mark_pushed, some_last, size_last}
+use Rattle.cg_join.specs.PairsLaws.{lacks_stepped, delimiter_refused, old_word_refused, paired_rest, word_step_refused, word_step_same, word_step_taken, words_pushed, word_begins, delimiter_begins}
+use Rattle.cg_join.specs.PairsStateLaws.{delimiter_pushed, some_last, size_last}
 use Rattle.cg_join.specs.declared.pairs.Stage.{Stage}
 use Rattle.cg_join.specs.declared.pairs.Stage.TheVariants.{InWord, InValue}
 use Rattle.cg_text.specs.WordState.{is_taken}
@@ -21,12 +21,12 @@ pub invariant_of-self : goal.invariant_of-self
 invariant_of-self g c =
     let old = c.args.self.now in
     record {
-      lacks = lacks_stepped old.mark c.step.result (word_text.ghosts.means old.word) (word_text.ghosts.means c.step.new.self) c.args.byte c.step.ensures.taken c.step.ensures.same old.lacks;
+      lacks = lacks_stepped old.delimiter c.step.result (word_text.ghosts.means old.word) (word_text.ghosts.means c.step.new.self) c.args.byte c.step.ensures.taken c.step.ensures.same old.lacks;
       words_lack = old.words_lack;
       stops = old.stops;
       values_stop = old.values_stop;
       small_separator = old.small_separator;
-      small_mark = old.small_mark;
+      small_delimiter = old.small_delimiter;
       begun = old.begun;
       awaits = old.awaits;
       distinct = old.distinct;
@@ -42,13 +42,13 @@ returns-then-byte-self-clause-taken g c =
     let hv = g.F.Pairing.has_value in
     let K = word_text.ghosts.means old.word in
     let D = g.V.Token.means old.value in
-    let R = IsPairText w v (SpellsWord old.words.controller) (g.B.Start.texts old.values) old.mark in
+    let R = IsPairText w v (SpellsWord old.words.controller) (g.B.MakeToken.texts old.values) old.delimiter in
     let K' = word_text.ghosts.means c.step.new.self in
     let k = word_text.ghosts.completes c.step.new.self in
     let d = g.V.Token.completes old.value in
     rw c.requires
-    (word_step_taken w v old.mark old.separator old.items.items R K D c.step.result K' c.args.byte c.if-byte-self.true old.lacks old.stops
-    (k.0 ++ old.mark ∷ d.0, paired k.1 d.1, paired_rest w v paired hw hv K' D old.mark k.0 d.0 k.1 d.1 k.2 d.2) c.step.ensures.taken)
+    (word_step_taken w v old.delimiter old.separator old.items.items R K D c.step.result K' c.args.byte c.if-byte-self.true old.lacks old.stops
+    (k.0 ++ old.delimiter ∷ d.0, paired k.1 d.1, paired_rest w v paired hw hv K' D old.delimiter k.0 d.0 k.1 d.1 k.2 d.2) c.step.ensures.taken)
 
 pub returns-then-byte-self-clause-refused : goal.returns-then-byte-self-clause-refused
 returns-then-byte-self-clause-refused g c =
@@ -60,8 +60,8 @@ returns-then-byte-self-clause-refused g c =
     let hv = g.F.Pairing.has_value in
     let K = word_text.ghosts.means old.word in
     let D = g.V.Token.means old.value in
-    let R = IsPairText w v (SpellsWord old.words.controller) (g.B.Start.texts old.values) old.mark in
-    rw c.requires (word_step_refused w v old.mark old.separator old.items.items R K D c.step.result c.args.byte c.if-byte-self.true c.step.ensures.refused)
+    let R = IsPairText w v (SpellsWord old.words.controller) (g.B.MakeToken.texts old.values) old.delimiter in
+    rw c.requires (word_step_refused w v old.delimiter old.separator old.items.items R K D c.step.result c.args.byte c.if-byte-self.true c.step.ensures.refused)
 
 pub returns-then-byte-self-clause-same : goal.returns-then-byte-self-clause-same
 returns-then-byte-self-clause-same g c =
@@ -73,8 +73,8 @@ returns-then-byte-self-clause-same g c =
     let hv = g.F.Pairing.has_value in
     let K = word_text.ghosts.means old.word in
     let D = g.V.Token.means old.value in
-    let R = IsPairText w v (SpellsWord old.words.controller) (g.B.Start.texts old.values) old.mark in
-    rw c.requires (word_step_same w v old.mark old.separator old.items.items R K D c.step.result (word_text.ghosts.means c.step.new.self) c.step.ensures.same)
+    let R = IsPairText w v (SpellsWord old.words.controller) (g.B.MakeToken.texts old.values) old.delimiter in
+    rw c.requires (word_step_same w v old.delimiter old.separator old.items.items R K D c.step.result (word_text.ghosts.means c.step.new.self) c.step.ensures.same)
 
 pub returns-then-not-can_end-clause-refused : goal.returns-then-not-can_end-clause-refused
 returns-then-not-can_end-clause-refused g c =
@@ -86,9 +86,9 @@ returns-then-not-can_end-clause-refused g c =
     let hv = g.F.Pairing.has_value in
     let K = word_text.ghosts.means old.word in
     let D = g.V.Token.means old.value in
-    let R = IsPairText w v (SpellsWord old.words.controller) (g.B.Start.texts old.values) old.mark in
+    let R = IsPairText w v (SpellsWord old.words.controller) (g.B.MakeToken.texts old.values) old.delimiter in
     rw (c.requires, c.if-byte-self.false)
-    (mark_refused w v old.mark old.separator old.items.items R K D old.lacks
+    (delimiter_refused w v old.delimiter old.separator old.items.items R K D old.lacks
     (λ x h. absurd (let t : word_text.ghosts.ends old.word ≡ true = (word_text.ghosts.ends_is old.word).1 (x, h) in let f = c.if-not-can_end.true in let q = c.can_end.ensures in cc)))
 
 pub returns-then-is_old_word-clause-refused : goal.returns-then-is_old_word-clause-refused
@@ -101,11 +101,11 @@ returns-then-is_old_word-clause-refused g c =
     let hv = g.F.Pairing.has_value in
     let K = word_text.ghosts.means old.word in
     let D = g.V.Token.means old.value in
-    let R = IsPairText w v (SpellsWord old.words.controller) (g.B.Start.texts old.values) old.mark in
+    let R = IsPairText w v (SpellsWord old.words.controller) (g.B.MakeToken.texts old.values) old.delimiter in
     let f = is_taken old.word.bytes.items in
     let there : any_value f (map w old.items.items) ≡ true = sym c.is_old_word.ensures ∙ c.if-is_old_word.true in
     rw (c.requires, c.if-byte-self.false)
-    (old_word_refused w v old.mark old.separator old.items.items R K D old.lacks (word_text.ghosts.one_value old.word) f (λ x t. (taken_is old.word.controller old.word.bytes.items old.word.sound x).0 t) there)
+    (old_word_refused w v old.delimiter old.separator old.items.items R K D old.lacks (word_text.ghosts.one_value old.word) f (λ x t. (taken_is old.word.controller old.word.bytes.items old.word.sound x).0 t) there)
 
 pub returns-in-Err-clause-same : goal.returns-in-Err-clause-same
 returns-in-Err-clause-same g c =
@@ -132,7 +132,7 @@ invariant_of-self-2 g c =
     let hv = g.F.Pairing.has_value in
     let K = word_text.ghosts.means old.word in
     let D = g.V.Token.means old.value in
-    let R = IsPairText w v (SpellsWord old.words.controller) (g.B.Start.texts old.values) old.mark in
+    let R = IsPairText w v (SpellsWord old.words.controller) (g.B.MakeToken.texts old.values) old.delimiter in
     let x = c.renew-word.result in
     let p = c.begin.result in
     let items : c.push.new.self.items ≡ old.items.items ++ p ∷ [] = c.push.ensures ∙ ap (λ y. y ++ p ∷ []) c.reserve.ensures.items in
@@ -142,12 +142,12 @@ invariant_of-self-2 g c =
     let is = taken_is old.word.controller old.word.bytes.items old.word.sound in
     let fresh : any_value (is_taken old.word.bytes.items) (map w old.items.items) ≡ false = sym c.is_old_word.ensures ∙ c.if-is_old_word.false in
     record {
-      lacks = lacks_same old.mark (SpellsWord old.words.controller) (word_text.ghosts.means c.renew-word.new.token) c.renew-word.ensures.spells.is old.words_lack;
+      lacks = lacks_same old.delimiter (SpellsWord old.words.controller) (word_text.ghosts.means c.renew-word.new.token) c.renew-word.ensures.spells.is old.words_lack;
       words_lack = old.words_lack;
       stops = old.stops;
       values_stop = old.values_stop;
       small_separator = old.small_separator;
-      small_mark = old.small_mark;
+      small_delimiter = old.small_delimiter;
       begun = λ _. rw items (some_last old.items.items p);
       awaits = λ _. rw items (size_last (λ q. g.V.Token.value_size (v q)) old.items.items p ∙ c.begin.ensures.value_size);
       distinct = words_pushed w old.items.items c.push.new.self.items p items old.distinct
@@ -164,7 +164,7 @@ returns-clause-taken g c =
     let hv = g.F.Pairing.has_value in
     let K = word_text.ghosts.means old.word in
     let D = g.V.Token.means old.value in
-    let R = IsPairText w v (SpellsWord old.words.controller) (g.B.Start.texts old.values) old.mark in
+    let R = IsPairText w v (SpellsWord old.words.controller) (g.B.MakeToken.texts old.values) old.delimiter in
     let x = c.renew-word.result in
     let p = c.begin.result in
     let items : c.push.new.self.items ≡ old.items.items ++ p ∷ [] = c.push.ensures ∙ ap (λ y. y ++ p ∷ []) c.reserve.ensures.items in
@@ -174,7 +174,7 @@ returns-clause-taken g c =
     let k = c.renew-word.ensures.value in
     let d = g.V.Token.completes old.value in
     rw (c.requires, c.if-byte-self.false)
-    (mark_pushed w v old.mark old.separator old.items.items R K D paired hw hv new p items (rw c.begin.ensures.word k) (word_text.ghosts.one_value old.word) old.lacks old.stops d (word_text.ghosts.means c.renew-word.new.token))
+    (delimiter_pushed w v old.delimiter old.separator old.items.items R K D paired hw hv new p items (rw c.begin.ensures.word k) (word_text.ghosts.one_value old.word) old.lacks old.stops d (word_text.ghosts.means c.renew-word.new.token))
 
 pub returns-clause-size : goal.returns-clause-size
 returns-clause-size g c =
@@ -186,7 +186,7 @@ returns-clause-size g c =
     let hv = g.F.Pairing.has_value in
     let K = word_text.ghosts.means old.word in
     let D = g.V.Token.means old.value in
-    let R = IsPairText w v (SpellsWord old.words.controller) (g.B.Start.texts old.values) old.mark in
+    let R = IsPairText w v (SpellsWord old.words.controller) (g.B.MakeToken.texts old.values) old.delimiter in
     let x = c.renew-word.result in
     let p = c.begin.result in
     let items : c.push.new.self.items ≡ old.items.items ++ p ∷ [] = c.push.ensures ∙ ap (λ y. y ++ p ∷ []) c.reserve.ensures.items in
@@ -203,9 +203,9 @@ returns-then-byte-self-clause-last g c =
     let hw = g.F.Pairing.has_word in
     let hv = g.F.Pairing.has_value in
     let D = g.V.Token.means old.value in
-    let R = IsPairText w v (SpellsWord old.words.controller) (g.B.Start.texts old.values) old.mark in
+    let R = IsPairText w v (SpellsWord old.words.controller) (g.B.MakeToken.texts old.values) old.delimiter in
     let K = word_text.ghosts.means old.word in
-    rw c.requires (if_err_as c.step.result (word_begins w v paired hw hv old.mark old.separator old.items.items R K D old.distinct c.args.byte c.if-byte-self.true
+    rw c.requires (if_err_as c.step.result (word_begins w v paired hw hv old.delimiter old.separator old.items.items R K D old.distinct c.args.byte c.if-byte-self.true
     (λ h. word_new old.word.controller old.word.bytes.items (c.args.byte ∷ []) h (map w old.items.items)) (g.V.Token.completes old.value)).0 c.step.ensures.last)
 
 pub returns-in-Err-clause-last : goal.returns-in-Err-clause-last
@@ -217,12 +217,12 @@ returns-in-Err-clause-last g c =
     let hw = g.F.Pairing.has_word in
     let hv = g.F.Pairing.has_value in
     let D = g.V.Token.means old.value in
-    let R = IsPairText w v (SpellsWord old.words.controller) (g.B.Start.texts old.values) old.mark in
+    let R = IsPairText w v (SpellsWord old.words.controller) (g.B.MakeToken.texts old.values) old.delimiter in
     let K = word_text.ghosts.means old.word in
     let f = is_taken old.word.bytes.items in
     let new : not (any_value f (map w old.items.items)) ≡ true = ap not (sym c.is_old_word.ensures ∙ c.if-is_old_word.false) in
     rw (c.requires, c.if-byte-self.false)
-    ((mark_begins w v paired hw hv old.mark old.separator old.items.items R K D old.distinct old.lacks
+    ((delimiter_begins w v paired hw hv old.delimiter old.separator old.items.items R K D old.distinct old.lacks
     (word_text.ghosts.one_value old.word) f
     (taken_is old.word.controller old.word.bytes.items old.word.sound) true
     (λ e. (word_text.ghosts.ends_is old.word).0 (sym c.can_end.ensures ∙ c.if-not-can_end.false), λ h. refl) (g.V.Token.completes old.value)).0 new)

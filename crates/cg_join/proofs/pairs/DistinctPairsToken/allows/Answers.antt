@@ -1,6 +1,6 @@
 use Rattle.std.proofs.Common.{[], ◌∷◌, map, sym, ◌∙◌, eq-eqb, eqb-true, eqb}
 use Rattle.cg_join.specs.Pairs.{IsPairText}
-use Rattle.cg_join.specs.PairsLaws.{first_begins, mark_begins, new_pair, value_begins, word_begins}
+use Rattle.cg_join.specs.PairsLaws.{first_begins, delimiter_begins, new_pair, value_begins, word_begins}
 use Rattle.cg_join.specs.PairsState.{WordAtHand, before_last}
 use Rattle.cg_join.specs.PairsStateLaws.{distinct_before, last_word}
 use Rattle.cg_join.specs.declared.pairs.Stage.TheVariants.{InValue}
@@ -19,9 +19,9 @@ returns-in-Before g c =
     let hv = g.F.Pairing.has_value in
     let K = word_text.ghosts.means old.word in
     let D = g.V.Token.means old.value in
-    let R = IsPairText w v (SpellsWord old.words.controller) (g.B.Start.texts old.values) old.mark in
+    let R = IsPairText w v (SpellsWord old.words.controller) (g.B.MakeToken.texts old.values) old.delimiter in
     rw c.in-Before.is
-    (first_begins w v paired hw hv old.mark old.separator old.items.items R K D old.distinct (eqb c.args.byte old.separator) c.args.byte
+    (first_begins w v paired hw hv old.delimiter old.separator old.items.items R K D old.distinct (eqb c.args.byte old.separator) c.args.byte
     (λ e. eqb-true c.args.byte old.separator e, λ e. eq-eqb c.args.byte old.separator e)
     (word_new old.word.controller old.word.bytes.items [] (word_text.ghosts.completes old.word) (map w old.items.items)) (g.V.Token.completes old.value))
 
@@ -35,8 +35,8 @@ returns-then-byte-self g c =
     let hv = g.F.Pairing.has_value in
     let K = word_text.ghosts.means old.word in
     let D = g.V.Token.means old.value in
-    let R = IsPairText w v (SpellsWord old.words.controller) (g.B.Start.texts old.values) old.mark in
-    let all = word_begins w v paired hw hv old.mark old.separator old.items.items R K D old.distinct c.args.byte c.if-byte-self.true
+    let R = IsPairText w v (SpellsWord old.words.controller) (g.B.MakeToken.texts old.values) old.delimiter in
+    let all = word_begins w v paired hw hv old.delimiter old.separator old.items.items R K D old.distinct c.args.byte c.if-byte-self.true
     (λ h. word_new old.word.controller old.word.bytes.items (c.args.byte ∷ []) h (map w old.items.items)) (g.V.Token.completes old.value) in
     rw c.in-InWord.is (λ h. all.0 (c.allows.ensures.0 h), λ h. c.allows.ensures.1 (all.1 h))
 
@@ -50,11 +50,11 @@ returns-else-byte-self g c =
     let hv = g.F.Pairing.has_value in
     let K = word_text.ghosts.means old.word in
     let D = g.V.Token.means old.value in
-    let R = IsPairText w v (SpellsWord old.words.controller) (g.B.Start.texts old.values) old.mark in
+    let R = IsPairText w v (SpellsWord old.words.controller) (g.B.MakeToken.texts old.values) old.delimiter in
     let f = is_taken old.word.bytes.items in
     let ends = word_text.ghosts.ends_is old.word in
     rw (c.in-InWord.is, c.if-byte-self.false, c.is_old_word-old.ensures)
-    (mark_begins w v paired hw hv old.mark old.separator old.items.items R K D old.distinct old.lacks (word_text.ghosts.one_value old.word) f (taken_is old.word.controller old.word.bytes.items old.word.sound) c.can_end-ended.result
+    (delimiter_begins w v paired hw hv old.delimiter old.separator old.items.items R K D old.distinct old.lacks (word_text.ghosts.one_value old.word) f (taken_is old.word.controller old.word.bytes.items old.word.sound) c.can_end-ended.result
     (λ e. ends.0 (sym c.can_end-ended.ensures ∙ e), λ h. c.can_end-ended.ensures ∙ ends.1 h) (g.V.Token.completes old.value))
 
 pub returns-in-InValue : goal.returns-in-InValue
@@ -67,13 +67,13 @@ returns-in-InValue g c =
     let hv = g.F.Pairing.has_value in
     let K = WordAtHand w InValue old.items.items (word_text.ghosts.means old.word) in
     let D = g.V.Token.means old.value in
-    let R = IsPairText w v (SpellsWord old.words.controller) (g.B.Start.texts old.values) old.mark in
+    let R = IsPairText w v (SpellsWord old.words.controller) (g.B.MakeToken.texts old.values) old.delimiter in
     let ends = g.V.Token.ends_is old.value in
     rw c.in-InValue.is
-    (value_begins w v paired hw hv old.mark old.separator (before_last old.items.items) R K D
+    (value_begins w v paired hw hv old.delimiter old.separator (before_last old.items.items) R K D
     (distinct_before w old.items.items old.distinct) c.args.byte c.allows-more.result
     (eqb c.args.byte old.separator) c.can_end-ended-in-InValue.result c.allows-more.ensures
     (λ e. eqb-true c.args.byte old.separator e, λ e. eq-eqb c.args.byte old.separator e)
     (λ e. ends.0 (sym c.can_end-ended-in-InValue.ensures ∙ e), λ h. c.can_end-ended-in-InValue.ensures ∙ ends.1 h)
     (last_word w old.items.items (old.begun c.in-InValue.is) old.distinct)
-    (new_pair w v paired hw hv old.mark (SpellsWord old.words.controller) (g.B.Start.texts old.values) (new_word_text old.words.controller) (g.met.B.Start.some_text old.values)))
+    (new_pair w v paired hw hv old.delimiter (SpellsWord old.words.controller) (g.B.MakeToken.texts old.values) (new_word_text old.words.controller) (g.met.B.MakeToken.some_text old.values)))

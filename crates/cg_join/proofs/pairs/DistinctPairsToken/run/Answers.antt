@@ -13,12 +13,12 @@ pub invariant_of-self : goal.invariant_of-self
 invariant_of-self g c =
     let old = c.args.self.now in
     record {
-      lacks = lacks_run old.mark (word_text.ghosts.means old.word) (word_text.ghosts.means c.run.new.self) (take c.run.result c.args.bytes.now) c.run.ensures.follows old.lacks;
+      lacks = lacks_run old.delimiter (word_text.ghosts.means old.word) (word_text.ghosts.means c.run.new.self) (take c.run.result c.args.bytes.now) c.run.ensures.follows old.lacks;
       words_lack = old.words_lack;
       stops = old.stops;
       values_stop = old.values_stop;
       small_separator = old.small_separator;
-      small_mark = old.small_mark;
+      small_delimiter = old.small_delimiter;
       begun = old.begun;
       awaits = old.awaits;
       distinct = old.distinct;
@@ -32,10 +32,10 @@ returns-in-InWord-clause-follows g c =
     let paired = g.F.Pairing.paired in
     let hw = g.F.Pairing.has_word in
     let hv = g.F.Pairing.has_value in
-    let R = IsPairText w v (SpellsWord old.words.controller) (g.B.Start.texts old.values) old.mark in
+    let R = IsPairText w v (SpellsWord old.words.controller) (g.B.MakeToken.texts old.values) old.delimiter in
     let new = c.run.new.self in
     rw c.in-InWord.is
-    (word_run w v paired hw hv old.mark old.separator old.items.items R (g.V.Token.means old.value) old.stops (g.V.Token.completes old.value) (word_text.ghosts.means old.word)
+    (word_run w v paired hw hv old.delimiter old.separator old.items.items R (g.V.Token.means old.value) old.stops (g.V.Token.completes old.value) (word_text.ghosts.means old.word)
     (word_text.ghosts.means new) (take c.run.result c.args.bytes.now) old.lacks (word_text.ghosts.completes new) c.run.ensures.follows)
 
 pub returns-in-InValue-clause-follows : goal.returns-in-InValue-clause-follows
@@ -46,10 +46,10 @@ returns-in-InValue-clause-follows g c =
     let paired = g.F.Pairing.paired in
     let hw = g.F.Pairing.has_word in
     let hv = g.F.Pairing.has_value in
-    let R = IsPairText w v (SpellsWord old.words.controller) (g.B.Start.texts old.values) old.mark in
+    let R = IsPairText w v (SpellsWord old.words.controller) (g.B.MakeToken.texts old.values) old.delimiter in
     let K = WordAtHand w InValue old.items.items (word_text.ghosts.means old.word) in
     let k = last_word w old.items.items (old.begun c.in-InValue.is) old.distinct in
     let run = c.run-in-InValue in
     rw c.in-InValue.is
-    (value_run w v paired hw hv old.mark old.separator (before_last old.items.items) R K (k.0, k.1) (g.V.Token.means old.value) (g.V.Token.means run.new.self)
+    (value_run w v paired hw hv old.delimiter old.separator (before_last old.items.items) R K (k.0, k.1) (g.V.Token.means old.value) (g.V.Token.means run.new.self)
     (take run.result c.args.bytes.now) old.stops (g.V.Token.completes run.new.self) run.ensures.follows)

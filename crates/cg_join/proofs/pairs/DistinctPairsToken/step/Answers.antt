@@ -14,5 +14,5 @@ returns-else-byte-self-clause-taken g c =
     let hv = g.F.Pairing.has_value in
     let K = word_text.ghosts.means old.word in
     let D = g.V.Token.means old.value in
-    let R = IsPairText w v (SpellsWord old.words.controller) (g.B.Start.texts old.values) old.mark in
-    rw (c.in-Before.is, c.if-byte-self.false) (step_first w v old.mark old.separator old.items.items R K D)
+    let R = IsPairText w v (SpellsWord old.words.controller) (g.B.MakeToken.texts old.values) old.delimiter in
+    rw (c.in-Before.is, c.if-byte-self.false) (step_first w v old.delimiter old.separator old.items.items R K D)

@@ -20,11 +20,11 @@ returns-clause-value g c =
     let v = g.F.Pairing.value_of in
     let K = WordAtHand w InValue old.items.items (word_text.ghosts.means old.word) in
     let D = g.V.Token.means old.value in
-    let R = IsPairText w v (SpellsWord old.words.controller) (g.B.Start.texts old.values) old.mark in
+    let R = IsPairText w v (SpellsWord old.words.controller) (g.B.MakeToken.texts old.values) old.delimiter in
     let y = c.take.result in
     let done : IsCompleted w v old.items.items y c.finish-in-InValue.result = rw c.finish-in-InValue.ensures c.complete_last.ensures in
     rw c.in-InValue.is
-    (pairs_value w v old.mark old.separator (before_last old.items.items) R K D done.pair c.finish-in-InValue.result done.items done.has_word (rw done.has_value c.take.ensures.value)
+    (pairs_value w v old.delimiter old.separator (before_last old.items.items) R K D done.pair c.finish-in-InValue.result done.items done.has_word (rw done.has_value c.take.ensures.value)
     (completed_distinct w v old.items.items c.finish-in-InValue.result y done old.distinct))
 
 pub returns-clause-value_size : goal.returns-clause-value_size

@@ -31,14 +31,14 @@ loop-used-preserved g c =
     let p = found.0 in
     let word = g.F.Pairing.word_of in
     let value = g.F.Pairing.value_of in
-    let P = IsPairText word value (word_text.ghosts.means self.word) (g.V.Token.means self.value) self.mark in
-    let R = IsPairText word value (SpellsWord self.words.controller) (g.B.Start.texts self.values) self.mark in
+    let P = IsPairText word value (word_text.ghosts.means self.word) (g.V.Token.means self.value) self.delimiter in
+    let R = IsPairText word value (SpellsWord self.words.controller) (g.B.MakeToken.texts self.values) self.delimiter in
     let f = pair_size word value word_text.ghosts.value_size g.V.Token.value_size in
     let push = c.push-in-loop-used in
     let items : push.new.self ≡ c.loop-used.items ++ p ∷ [] = pushed_last push.result c.if-is_err-2.ensures.value push.ensures.ok in
     let front = rw c.split_at.ensures.back at c.in-Some-pair_in_front.ensures.front in
     let text = take found.1 (drop (used + 1) bytes) in
-    let pair : R text p = pair_as word value self.mark (word_text.ghosts.means c.start-word.result) (SpellsWord self.words.controller) (g.V.Token.means c.start-value.result) (g.B.Start.texts self.values)
+    let pair : R text p = pair_as word value self.delimiter (word_text.ghosts.means c.start-word.result) (SpellsWord self.words.controller) (g.V.Token.means c.start-value.result) (g.B.MakeToken.texts self.values)
     (λ r v. (c.start-word.ensures.spells.is r v).0) (λ r v. (c.start-value.ensures.spells.is r v).0) text p front.1 in
     let lacks = rw g.met.F.Pairing.keyed at (not_among (g.F.Pair.HasKey.key_of p) (map g.F.Pair.HasKey.key_of c.loop-used.items) (sym push.ensures.repeated ∙ pushed_new push.result c.if-is_err-2.ensures.value)) in
     record {

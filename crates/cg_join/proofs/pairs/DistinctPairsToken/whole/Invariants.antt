@@ -13,7 +13,7 @@ invariant-loop-used g l =
     let value = g.F.Pairing.value_of in
     record {
       within : l.used ≤ length l.bytes;
-      list : IsList (IsPairText word value (word_text.ghosts.means self.word) (g.V.Token.means self.value) self.mark) (IsPairText word value (SpellsWord self.words.controller) (g.B.Start.texts self.values) self.mark) self.separator
+      list : IsList (IsPairText word value (word_text.ghosts.means self.word) (g.V.Token.means self.value) self.delimiter) (IsPairText word value (SpellsWord self.words.controller) (g.B.MakeToken.texts self.values) self.delimiter) self.separator
           (take l.used l.bytes) l.items;
       distinct : AreDistinct (map word l.items);
       size : items_size (pair_size word value word_text.ghosts.value_size g.V.Token.value_size) l.items ≤ word_text.ghosts.size self.word + (g.V.Token.size self.value + l.used);

@@ -12,7 +12,7 @@ invariant_of-self-2 g c =
     let next = c.start.result in
     let items : c.put.new.items.items ≡ old.items.items ++ v ∷ [] = c.put.ensures ∙ ap (λ x. x ++ v ∷ []) c.make_room.ensures.items in
     record {
-      stops = stops_same old.separator (g.S.Start.texts old.start) (g.T.Token.means next) c.start.ensures.spells.is old.starts;
+      stops = stops_same old.separator (g.S.MakeToken.texts old.start) (g.T.Token.means next) c.start.ensures.spells.is old.starts;
       starts = old.starts;
       filled = old.filled;
       room = λ e. absurd (let w = (g.T.Token.ends_is next).0 e in old.filled w.0 ((c.start.ensures.spells.is [] w.0).0 w.1));
@@ -30,7 +30,7 @@ returns-clause-follows g c =
     let within : count < length bytes = omega (arith, front.0, c.if-count-bytes.false) in
     let taken : take (count + 1) bytes ≡ take count bytes ++ old.separator ∷ [] = take_more bytes count 0 within ∙ ap (λ b. take count bytes ++ b ∷ []) c.if-bytes-count.false in
     rw (items, taken)
-    (list_whole old.separator (g.S.Start.texts old.start) old.items.items (g.T.Token.means old.current) (g.T.Token.means c.start.result) c.start.ensures.spells.is old.stops (g.T.Token.one_value old.current) (take count bytes) v front.1)
+    (list_whole old.separator (g.S.MakeToken.texts old.start) old.items.items (g.T.Token.means old.current) (g.T.Token.means c.start.result) c.start.ensures.spells.is old.stops (g.T.Token.one_value old.current) (take count bytes) v front.1)
 
 pub returns-clause-size : goal.returns-clause-size
 returns-clause-size g c =

@@ -6,7 +6,7 @@ use Rattle.cg_join.proofs.repeat.Repeat.take_items.Given as goal
 abbrev pub invariant-loop-used : goal.invariant-loop-used
 invariant-loop-used g l = record {
   within : l.used ≤ length l.bytes;
-  follows : FollowsRun (λ s rest all. IsListAfter s.items.items (g.T.Token.means s.current) (g.S.Start.texts s.start) s.separator rest all) l.fn.self (take l.used l.bytes) l.self;
+  follows : FollowsRun (λ s rest all. IsListAfter s.items.items (g.T.Token.means s.current) (g.S.MakeToken.texts s.start) s.separator rest all) l.fn.self (take l.used l.bytes) l.self;
   size : items_size g.T.Token.value_size l.self.items.items + g.T.Token.size l.self.current ≤ items_size g.T.Token.value_size l.fn.self.items.items + g.T.Token.size l.fn.self.current + l.used;
   same : l.used ≡ 0 → items_size g.T.Token.value_size l.self.items.items + g.T.Token.size l.self.current ≡ items_size g.T.Token.value_size l.fn.self.items.items + g.T.Token.size l.fn.self.current;
 }

@@ -23,7 +23,7 @@ returns-in-Ok-clause-follows g c rest all =
     let whole = c.take_items-whole.result in
     let run = take c.run.result (drop whole bytes) in
     let front = c.take_items-whole.ensures.follows (run ++ rest) all in
-    let back = list_run mid.separator (g.S.Start.texts mid.start) mid.items.items (g.T.Token.means mid.current) (g.T.Token.means new) run
+    let back = list_run mid.separator (g.S.MakeToken.texts mid.start) mid.items.items (g.T.Token.means mid.current) (g.T.Token.means new) run
     mid.stops (g.T.Token.completes new) (rw c.split_at.ensures.back at c.run.ensures.follows) rest all in
     rw (c.make_room.ensures.items, take-add whole c.run.result bytes, append_assoc (take whole bytes) run rest) (λ k. front.0 (back.0 k), λ k. back.1 (front.1 k))
 

@@ -18,31 +18,31 @@ pub returns-in-Ok-true-clause-taken : goal.returns-in-Ok-true-clause-taken
 returns-in-Ok-true-clause-taken g c =
     let taken = rw c.in-Ok-true.field-0-test at c.in-Ok-true.ensures.taken in
     let old = c.args.self.now in
-    rw c.make_room.ensures.items (list_taken old.separator (g.T.Token.means old.current) (g.T.Token.means c.step.new.self) (g.S.Start.texts old.start) c.args.byte old.stops (g.T.Token.completes c.step.new.self) taken old.items.items)
+    rw c.make_room.ensures.items (list_taken old.separator (g.T.Token.means old.current) (g.T.Token.means c.step.new.self) (g.S.MakeToken.texts old.start) c.args.byte old.stops (g.T.Token.completes c.step.new.self) taken old.items.items)
 
 pub returns-in-Err-step-clause-same : goal.returns-in-Err-step-clause-same
 returns-in-Err-step-clause-same g c =
     let old = c.args.self.now in
-    rw c.make_room.ensures.items (list_same old.separator (g.T.Token.means old.current) (g.T.Token.means c.step.new.self) (g.S.Start.texts old.start) c.in-Err-step.ensures.same old.items.items)
+    rw c.make_room.ensures.items (list_same old.separator (g.T.Token.means old.current) (g.T.Token.means c.step.new.self) (g.S.MakeToken.texts old.start) c.in-Err-step.ensures.same old.items.items)
 
 pub returns-then-byte-self-clause-refused : goal.returns-then-byte-self-clause-refused
 returns-then-byte-self-clause-refused g c =
     let none = rw c.in-Ok-false.field-0-test at c.in-Ok-false.ensures.refused in
     let old = c.args.self.now in
-    list_none old.separator (g.T.Token.means old.current) (g.S.Start.texts old.start) c.args.byte none (λ e. absurd (c.if-byte-self.true e)) old.items.items
+    list_none old.separator (g.T.Token.means old.current) (g.S.MakeToken.texts old.start) c.args.byte none (λ e. absurd (c.if-byte-self.true e)) old.items.items
 
 pub returns-then-byte-self-clause-same : goal.returns-then-byte-self-clause-same
 returns-then-byte-self-clause-same g c =
     let same = rw c.in-Ok-false.field-0-test at c.in-Ok-false.ensures.same in
     let old = c.args.self.now in
-    rw c.make_room.ensures.items (list_same old.separator (g.T.Token.means old.current) (g.T.Token.means c.step.new.self) (g.S.Start.texts old.start) same old.items.items)
+    rw c.make_room.ensures.items (list_same old.separator (g.T.Token.means old.current) (g.T.Token.means c.step.new.self) (g.S.MakeToken.texts old.start) same old.items.items)
 
 pub returns-then-not-can_end-clause-refused : goal.returns-then-not-can_end-clause-refused
 returns-then-not-can_end-clause-refused g c =
     let none = rw c.in-Ok-false.field-0-test at c.in-Ok-false.ensures.refused in
     let same = rw c.in-Ok-false.field-0-test at c.in-Ok-false.ensures.same in
     let old = c.args.self.now in
-    list_none old.separator (g.T.Token.means old.current) (g.S.Start.texts old.start) c.args.byte none
+    list_none old.separator (g.T.Token.means old.current) (g.S.MakeToken.texts old.start) c.args.byte none
     (λ e v h. absurd (let t : g.T.Token.ends c.step.new.self ≡ true = (g.T.Token.ends_is c.step.new.self).1 (v, (same [] v).1 h) in let f = c.if-not-can_end.true in let q = c.can_end.ensures in cc))
     old.items.items
 
@@ -50,7 +50,7 @@ pub returns-then-not-can_end-clause-same : goal.returns-then-not-can_end-clause-
 returns-then-not-can_end-clause-same g c =
     let same = rw c.in-Ok-false.field-0-test at c.in-Ok-false.ensures.same in
     let old = c.args.self.now in
-    rw c.make_room.ensures.items (list_same old.separator (g.T.Token.means old.current) (g.T.Token.means c.step.new.self) (g.S.Start.texts old.start) same old.items.items)
+    rw c.make_room.ensures.items (list_same old.separator (g.T.Token.means old.current) (g.T.Token.means c.step.new.self) (g.S.MakeToken.texts old.start) same old.items.items)
 
 pub returns-clause-taken : goal.returns-clause-taken
 returns-clause-taken g c =
@@ -62,12 +62,12 @@ returns-clause-taken g c =
     let items : c.put.new.items.items ≡ old.items.items ++ v ∷ [] = c.put.ensures ∙ ap (λ x. x ++ v ∷ []) c.make_room.ensures.items in
     let ended = (same [] v).0 (rw c.replace-done.ensures.value at c.take-value.ensures.value) in
     rw (items, c.replace-done.ensures.after, e)
-    (list_next old.separator (g.T.Token.means old.current) (g.T.Token.means c.start-next.result) (g.S.Start.texts old.start) v ended (g.T.Token.one_value old.current) (rw e at none) c.start-next.ensures.spells.is old.items.items)
+    (list_next old.separator (g.T.Token.means old.current) (g.T.Token.means c.start-next.result) (g.S.MakeToken.texts old.start) v ended (g.T.Token.one_value old.current) (rw e at none) c.start-next.ensures.spells.is old.items.items)
 
 pub invariant_of-self-2-clause-stops : goal.invariant_of-self-2-clause-stops
 invariant_of-self-2-clause-stops g c =
     let old = c.args.self.now in
-    rw c.replace-done.ensures.after (stops_same old.separator (g.S.Start.texts old.start) (g.T.Token.means c.start-next.result) c.start-next.ensures.spells.is old.starts)
+    rw c.replace-done.ensures.after (stops_same old.separator (g.S.MakeToken.texts old.start) (g.T.Token.means c.start-next.result) c.start-next.ensures.spells.is old.starts)
 
 pub invariant_of-self-2-clause-room : goal.invariant_of-self-2-clause-room
 invariant_of-self-2-clause-room g c =

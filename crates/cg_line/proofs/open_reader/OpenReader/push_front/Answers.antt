@@ -1,7 +1,7 @@
 use Rattle.std.proofs.Common.{◌≡◌, ◌++◌, ◌∷◌, [], inl, inr, ap, sym, ◌∙◌, append-nil, append_assoc, take, arith}
-use Rattle.cg_file.specs.contracts.file_text.FileTextToken.TheImpl.{ghosts}
+use Rattle.cg_file.specs.contracts.any_file.AnyFileToken.TheImpl.{ghosts}
 use Rattle.cg_line.specs.RestsLaws.{after_front}
-use Rattle.cg_line.specs.TookLaws.{took_on}
+use Rattle.cg_line.specs.OpenReadsLaws.{took_on}
 use Rattle.cg_line.proofs.open_reader.OpenReader.push_front.Goals as goal
 
 pub returns-then-used-gt0-clause-reads : goal.returns-then-used-gt0-clause-reads

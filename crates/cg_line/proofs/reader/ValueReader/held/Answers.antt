@@ -2,7 +2,7 @@ use Rattle.std.proofs.Common.{◌≡◌, ◌∙◌, refl, sym, ap}
 use Rattle.cg_line.specs.ReaderHeldLaws.{reads_few, reads_most}
 use Rattle.cg_line.specs.Reads.{held_by}
 use Rattle.cg_line.specs.ReadsLaws.{held_is}
-use Rattle.cg_line.specs.Took.{open_held}
+use Rattle.cg_line.specs.OpenReads.{open_held}
 use Rattle.cg_line.proofs.reader.ValueReader.held.Goals as goal
 
 pub returns-in-New-clause-exact : goal.returns-in-New-clause-exact

@@ -2,7 +2,7 @@ use Rattle.std.proofs.Common.{◌≡◌, ◌∙◌, [], ◌∷◌, ◌++◌, sym
 use Rattle.std.specs.Box.{with_value}
 use Rattle.cg_line.specs.Reads.{Reads, held_by}
 use Rattle.cg_line.specs.ReadsLaws.{fault_leaves, held_is, leaves_on, reads_on, state_of}
-use Rattle.cg_line.specs.Took.{Took, open_held}
+use Rattle.cg_line.specs.OpenReads.{OpenReads, open_held}
 use Rattle.cg_line.specs.declared.open_reader.OpenReader.{OpenReader}
 use Rattle.cg_line.specs.declared.reader.State.TheVariants as state
 use Rattle.cg_line.specs.declared.reader.ValueReader.{ValueReader}
@@ -28,9 +28,9 @@ returns-in-Whole-clause-pushed c kind taken h = (h, (state_of c.args.self.now _ 
 
 pub returns-in-Open-clause-pushed : goal.returns-in-Open-clause-pushed
 returns-in-Open-clause-pushed c kind taken h =
-    let took = subst (λ (o : OpenReader). Took o kind taken) (sym c.deref_mut.ensures.value) (state_of c.args.self.now _ kind taken c.in-Open.is h) in
+    let took = subst (λ (o : OpenReader). OpenReads o kind taken) (sym c.deref_mut.ensures.value) (state_of c.args.self.now _ kind taken c.in-Open.is h) in
     let left : ValueReader = record { state = state.Open (with_value c.in-Open.reader c.push.new.self) } in
-    leaves_on (Took c.push.new.self kind) (Reads left kind) kind taken c.args.byte c.push.result (λ now t. reads_on c.args.self.now left kind taken now h t) (c.push.ensures.pushed kind taken took)
+    leaves_on (OpenReads c.push.new.self kind) (Reads left kind) kind taken c.args.byte c.push.result (λ now t. reads_on c.args.self.now left kind taken now h t) (c.push.ensures.pushed kind taken took)
 
 pub returns-in-Open-clause-held : goal.returns-in-Open-clause-held
 unfolding held_by

@@ -1,7 +1,7 @@
 use Rattle.std.proofs.Common.{◌≡◌, ◌∙◌, ◌++◌, refl, sym, ap, subst, take, append-nil}
 use Rattle.cg_line.specs.Reads.{held_by}
 use Rattle.cg_line.specs.ReadsLaws.{held_is, reads_on, state_of}
-use Rattle.cg_line.specs.Took.{Took, open_held}
+use Rattle.cg_line.specs.OpenReads.{OpenReads, open_held}
 use Rattle.cg_line.specs.declared.open_reader.OpenReader.{OpenReader}
 use Rattle.cg_line.proofs.reader.ValueReader.push_run.Goals as goal
 
@@ -28,7 +28,7 @@ returns-in-Whole-clause-pushed c kind taken h =
 
 pub returns-in-Open-clause-pushed : goal.returns-in-Open-clause-pushed
 returns-in-Open-clause-pushed c kind taken h =
-    let took = subst (λ (o : OpenReader). Took o kind taken) (sym c.deref_mut.ensures.value) (state_of c.args.self.now _ kind taken c.in-Open.is h) in
+    let took = subst (λ (o : OpenReader). OpenReads o kind taken) (sym c.deref_mut.ensures.value) (state_of c.args.self.now _ kind taken c.in-Open.is h) in
     let run = c.push_run.ensures.pushed kind taken took in
     record { reads = reads_on c.args.self.now _ kind taken (taken ++ take c.push_run.result.used c.args.bytes.now) h run.reads; stops = run.stops }
 

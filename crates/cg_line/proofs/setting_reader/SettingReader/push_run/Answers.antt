@@ -1,11 +1,11 @@
-use Rattle.cg_write.specs.contracts.write_text.WriteTextToken.TheImpl.{ghosts}
+use Rattle.cg_write.specs.contracts.any_write.AnyWriteToken.TheImpl.{ghosts}
 use Rattle.cg_line.specs.RestsLaws.{read_run}
-use Rattle.cg_line.specs.Takes.{Takes, is_takes}
+use Rattle.cg_line.specs.SettingReads.{SettingReads, is_setting_reads}
 use Rattle.cg_line.proofs.setting_reader.SettingReader.push_run.Goals as goal
 
 pub returns-clause-pushed : goal.returns-clause-pushed
-unfolding Takes
+unfolding SettingReads
 returns-clause-pushed c kind taken h =
     let new = c.push_run_to.new.text in
-    let run = read_run (is_takes c.args.self.now kind taken h) (ghosts.means new) (ghosts.size new) c.args.bytes.now c.push_run_to.result c.push_run_to.ensures.pushed in
+    let run = read_run (is_setting_reads c.args.self.now kind taken h) (ghosts.means new) (ghosts.size new) c.args.bytes.now c.push_run_to.result c.push_run_to.ensures.pushed in
     record { takes = run.reads; stops = run.stops }

@@ -1,5 +1,5 @@
 use Rattle.std.proofs.Common.{ap, arith}
-use Rattle.cg_line.specs.Takes.{held_of}
+use Rattle.cg_line.specs.SettingReads.{held_of}
 use Rattle.cg_snap.specs.PlanDecoder.{held_in_line, plan_held_by}
 use Rattle.cg_snap.proofs.PlanStates.{item_line_held}
 use Rattle.cg_snap.proofs.decoder.Decoder+PlanRecords.held.Goals as goal

@@ -10,5 +10,5 @@ returns-in_default-what-clause-pulled g c = λ p es n h.
     let used = c.pull-progress.result.used in
     let what = c.pull-progress.result.what in
     unstopped_came (g.R.Records.stream (g.R.Records.form_of new.self)) (record { records = new.self; meter = new.meter; stop = c.args.self.now.stop }) p es piece used what n c.in_default-what.not-Stopped
-    (subst (λ (form : g.row.R-Form.Denot). PieceDid (g.R.Records.stream form) new.self new.meter p es piece used what) (sym c.pull-progress.ensures.form)
+    (subst (λ (form : g.row.R-Setup.Denot). PieceDid (g.R.Records.stream form) new.self new.meter p es piece used what) (sym c.pull-progress.ensures.form)
     (c.pull-progress.ensures.pulled (g.R.Records.form_of c.args.self.now.records) p es h))

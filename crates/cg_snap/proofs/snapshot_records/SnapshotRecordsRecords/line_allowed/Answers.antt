@@ -1,6 +1,6 @@
 use Rattle.std.proofs.Common.{Option, subst}
 use Rattle.cg_snap.specs.DecoderState.{HasConsumed, IsBetween}
-use Rattle.cg_snap.specs.declared.present.Present.{Present}
+use Rattle.cg_snap.specs.declared.present.CurrentEntry.{CurrentEntry}
 use Rattle.cg_snap.proofs.Allowed.{line_allowed}
 use Rattle.cg_snap.proofs.Offers.{between_none, between_some, path_offers}
 use Rattle.cg_snap.proofs.Refusals.{line_takes}
@@ -11,7 +11,7 @@ use Rattle.cg_snap.proofs.snapshot_records.SnapshotRecordsRecords.line_allowed.G
 pub returns-then-x : goal.returns-then-x
 returns-then-x c form p es h byte =
     let s = c.args.self.now in
-    let l = line_state form s.begun.items c.in-Some.x p es c.if-x.true (subst (λ (o : Option Present). HasConsumed form s.begun.items o p es) c.in-Some.is h.at) in
+    let l = line_state form s.begun.items c.in-Some.x p es c.if-x.true (subst (λ (o : Option CurrentEntry). HasConsumed form s.begun.items o p es) c.in-Some.is h.at) in
     let same = c.allowed.ensures l.kind _ l.reads byte in
     (λ k. line_allowed form s.begun.items c.in-Some.x p es byte l (same.0 k), λ v. same.1 (line_takes form s.begun.items c.in-Some.x p es byte l v))
 

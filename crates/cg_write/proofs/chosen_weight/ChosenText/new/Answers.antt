@@ -1,5 +1,5 @@
 use Rattle.cg_join.specs.Spelling.{choice_spells, mapped_spells, none_spells, spells_as}
-use Rattle.cg_write.specs.Turned.{chosen_weight}
+use Rattle.cg_write.specs.Mapped.{chosen_weight}
 use Rattle.cg_write.specs.ChosenWeightLaws.{chosen_is, word_no_weight}
 use Rattle.cg_write.proofs.chosen_weight.ChosenText.new.Goals as goal
 

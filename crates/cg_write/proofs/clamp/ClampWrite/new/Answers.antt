@@ -1,5 +1,5 @@
 use Rattle.std.proofs.Common.{arith}
-use Rattle.cg_text.specs.declared.hundredths.Form.TheVariants.{Written}
+use Rattle.cg_text.specs.declared.hundredths.Spelling.TheVariants.{Written}
 use Rattle.cg_join.specs.LackingLaws.{clamp_lacking}
 use Rattle.cg_join.specs.LineLaws.{lacks_spelled}
 use Rattle.cg_value.specs.declared.kind.WriteForm.TheVariants.{Clamp as ClampForm}

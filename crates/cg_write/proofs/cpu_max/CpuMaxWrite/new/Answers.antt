@@ -7,7 +7,7 @@ use Rattle.cg_value.specs.WriteLine.{IsQuota}
 use Rattle.cg_value.specs.declared.kind.WriteForm.TheVariants.{CpuMax as CpuMaxForm}
 use Rattle.cg_value.specs.declared.setting.Setting.TheVariants.{CpuMax}
 use Rattle.cg_write.specs.CpuMaxLaws.{written_quota_is}
-use Rattle.cg_write.specs.Turned.{perhaps_both, second_of}
+use Rattle.cg_write.specs.Mapped.{perhaps_both, second_of}
 use Rattle.cg_write.specs.WriteLaws.{line_through, write_spells}
 use Rattle.cg_write.proofs.cpu_max.CpuMaxWrite.new.Goals as goal
 

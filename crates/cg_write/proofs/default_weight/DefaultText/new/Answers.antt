@@ -1,6 +1,6 @@
 use Rattle.cg_join.specs.CutLaws.{label_spells}
 use Rattle.cg_join.specs.Spelling.{choice_spells, mapped_spells, none_spells, spells_as}
-use Rattle.cg_write.specs.Turned.{default_weight}
+use Rattle.cg_write.specs.Mapped.{default_weight}
 use Rattle.cg_write.specs.DefaultWeightLaws.{default_is, weight_no_word}
 use Rattle.cg_write.proofs.default_weight.DefaultText.new.Goals as goal
 

@@ -2,7 +2,7 @@ use Rattle.cg_join.specs.LineLaws.{lacks_spelled}
 use Rattle.cg_value.specs.WriteLine.{IsLimitWrite, limits_setting}
 use Rattle.cg_value.specs.declared.kind.WriteForm.TheVariants.{DeviceLimits as DeviceLimitsForm}
 use Rattle.cg_write.specs.DeviceLimitsLaws.{limits_are, spaced_limits_lacking}
-use Rattle.cg_write.specs.Turned.{both_of}
+use Rattle.cg_write.specs.Mapped.{both_of}
 use Rattle.cg_write.specs.WriteLaws.{line_through, write_spells}
 use Rattle.cg_write.proofs.device_limits.DeviceLimitsWrite.new.Goals as goal
 use Rattle.cg_write.specs.Texts.{IsSpacedLimits}

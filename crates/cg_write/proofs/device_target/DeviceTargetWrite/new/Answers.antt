@@ -7,7 +7,7 @@ use Rattle.cg_value.specs.WriteLine.{IsTargetWrite}
 use Rattle.cg_value.specs.declared.kind.WriteForm.TheVariants.{DeviceTarget as DeviceTargetForm}
 use Rattle.cg_value.specs.declared.setting.Setting.TheVariants.{DeviceTarget}
 use Rattle.cg_write.specs.DeviceTargetLaws.{target_is}
-use Rattle.cg_write.specs.Turned.{both_of}
+use Rattle.cg_write.specs.Mapped.{both_of}
 use Rattle.cg_write.specs.WriteLaws.{line_through, write_spells}
 use Rattle.cg_write.proofs.device_target.DeviceTargetWrite.new.Goals as goal
 

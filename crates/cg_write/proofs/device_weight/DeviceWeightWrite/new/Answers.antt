@@ -1,6 +1,6 @@
 use Rattle.cg_join.specs.LineLaws.{lacks_spelled}
 use Rattle.cg_value.specs.declared.kind.WriteForm.TheVariants.{DeviceWeight as DeviceWeightForm}
-use Rattle.cg_write.specs.Turned.{weight_of}
+use Rattle.cg_write.specs.Mapped.{weight_of}
 use Rattle.cg_write.specs.DeviceWeightLaws.{weight_is, weight_lacking}
 use Rattle.cg_write.specs.WriteLaws.{write_spells}
 use Rattle.cg_write.proofs.device_weight.DeviceWeightWrite.new.Goals as goal

@@ -4,7 +4,7 @@ use Rattle.cg_value.specs.WriteLine.{IsReclaim}
 use Rattle.cg_value.specs.declared.kind.WriteForm.TheVariants.{Reclaim as ReclaimForm}
 use Rattle.cg_value.specs.declared.setting.Setting.TheVariants.{Reclaim}
 use Rattle.cg_write.specs.ReclaimLaws.{reclaim_is, reclaim_lacking}
-use Rattle.cg_write.specs.Turned.{perhaps_both, second_of}
+use Rattle.cg_write.specs.Mapped.{perhaps_both, second_of}
 use Rattle.cg_write.specs.WriteLaws.{line_through, write_spells}
 use Rattle.cg_write.proofs.reclaim.ReclaimWrite.new.Goals as goal
 use Rattle.cg_write.specs.Texts.{IsWrittenReclaim}

@@ -3,7 +3,7 @@ use Rattle.cg_value.specs.WriteLine.{IsRole}
 use Rattle.cg_value.specs.declared.kind.WriteForm.TheVariants.{Role as RoleForm}
 use Rattle.cg_value.specs.declared.setting.Setting.TheVariants.{Role}
 use Rattle.cg_write.specs.RoleLaws.{role_is, role_lacking}
-use Rattle.cg_write.specs.Turned.{role_of}
+use Rattle.cg_write.specs.Mapped.{role_of}
 use Rattle.cg_write.specs.WriteLaws.{line_through, write_spells}
 use Rattle.cg_write.proofs.role.RoleWrite.new.Goals as goal
 use Rattle.cg_write.specs.Texts.{IsRoleWord}

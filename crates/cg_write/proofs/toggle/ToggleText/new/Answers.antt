@@ -1,6 +1,6 @@
 use Rattle.cg_join.specs.Spelling.{mapped_spells, sequence_spells, spells_as}
 use Rattle.cg_write.specs.ToggleLaws.{toggle_is}
-use Rattle.cg_write.specs.Turned.{toggle_of}
+use Rattle.cg_write.specs.Mapped.{toggle_of}
 use Rattle.cg_write.proofs.toggle.ToggleText.new.Goals as goal
 
 pub returns-clause-spells : goal.returns-clause-spells

@@ -5,7 +5,7 @@ use Rattle.cg_value.specs.WriteLine.{IsTrigger}
 use Rattle.cg_value.specs.declared.kind.WriteForm.TheVariants.{Trigger as TriggerForm}
 use Rattle.cg_value.specs.declared.setting.Setting.TheVariants.{Trigger}
 use Rattle.cg_write.specs.TriggerLaws.{threshold_lacking, trigger_is}
-use Rattle.cg_write.specs.Turned.{is_full, threshold_of}
+use Rattle.cg_write.specs.Mapped.{is_full, threshold_of}
 use Rattle.cg_write.specs.WriteLaws.{line_through, write_spells}
 use Rattle.cg_write.proofs.trigger.TriggerWrite.new.Goals as goal
 use Rattle.cg_write.specs.Texts.{IsThreshold}
