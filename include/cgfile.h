@@ -18,7 +18,7 @@
  *
  * PROFILE is 1, 2 or 3. Grammars 1 and 2 differ in the greatest number of a list (65535 or 1048575) and in
  * memory.numa_stat (raw lines, or nested keys). 3 is the kernel profile: 2 with more files that kernels of today print,
- * as hugetlb.2MB.max. 1 is what the program takes where none is named.
+ * as hugetlb.2MB.max, with (unknown) for a device that is gone, and with values of io.stat below 0. 1 is what the program takes where none is named.
  *
  * Unless a call says otherwise:
  * - With CGFILE_DONE the answer lies in the first *used of the out_len bytes at out; the others are as they were.

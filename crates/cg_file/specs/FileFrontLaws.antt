@@ -42,6 +42,9 @@ limit_line v lines h = (h.line, h.lines_are, rw h.value refl)
 pub mode_line : HasOneLine form.Mode
 mode_line v lines h = (h.line, h.lines_are, rw h.value refl)
 
+pub class_line : HasOneLine form.Class
+class_line v lines h = (h.line, h.lines_are, rw h.value refl)
+
 pub cpu_max_line : HasOneLine form.CpuMax
 cpu_max_line v lines h = (h.line, h.lines_are, rw h.value refl)
 

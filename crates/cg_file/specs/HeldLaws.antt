@@ -2,7 +2,9 @@
 -- ranges and raw bytes.
 use Rattle.std.proofs.Common.{ℕ, ◌+◌, ◌≤◌, List, [], length, Option, refl}
 use Rattle.cg_text.specs.RangesState.{number_rest}
+use Rattle.cg_text.specs.Decimal.{IsDecimal}
 use Rattle.cg_text.specs.contracts.byte.ByteTextToken.TheImpl as byte
+use Rattle.cg_text.specs.contracts.decimal.DecimalTextToken.TheImpl as decimal
 use Rattle.cg_text.specs.contracts.keyword.KeywordTextToken.TheImpl as keyword
 use Rattle.cg_text.specs.contracts.reason.ReasonTextToken.TheImpl as reason
 use Rattle.cg_text.specs.contracts.word.WordTextToken.TheImpl as word
@@ -12,31 +14,38 @@ use Rattle.cg_join.specs.Join.{IsPair, IsSequence}
 use Rattle.cg_join.specs.LabelLaws.{label_nil}
 use Rattle.cg_join.specs.Lawful.{KeywordRest}
 use Rattle.cg_join.specs.Maybe.{maybe_size}
-use Rattle.cg_join.specs.Pairs.{pair_size}
+use Rattle.cg_join.specs.Pairs.{IsPairText, pair_size}
 use Rattle.cg_join.specs.Repeat.{items_size}
-use Rattle.cg_join.specs.SettledLaws.{joined_bound, keyed_settled, lines_settled, list_settled, maybe_settled, or_ready_settled, ranges_settled, reason_settled, same_settled, sequence_settled, mapped_text_settled, word_settled, zero_least}
+use Rattle.cg_join.specs.SettledLaws.{joined_bound, keyed_settled, lines_settled, list_settled, maybe_settled, or_ready_settled, pairs_settled, ranges_settled, reason_settled, same_settled, sequence_settled, mapped_text_settled, word_settled, zero_least}
 use Rattle.cg_join.specs.WordStartLaws.{SpellsWord}
 use Rattle.cg_value.specs.Flat.{flat_size}
 use Rattle.cg_value.specs.Print.{print_default_line, print_weight_line}
 use Rattle.cg_value.specs.declared.flat.FlatPair.{FlatPair}
+use Rattle.cg_value.specs.declared.value.FlatLimit.{FlatLimit}
 use Rattle.cg_value.specs.declared.value.NestedLine.{NestedLine}
 use Rattle.cg_value.specs.declared.value.NestedPair.{NestedPair}
 use Rattle.cg_value.specs.declared.value.Value.{Value}
 use Rattle.cg_file.specs.BranchLaws.{branch_settled}
 use Rattle.cg_file.specs.DeviceLineLaws.{limits_value, targets_value}
 use Rattle.cg_file.specs.FlatFileLaws.{flat_value}
+use Rattle.cg_file.specs.FlatLimitsFileLaws.{flat_limits_value}
 use Rattle.cg_file.specs.Kinds.{held_of_whole}
 use Rattle.cg_file.specs.ManyFileLaws.{numbers_value}
 use Rattle.cg_file.specs.NestedFileLaws.{nested_value}
+use Rattle.cg_file.specs.NodeStatsFileLaws.{NodesValue, node_stats_value, nodes_held}
 use Rattle.cg_file.specs.OneLineMapped.{set_value}
 use Rattle.cg_file.specs.PartitionFileLaws.{partition_held}
 use Rattle.cg_file.specs.PartitionMapped.{InvalidValue, ReasonValue, RootValue, partition_value}
+use Rattle.cg_file.specs.ParamFileLaws.{device_params_value, params_held, params_size}
 use Rattle.cg_file.specs.StatFileLaws.{stat_size, stats_value, stats_held}
 use Rattle.cg_file.specs.RawFileLaws.{raw_file_held}
-use Rattle.cg_file.specs.LineHeldLaws.{bare_lines_held, bare_lines_held_after, flat_held, line_held, nested_held, words_held}
+use Rattle.cg_file.specs.LineHeldLaws.{bare_lines_held, bare_lines_held_after, flat_held, flat_limits_held, line_held, nested_held, words_held}
 use Rattle.cg_file.specs.WeightFileLaws.{weights_value}
 use Rattle.cg_file.specs.WordsMapped.{words_value}
+use Rattle.cg_file.specs.contracts.device_params.ParamLineTextToken.TheImpl as param_line
 use Rattle.cg_file.specs.contracts.device_stats.StatLineTextToken.TheImpl as stat_line
+use Rattle.cg_file.specs.contracts.node_stats.NodePairsToken.TheImpl as node_pairs
+use Rattle.cg_file.specs.contracts.node_stats.NodesTextToken.TheImpl as nodes
 use Rattle.cg_file.specs.contracts.partition.InvalidTextToken.TheImpl as invalid
 use Rattle.cg_file.specs.contracts.partition.RootTextToken.TheImpl as root
 use Rattle.cg_file.specs.contracts.partition.WhyTextToken.TheImpl as why
@@ -46,15 +55,19 @@ use Rattle.cg_file.specs.declared.partition.InvalidText.{InvalidText}
 use Rattle.cg_file.specs.declared.partition.RootText.{RootText}
 use Rattle.cg_file.specs.declared.partition.WhyText.{WhyText}
 use Rattle.cg_file.specs.contracts.clamp.ClampFileToken.TheImpl as clamp
+use Rattle.cg_file.specs.contracts.class.ClassFileToken.TheImpl as class
 use Rattle.cg_file.specs.contracts.cpu_max.CpuMaxFileToken.TheImpl as cpu_max
 use Rattle.cg_file.specs.contracts.device_limits.DeviceLimitsFileToken.TheImpl as device_limits
+use Rattle.cg_file.specs.contracts.device_params.DeviceParamsFileToken.TheImpl as device_params
 use Rattle.cg_file.specs.contracts.device_stats.DeviceStatsFileToken.TheImpl as device_stats
 use Rattle.cg_file.specs.contracts.device_targets.DeviceTargetsFileToken.TheImpl as device_targets
 use Rattle.cg_file.specs.contracts.device_weights.DeviceWeightsFileToken.TheImpl as device_weights
 use Rattle.cg_file.specs.contracts.flat.FlatFileToken.TheImpl as flat
+use Rattle.cg_file.specs.contracts.flat_limits.FlatLimitsFileToken.TheImpl as flat_limits
 use Rattle.cg_file.specs.contracts.limit.LimitFileToken.TheImpl as limit
 use Rattle.cg_file.specs.contracts.mode.ModeFileToken.TheImpl as mode
 use Rattle.cg_file.specs.contracts.nested.NestedFileToken.TheImpl as nested
+use Rattle.cg_file.specs.contracts.node_stats.NodeStatsFileToken.TheImpl as node_stats
 use Rattle.cg_file.specs.contracts.number.NumberFileToken.TheImpl as number
 use Rattle.cg_file.specs.contracts.numbers.NumbersFileToken.TheImpl as numbers
 use Rattle.cg_file.specs.contracts.partition.PartitionFileToken.TheImpl as partition
@@ -67,13 +80,19 @@ use Rattle.cg_file.specs.contracts.words.WordsFileToken.TheImpl as words
 use Rattle.cg_file.specs.declared.clamp.ClampFile.{ClampFile}
 use Rattle.cg_file.specs.declared.cpu_max.CpuMaxFile.{CpuMaxFile}
 use Rattle.cg_file.specs.declared.device_limits.DeviceLimitsFile.{DeviceLimitsFile}
+use Rattle.cg_file.specs.declared.device_params.DeviceParamsFile.{DeviceParamsFile}
 use Rattle.cg_file.specs.declared.device_stats.DeviceStatsFile.{DeviceStatsFile}
 use Rattle.cg_file.specs.declared.device_targets.DeviceTargetsFile.{DeviceTargetsFile}
 use Rattle.cg_file.specs.declared.device_weights.DeviceWeightsFile.{DeviceWeightsFile}
 use Rattle.cg_file.specs.declared.flat.FlatFile.{FlatFile}
+use Rattle.cg_file.specs.declared.flat_limits.FlatLimitsFile.{FlatLimitsFile}
 use Rattle.cg_file.specs.declared.limit.LimitFile.{LimitFile}
 use Rattle.cg_file.specs.declared.mode.ModeFile.{ModeFile}
+use Rattle.cg_file.specs.declared.class.ClassFile.{ClassFile}
 use Rattle.cg_file.specs.declared.nested.NestedFile.{NestedFile}
+use Rattle.cg_file.specs.declared.node_stats.NodePairs.{NodePairs}
+use Rattle.cg_file.specs.declared.node_stats.NodeStatsFile.{NodeStatsFile}
+use Rattle.cg_file.specs.declared.node_stats.NodesText.{NodesText}
 use Rattle.cg_file.specs.declared.number.NumberFile.{NumberFile}
 use Rattle.cg_file.specs.declared.numbers.NumbersFile.{NumbersFile}
 use Rattle.cg_file.specs.declared.partition.PartitionFile.{PartitionFile}
@@ -97,6 +116,9 @@ limit_settled s v h = zero_least (held_of_whole v)
 
 mode_settled : (s : ModeFile) (v : Value) → mode.ghosts.means s [] v → mode.ghosts.size s ≤ held_of_whole v
 mode_settled s v h = zero_least (held_of_whole v)
+
+class_settled : (s : ClassFile) (v : Value) → class.ghosts.means s [] v → class.ghosts.size s ≤ held_of_whole v
+class_settled s v h = zero_least (held_of_whole v)
 
 cpu_max_settled : (s : CpuMaxFile) (v : Value) → cpu_max.ghosts.means s [] v → cpu_max.ghosts.size s ≤ held_of_whole v
 cpu_max_settled s v h = zero_least (held_of_whole v)
@@ -138,6 +160,17 @@ flat_settled s v h =
     (same_settled (flat_size pairs) (flat_size pairs) refl) h.0 h.1)
     (flat_held h.0)
 
+flat_limits_settled : (s : FlatLimitsFile) (v : Value) → flat_limits.ghosts.means s [] v → flat_limits.ghosts.size s ≤ held_of_whole v
+flat_limits_settled s v h =
+    let k = s.text.token in
+    let pairs = k.pairs.pairs.items in
+    let size : List FlatLimit → ℕ = items_size (pair_size (λ (p : FlatLimit). p.key) (λ p. p.limit) length (λ _. 0)) in
+    mapped_text_settled flat_limits_value _ size held_of_whole h.0 v h.2
+    (keyed_settled (λ (p : FlatLimit). p.key) (λ ps. ps) pairs _ _ k.end k.stage k.ended.items length size
+    (size pairs) (length k.key.bytes.items) 0 k.kept k.new_key k.new_value
+    (same_settled (size pairs) (size pairs) refl) h.0 h.1)
+    (flat_limits_held h.0)
+
 device_stats_settled : (s : DeviceStatsFile) (v : Value) → device_stats.ghosts.means s [] v → device_stats.ghosts.size s ≤ held_of_whole v
 device_stats_settled s v h =
     let l = s.text.token in
@@ -160,6 +193,11 @@ device_targets_settled : (s : DeviceTargetsFile) (v : Value) → device_targets.
 device_targets_settled s v h =
     let l = s.text.token in
     mapped_text_settled targets_value _ (items_size (λ _. 0)) held_of_whole h.0 v h.2 (lines_settled _ _ l.end l.items.items l.begun (λ _. 0) 0 l.fresh h.0 h.1) (bare_lines_held _ h.0)
+
+device_params_settled : (s : DeviceParamsFile) (v : Value) → device_params.ghosts.means s [] v → device_params.ghosts.size s ≤ held_of_whole v
+device_params_settled s v h =
+    let l = s.text.token in
+    mapped_text_settled device_params_value _ (items_size params_size) held_of_whole h.0 v h.2 (lines_settled _ _ l.end l.items.items l.begun params_size (param_line.ghosts.size l.current) l.fresh h.0 h.1) (params_held h.0)
 
 set_settled : (s : SetFile) (v : Value) → set.ghosts.means s [] v → set.ghosts.size s ≤ held_of_whole v
 set_settled s v h =
@@ -207,6 +245,28 @@ nested_settled s v h =
     (keyed_settled (λ (q : NestedLine). q.key) (λ ps. ps) lines _ _ k.end k.stage k.ended.items length size (size lines) (length k.key.bytes.items) _ k.kept k.new_key k.new_value (same_settled (size lines) (size lines) refl) h.0 h.1)
     (nested_held h.0)
 
+node_pairs_settled : (s : NodePairs) (ps : List NestedPair) → node_pairs.ghosts.means s [] ps → node_pairs.ghosts.size s ≤ items_size (pair_size (λ (p : NestedPair). p.key) (λ p. p.number) length (λ _. 0)) ps
+node_pairs_settled s ps h =
+    let d = s.pairs in
+    pairs_settled (λ (p : NestedPair). p.key) (λ p. p.number) (word.ghosts.means d.word) (decimal.ghosts.means d.value)
+    (IsPairText (λ p. p.key) (λ p. p.number) (SpellsWord d.words.controller) (λ t n. IsDecimal d.values.lo d.values.hi n t) d.delimiter) d.delimiter d.separator d.items.items d.stage length (length d.word.bytes.items) 0 d.new_word refl ps h
+
+nodes_settled : (s : NodesText) (v : NodesValue) → nodes.ghosts.means s [] v → nodes.ghosts.size s ≤ 0 + items_size (pair_size (λ (p : NestedPair). p.key) (λ p. p.number) length (λ _. 0)) (v.1.1)
+nodes_settled s v h =
+    let q = s.parts.token in
+    let both : List ℕ → ℕ × List NestedPair → Type 0 = λ rest x. IsSequence decimal.ghosts.means node_pairs.ghosts.means q.in_second q.first q.second rest (x.0) (x.1) in
+    sequence_settled decimal.ghosts.means node_pairs.ghosts.means q.in_second q.first q.second 0 (node_pairs.ghosts.size q.second) (λ _. 0)
+    (items_size (pair_size (λ (p : NestedPair). p.key) (λ p. p.number) length (λ _. 0)))
+    (λ n k. zero_least 0) (node_pairs_settled q.second) (v.1.0) (v.1.1) (label_nil (λ r rest (x : ℕ × List NestedPair). IsSequence decimal.ghosts.means node_pairs.ghosts.means r.in_second r.first r.second rest (x.0) (x.1)) s.parts.label q v h)
+
+node_stats_settled : (s : NodeStatsFile) (v : Value) → node_stats.ghosts.means s [] v → node_stats.ghosts.size s ≤ held_of_whole v
+node_stats_settled s v h =
+    let q = s.text.token in
+    let bound : NodesValue → ℕ = λ x. 0 + items_size (pair_size (λ (p : NestedPair). p.key) (λ p. p.number) length (λ _. 0)) (x.1.1) in
+    mapped_text_settled node_stats_value _ (λ x. bound x.0 + 0) held_of_whole h.0 v h.2
+    (sequence_settled nodes.ghosts.means byte.ghosts.means q.in_second q.first q.second (nodes.ghosts.size q.first) 0 bound (λ _. 0) (nodes_settled q.first) (λ u k. zero_least 0) h.0.0 h.0.1 h.1)
+    (nodes_held h.0)
+
 raw_file_settled : (s : RawFile) (v : Value) → raw.ghosts.means s [] v → raw.ghosts.size s ≤ held_of_whole v
 raw_file_settled s v h = rw h.value (raw_file_held s.text.items h.whole)
 
@@ -216,17 +276,21 @@ file_settled (text.Number t) = number_settled t
 file_settled (text.Signed t) = signed_settled t
 file_settled (text.Limit t) = limit_settled t
 file_settled (text.Mode t) = mode_settled t
+file_settled (text.Class t) = class_settled t
 file_settled (text.CpuMax t) = cpu_max_settled t
 file_settled (text.Clamp t) = clamp_settled t
 file_settled (text.Numbers t) = numbers_settled t
 file_settled (text.Words t) = words_settled t
 file_settled (text.Flat t) = flat_settled t
+file_settled (text.FlatLimits t) = flat_limits_settled t
 file_settled (text.DeviceStats t) = device_stats_settled t
 file_settled (text.DeviceLimits t) = device_limits_settled t
 file_settled (text.DeviceWeights t) = device_weights_settled t
 file_settled (text.DeviceTargets t) = device_targets_settled t
+file_settled (text.DeviceParams t) = device_params_settled t
 file_settled (text.Set t) = set_settled t
 file_settled (text.Partition t) = partition_settled t
 file_settled (text.Pressure t) = pressure_settled t
 file_settled (text.Nested t) = nested_settled t
+file_settled (text.NodeStats t) = node_stats_settled t
 file_settled (text.Raw t) = raw_file_settled t

@@ -6,6 +6,7 @@ pub mod FileLaws
 pub mod AnyFile
 pub mod AnyFileLaws
 pub mod FlatFileLaws
+pub mod FlatLimitsFileLaws
 pub mod FourLaws
 pub mod Front
 pub mod FrontLaws
@@ -15,6 +16,7 @@ pub mod Kinds
 pub mod Laws
 pub mod ManyFileLaws
 pub mod NestedFileLaws
+pub mod NodeStatsFileLaws
 pub mod OneLineFileLaws
 pub mod OneLineMapped
 pub mod OneOrBoth
@@ -22,6 +24,7 @@ pub mod OneOrBothLaws
 pub mod OneValueLaws
 pub mod Pad
 pub mod PadLaws
+pub mod ParamFileLaws
 pub mod PartitionFileLaws
 pub mod PartitionMapped
 pub mod PressureFileLaws

@@ -6,12 +6,13 @@ use Rattle.cg_join.specs.Pairs.{pair_size}
 use Rattle.cg_join.specs.Repeat.{items_size}
 use Rattle.cg_file.specs.Kinds.{held_of_whole}
 use Rattle.cg_value.specs.Flat.{flat_size}
-use Rattle.cg_value.specs.Print.{print_flat_line, print_nested_line}
+use Rattle.cg_value.specs.Print.{print_flat_limit, print_flat_line, print_nested_line}
 use Rattle.cg_value.specs.Held.{held_of_key}
 use Rattle.cg_value.specs.declared.flat.FlatPair.{FlatPair}
+use Rattle.cg_value.specs.declared.value.FlatLimit.{FlatLimit}
 use Rattle.cg_value.specs.declared.value.NestedLine.{NestedLine}
 use Rattle.cg_value.specs.declared.value.NestedPair.{NestedPair}
-use Rattle.cg_value.specs.declared.value.Value.TheVariants.{Flat, Nested}
+use Rattle.cg_value.specs.declared.value.Value.TheVariants.{Flat, FlatLimits, Nested}
 use Rattle.cg_join.specs.SettledLaws.{joined_bound}
 
 pub same : {A : Type 0} → A → A
@@ -78,6 +79,10 @@ more_of m n k h = omega (arith, h)
 pub flat_held : (ps : List FlatPair) → flat_size ps ≤ held_of_whole (Flat ps)
 flat_held ps = more_of (length (map print_flat_line ps)) (flat_size ps) (sum_by (λ (p : FlatPair). held_of_key p.key) ps)
     (sum_by-le-sum_by (λ (p : FlatPair). length p.key + 1) (λ p. held_of_key p.key) ps (λ p. omega arith))
+
+pub flat_limits_held : (ps : List FlatLimit) → items_size (pair_size (λ (p : FlatLimit). p.key) (λ p. p.limit) length (λ _. 0)) ps ≤ held_of_whole (FlatLimits ps)
+flat_limits_held ps = more_of (length (map print_flat_limit ps)) (items_size (pair_size (λ (p : FlatLimit). p.key) (λ p. p.limit) length (λ _. 0)) ps) (sum_by (λ (p : FlatLimit). held_of_key p.key) ps)
+    (items_within (pair_size (λ (p : FlatLimit). p.key) (λ p. p.limit) length (λ _. 0)) (λ p. held_of_key p.key) (λ p. omega arith) ps)
 
 -- Of nested lines.
 nested_pair : (p : NestedPair) → 1 + (length p.key + 0) ≤ held_of_key p.key

@@ -42,7 +42,7 @@ PairText text p = IsPairText (λ q. q.key) (λ q. q.number) (SpellsWord false) (
 abbrev pub PairsText : List ℕ → List NestedPair → Type 0
 PairsText text ps = ArePairs (λ q. q.key) PairText 32 text ps
 
-pair_is : (text : List ℕ) (p : NestedPair) → PairText text p ↔ IsNestedPair p text
+pub pair_is : (text : List ℕ) (p : NestedPair) → PairText text p ↔ IsNestedPair p text
 pair_is = key_parts (λ p. p.key) (λ p. p.number) 61 (IsDecimal 0 any_u64)
 
 -- The text of a line.

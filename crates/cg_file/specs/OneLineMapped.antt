@@ -1,6 +1,7 @@
 -- How the values of a file's only line are turned into those of files.
 use Rattle.std.specs.Prelude.{ℕ, ℤ, List, codes}
 use Rattle.cg_text.specs.declared.values.Clamp.{Clamp}
+use Rattle.cg_text.specs.declared.values.IoClass.{IoClass}
 use Rattle.cg_text.specs.declared.values.Limit.{Limit}
 use Rattle.cg_join.specs.Spelling.{IsEither}
 use Rattle.cg_join.specs.TextBytes.{IsFixed}
@@ -9,13 +10,16 @@ use Rattle.cg_join.specs.declared.choice.Either.TheVariants.{Left, Right}
 use Rattle.cg_value.specs.declared.value.GroupMode.{GroupMode}
 use Rattle.cg_value.specs.declared.value.GroupMode.TheVariants.{Domain, DomainThreaded, DomainInvalid, Threaded}
 use Rattle.cg_value.specs.declared.value.Value.{Value}
-use Rattle.cg_value.specs.declared.value.Value.TheVariants.{Signed, Clamp as ClampOf, CpuMax, Mode, Set}
+use Rattle.cg_value.specs.declared.value.Value.TheVariants.{Signed, Class, Clamp as ClampOf, CpuMax, Mode, Set}
 
 abbrev pub signed_value : ℤ × Unit {0} → Value
 signed_value v = Signed v.0
 
 abbrev pub clamp_value : Clamp × Unit {0} → Value
 clamp_value v = ClampOf v.0
+
+abbrev pub class_value : IoClass × Unit {0} → Value
+class_value v = Class v.0
 
 abbrev pub set_value : List (ℕ × ℕ) × Unit {0} → Value
 set_value v = Set v.0

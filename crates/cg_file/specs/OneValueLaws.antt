@@ -1,6 +1,7 @@
 -- A text has one value, kind by kind.
 use Rattle.std.proofs.Common.{◌≡◌, ℕ, ◌⊎◌, inl, inr, Bool, false, true, cond, nat_eq, ℤ, pos, negsuc, List, [], ◌∷◌, ◌++◌, length, Option, Some, None, refl, sym, ◌∙◌, ap, arith, codes}
 use Rattle.std.specs.List.{All, AllByRecursion, AllZip}
+use Rattle.cg_text.specs.Class.{IsClass}
 use Rattle.cg_text.specs.Clamp.{IsClamp}
 use Rattle.cg_text.specs.Decimal.{IsDecimal, IsNumeral}
 use Rattle.cg_text.specs.DecimalLaws.{IsNumeral_one, number_digits}
@@ -27,6 +28,7 @@ use Rattle.cg_join.specs.BeginsLaws.{label_begins, maybe_begins_by}
 use Rattle.cg_join.specs.Composites.{AreAverages as AveragesText, IsAnyNumber, IsAverage}
 use Rattle.cg_join.specs.DisjointLaws.{fixed_disjoint}
 use Rattle.cg_join.specs.FilledLaws.{first_filled, fixed_filled, joined_filled, word_is_filled}
+use Rattle.cg_join.specs.ClassLaws.{class_one}
 use Rattle.cg_join.specs.JoinedPairs.{AreJoinedPairs}
 use Rattle.cg_join.specs.JoinedPairsLaws.{joined_one, nested_is}
 use Rattle.cg_join.specs.KeyedLaws.{keyed_one, only_kept, some_one}
@@ -48,13 +50,14 @@ use Rattle.cg_value.specs.LineLaws.{plain_lines}
 use Rattle.cg_value.specs.Lines.{AreLinesOf, IsOneLine, unlines}
 use Rattle.cg_value.specs.Print.{print_of}
 use Rattle.cg_value.specs.PrintLaws.{print_fits}
-use Rattle.cg_value.specs.ReadLine.{AreAverages, AreFlatLines, AreNestedLines, ArePressureLines, AreWeightLines, AreWords, IsCpuMax, IsDefaultLine, IsFlatLine, IsLimitLine, IsMode, IsNestedLine}
-use Rattle.cg_value.specs.ReadLine.{IsPartition, IsPressureLine, IsRaw, IsStatLine, IsTargetLine, IsWeightLine, mode_text, words_line}
+use Rattle.cg_value.specs.ReadLine.{AreAverages, AreFlatLines, AreNestedLines, ArePressureLines, AreWeightLines, AreWords, IsCpuMax, IsDefaultLine, IsFlatLine, IsLimitLine, IsMode, IsNestedLine, AreFlatLimits, IsFlatLimit, IsParamLine}
+use Rattle.cg_value.specs.ReadLine.{IsNodeStats, IsPartition, IsPressureLine, IsRaw, IsStatLine, IsTargetLine, IsWeightLine, mode_text, words_line}
 use Rattle.cg_value.specs.TableLaws.{read_form_ok}
 use Rattle.cg_value.specs.declared.flat.FlatPair.{FlatPair}
 use Rattle.cg_value.specs.declared.kind.ReadForm.{ReadForm}
 use Rattle.cg_value.specs.declared.kind.ReadForm.TheVariants as form
 use Rattle.cg_value.specs.declared.value.Averages.{Averages}
+use Rattle.cg_value.specs.declared.value.FlatLimit.{FlatLimit}
 use Rattle.cg_value.specs.declared.value.GroupMode.{GroupMode}
 use Rattle.cg_value.specs.declared.value.GroupMode.TheVariants.{Domain, DomainThreaded, DomainInvalid, Threaded}
 use Rattle.cg_value.specs.declared.value.NestedLine.{NestedLine}
@@ -65,17 +68,20 @@ use Rattle.cg_value.specs.declared.value.Value.TheVariants as value
 use Rattle.cg_value.specs.declared.value.WeightLine.{WeightLine}
 use Rattle.cg_file.specs.DeviceLineLaws.{NumberText, limits_startable, target_startable, weight_apart, weight_is, weight_line}
 use Rattle.cg_file.specs.FlatFileLaws.{flat_line_is}
+use Rattle.cg_file.specs.FlatLimitsFileLaws.{any_limit_startable, flat_limit_is}
 use Rattle.cg_file.specs.FourLaws.{four_startable}
 use Rattle.cg_file.specs.Laws.{OneValue, OneValueOfName, ReadBack, ReadBackOfName}
 use Rattle.cg_file.specs.ManyFileLaws.{one_raw}
 use Rattle.cg_file.specs.NestedFileLaws.{PairText, nested_line_is}
+use Rattle.cg_file.specs.NodeStatsFileLaws.{node_stats_one}
 use Rattle.cg_file.specs.OneLineFileLaws.{cpu_max_is}
 use Rattle.cg_file.specs.OneLineMapped.{quota_of}
 use Rattle.cg_file.specs.OneOrBoth.{Differ}
+use Rattle.cg_file.specs.ParamFileLaws.{params_startable}
 use Rattle.cg_file.specs.PartitionFileLaws.{member_differs, partition_is}
 use Rattle.cg_file.specs.PartitionMapped.{IsInvalidText, IsReasonText, IsRootText, IsRootWord, partition_parts}
 use Rattle.cg_file.specs.PressureFileLaws.{AveragesValues, averages_from, line_averages, values_of}
-use Rattle.cg_file.specs.StartableLaws.{Startable, decimal_startable, device_startable, hundredths_startable, limit_startable}
+use Rattle.cg_file.specs.StartableLaws.{Startable, decimal_startable, device_name_startable, hundredths_startable, limit_startable}
 use Rattle.cg_file.specs.StatFileLaws.{stat_startable}
 use Rattle.cg_file.specs.WordsFileLaws.{line_joined}
 
@@ -194,6 +200,10 @@ flat_one : HasOneText (λ line p. IsFlatLine p line)
 flat_one = one_as flat_line_is (pair_one (λ (p : FlatPair). p.key) (λ p. p.number) (SpellsWord false) 32 (λ key number. record { key = key; number = number }) (λ p. refl)
     (λ t n. IsDecimal 0 any_u64 n t) (word_lacking 32 false (omega arith)).is (one_word false) (one_decimal 0 any_u64))
 
+flat_limit_one : HasOneText (λ line p. IsFlatLimit p line)
+flat_limit_one = one_as flat_limit_is (pair_one (λ (p : FlatLimit). p.key) (λ p. p.limit) (SpellsWord false) 32 (λ key limit. record { key = key; limit = limit }) (λ p. refl)
+    (λ t v. IsLimit 0 any_u64 v t) (word_lacking 32 false (omega arith)).is (one_word false) any_limit_startable.one)
+
 nested_pairs_one : HasOneText (AreJoinedPairs (λ (p : NestedPair). p.key) PairText 32)
 nested_pairs_one = joined_one (λ (p : NestedPair). p.key) (λ p. p.number) (SpellsWord false) (λ t n. IsDecimal 0 any_u64 n t) 61 32 (λ key number. record { key = key; number = number }) (λ p. refl)
     (word_only false 61 (λ h. h.2 refl)) (lacks_stops (λ t n. IsDecimal 0 any_u64 n t) 32 (decimal_lacking 32 0 any_u64 (omega arith)).is) (one_word false) (one_decimal 0 any_u64)
@@ -214,17 +224,17 @@ default_one most m n line h k =
     let same : h.0 ≡ k.0 = same_back (codes "default ") h.0 k.0 (sym h.1 ∙ k.1) in
     one_decimal 1 most k.0 m n (rw same at h.2) k.2
 
-weight_one : (most : ℕ) → HasOneText (λ line w. IsWeightLine most w line)
-weight_one most = one_as (weight_is most) (mapped_text_one weight_line (concat_one (weight_apart most) device_startable.one
+weight_one : (most : ℕ) (kernel : Bool) → HasOneText (λ line w. IsWeightLine most kernel w line)
+weight_one most kernel = one_as (weight_is most kernel) (mapped_text_one weight_line (concat_one (weight_apart most kernel) (device_name_startable kernel).one
     (concat_one (fixed_apart (32 ∷ []) (NumberText 1 most)) (fixed_one (32 ∷ [])) (one_decimal 1 most))))
 
-weights_one : (most : ℕ) (v w : Value) (lines : List (List ℕ)) → AreWeightLines most v lines → AreWeightLines most w lines → v ≡ w
-weights_one most v w lines h k =
+weights_one : (most : ℕ) (kernel : Bool) (v w : Value) (lines : List (List ℕ)) → AreWeightLines most kernel v lines → AreWeightLines most kernel w lines → v ≡ w
+weights_one most kernel v w lines h k =
     let same : h.first ∷ h.others ≡ k.first ∷ k.others = sym h.lines_are ∙ k.lines_are in
     let first : h.first ≡ k.first = cc in
     let others : h.others ≡ k.others = cc in
     let default : h.default ≡ k.default = default_one most h.default k.default k.first (rw first at h.first_is) k.first_is in
-    let devices : h.devices ≡ k.devices = values_one (IsWeightLine most) (weight_one most) h.devices k.devices k.others (rw others at h.others_are) k.others_are in
+    let devices : h.devices ≡ k.devices = values_one (IsWeightLine most kernel) (weight_one most kernel) h.devices k.devices k.others (rw others at h.others_are) k.others_are in
     h.value ∙ ap (λ n. value.DeviceWeights n h.devices) default ∙ ap (λ ls. value.DeviceWeights k.default ls) devices ∙ sym k.value
 
 -- ---- The line of a partition
@@ -314,20 +324,24 @@ lines_value (form.Number lo hi) v w lines h k = one_line (IsDecimal lo hi) value
 lines_value (form.Signed lo hi) v w lines h k = one_line (IsSigned lo hi) value.Signed (signed_one lo hi) v w lines h k
 lines_value form.Limit v w lines h k = one_line (IsLimit 0 any_u64) value.Limit (limit_startable 0 any_u64 (omega arith)).one v w lines h k
 lines_value form.Mode v w lines h k = one_line IsMode value.Mode mode_one v w lines h k
+lines_value form.Class v w lines h k = one_line IsClass value.Class class_one v w lines h k
 lines_value form.CpuMax v w lines h k = one_line IsCpuMax (λ (x : Limit × ℕ). value.CpuMax (x.0) (x.1)) cpu_max_one v w lines h k
 lines_value form.Clamp v w lines h k = one_line (IsClamp Read) value.Clamp clamp_one v w lines h k
 lines_value (form.Numbers lo hi) v w lines h k = many_lines (IsDecimal lo hi) value.Numbers (one_decimal lo hi) v w lines h k
 lines_value form.Words v w lines h k = made_one AreWords value.Words words_one v w lines h k
 lines_value form.Flat v w lines h k = made_one AreFlatLines value.Flat (λ x y ls a b. values_one IsFlatLine flat_one x y ls a.each b.each) v w lines h k
-lines_value form.DeviceStats v w lines h k = many_lines IsStatLine value.DeviceStats stat_startable.one v w lines h k
-lines_value form.DeviceLimits v w lines h k = many_lines IsLimitLine value.DeviceLimits limits_startable.one v w lines h k
-lines_value (form.DeviceWeights most) v w lines h k = weights_one most v w lines h k
-lines_value form.DeviceTargets v w lines h k = many_lines IsTargetLine value.DeviceTargets target_startable.one v w lines h k
+lines_value form.FlatLimits v w lines h k = made_one AreFlatLimits value.FlatLimits (λ x y ls a b. values_one IsFlatLimit flat_limit_one x y ls a.each b.each) v w lines h k
+lines_value (form.DeviceStats kernel) v w lines h k = many_lines (IsStatLine kernel) value.DeviceStats (stat_startable kernel).one v w lines h k
+lines_value (form.DeviceLimits kernel) v w lines h k = many_lines (IsLimitLine kernel) value.DeviceLimits (limits_startable kernel).one v w lines h k
+lines_value (form.DeviceWeights most kernel) v w lines h k = weights_one most kernel v w lines h k
+lines_value (form.DeviceTargets kernel) v w lines h k = many_lines (IsTargetLine kernel) value.DeviceTargets (target_startable kernel).one v w lines h k
+lines_value form.DeviceParams v w lines h k = many_lines IsParamLine value.DeviceParams params_startable.one v w lines h k
 lines_value (form.Set most) v w lines h k = one_line (IsStrictList most) value.Set (set_one most) v w lines h k
 lines_value form.Partition v w lines h k = one_line (λ (x : Role × Bool × Option (List ℕ)) line. IsPartition (x.0) (x.1) (x.2) line) (λ x. value.Partition (x.0) (x.1) (x.2)) partition_one v w lines h k
 lines_value form.Pressure v w lines h k = made_one (λ (x : Option Averages × Option Averages) ls. ArePressureLines (x.0) (x.1) ls) (λ x. value.Pressure (x.0) (x.1))
     (λ x y ls a b. both_same (pressure_one (x.0) (x.1) (y.0) (y.1) ls a b)) v w lines h k
 lines_value form.Nested v w lines h k = made_one AreNestedLines value.Nested (λ x y ls a b. values_one IsNestedLine nested_one x y ls a.each b.each) v w lines h k
+lines_value form.NodeStats v w lines h k = one_line IsNodeStats (λ (x : ℕ × List NestedPair). value.NodeStats (x.0) (x.1)) node_stats_one v w lines h k
 lines_value form.Raw v w lines h k = many_lines IsRaw value.Raw one_raw v w lines h k
 
 -- A text has one value.

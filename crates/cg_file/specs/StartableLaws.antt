@@ -2,27 +2,34 @@
 use Rattle.std.proofs.Common.{◌≡◌, ◌≤◌, ℕ, ◌↔◌, Bool, true, false, List, [], ◌∷◌, refl, sym, ◌∙◌, ap, arith, codes}
 use Rattle.cg_text.specs.Amount.{IsAmount}
 use Rattle.cg_text.specs.Decimal.{IsDecimal}
-use Rattle.cg_text.specs.Device.{IsDevice}
+use Rattle.cg_text.specs.Device.{IsDevice, IsDeviceName}
 use Rattle.cg_text.specs.Hundredths.{IsHundredths}
 use Rattle.cg_text.specs.HundredthsLaws.{hundredths_new, hundredths_completes, hundredths_one, hundredths_bytes}
 use Rattle.cg_text.specs.HundredthsState.{WholePart}
 use Rattle.cg_text.specs.KeywordLaws.{keyword_bytes}
 use Rattle.cg_text.specs.Limit.{IsLimit}
+use Rattle.cg_text.specs.Name.{IsNameValue}
+use Rattle.cg_text.specs.Param.{IsParam}
 use Rattle.cg_text.specs.Token.{AreBytes, HasOneText}
+use Rattle.cg_text.specs.WordLaws.{words_bytes}
 use Rattle.cg_text.specs.declared.decimal.Progress.TheVariants.{Start}
 use Rattle.cg_text.specs.declared.hundredths.Spelling.TheVariants.{Read}
 use Rattle.cg_text.specs.declared.hundredths.Part.TheVariants.{Whole}
-use Rattle.cg_text.specs.declared.keyword.Keyword.TheVariants.{Max}
+use Rattle.cg_text.specs.declared.keyword.Keyword.TheVariants.{Max, Unknown}
 use Rattle.cg_join.specs.AmountLaws.{whole_not_fraction, max_not_negated, others_apart, amount_is}
 use Rattle.cg_join.specs.AmountState.{amount_of}
 use Rattle.cg_join.specs.ApartLaws.{fixed_apart}
 use Rattle.cg_join.specs.ByteLaws.{sequence_bytes}
 use Rattle.cg_join.specs.DeviceLaws.{colon_apart, major_apart, device_is, device_of}
+use Rattle.cg_join.specs.DeviceNameLaws.{device_not_gone, device_name_is}
+use Rattle.cg_join.specs.DeviceNameState.{device_named}
 use Rattle.cg_join.specs.DeviceState.{numbers_of}
 use Rattle.cg_join.specs.Join.{IsPair}
 use Rattle.cg_join.specs.LimitLaws.{limit_is}
 use Rattle.cg_join.specs.LimitState.{limit_of}
 use Rattle.cg_join.specs.MaxLaws.{max_not_decimal}
+use Rattle.cg_join.specs.ParamLaws.{IsName, name_not_number, param_is}
+use Rattle.cg_join.specs.ParamState.{param_of}
 use Rattle.cg_join.specs.SequenceLaws.{sequence_completes, sequence_one, both_same}
 use Rattle.cg_join.specs.Spelling.{IsAllowed, IsConcat, IsEither, IsMappedText, Apart, Disjoint}
 use Rattle.cg_join.specs.StartLaws.{some_decimal, one_decimal, decimal_bytes}
@@ -134,3 +141,22 @@ device_startable =
       one = λ text v w h k. ap device_of (a.one text (numbers_of v) (numbers_of w) h k);
       bytes = λ text v h. a.bytes text (numbers_of v) h;
     }
+
+pub device_name_startable : (unknown : Bool) → Startable (λ text device. IsDeviceName unknown device text)
+device_name_startable unknown =
+    startable_as (device_name_is unknown) (mapped_text_startable device_named (conditional_startable unknown device_not_gone device_startable (fixed_startable (codes "(unknown)") (keyword_bytes Unknown))))
+
+name_bytes : (text : List ℕ) → IsNameValue text → AreBytes text
+name_bytes [] h = absurd h
+name_bytes (c ∷ cs) h = words_bytes (c ∷ cs) h.1.1
+
+name_startable : Startable IsName
+name_startable = record {
+  some = (97 ∷ [], 97 ∷ [], (refl, ((omega arith, omega arith), (omega arith, ((omega arith, omega arith, (λ e. omega (arith, e))), tt)))));
+  one = λ text v w h k. h.0 ∙ sym k.0;
+  bytes = λ text name h. name_bytes text h.1;
+}
+
+pub param_startable : Startable (λ text v. IsParam v text)
+param_startable = startable_as param_is (mapped_text_startable param_of (either_startable name_not_number name_startable
+    (either_startable whole_not_fraction (decimal_startable (omega arith)) (hundredths_startable 99999999999))))

@@ -1,5 +1,5 @@
 -- What holds of the token over files of weights: a line, and any number of others.
-use Rattle.std.proofs.Common.{◌≡◌, ℕ, ◌↔◌, List, [], ◌∷◌, ◌++◌, refl, sym, ◌∙◌, ap, append_assoc, arith}
+use Rattle.std.proofs.Common.{◌≡◌, ℕ, ◌↔◌, Bool, List, [], ◌∷◌, ◌++◌, refl, sym, ◌∙◌, ap, append_assoc, arith}
 use Rattle.cg_text.specs.Keyword.{text_of}
 use Rattle.cg_text.specs.declared.keyword.Keyword.TheVariants.{Default}
 use Rattle.cg_join.specs.CutLaws.{label_is}
@@ -50,8 +50,8 @@ DefaultLine most = IsConcat (IsFixed (text_of Default)) (IsConcat (IsFixed (32 �
 abbrev pub DefaultEnded : ℕ → List ℕ → (Unit {0} × (Unit {0} × ℕ)) × Unit {0} → Type 0
 DefaultEnded most = IsConcat (DefaultLine most) (IsFixed (10 ∷ []))
 
-abbrev pub WeightLines : ℕ → List ℕ → List WeightLine → Type 0
-WeightLines most = AreLines (λ text line. IsWeightLine most line text) 10
+abbrev pub WeightLines : ℕ → Bool → List ℕ → List WeightLine → Type 0
+WeightLines most kernel = AreLines (λ text line. IsWeightLine most kernel line text) 10
 
 abbrev pub weights_value : ((Unit {0} × (Unit {0} × ℕ)) × Unit {0}) × List WeightLine → Value
 weights_value v = DeviceWeights v.0.0.1.1 v.1
@@ -71,10 +71,10 @@ default_from most text n h =
     (32 ∷ h.0, h.1, (label_is (32 ∷ []) (NumberText 1 most) (32 ∷ h.0) (tt, n)).1 (h.0, refl, h.2))
 
 -- The line of the default, and lines of devices, turned into a value, are a file of weights.
-pub weights_are : (most : ℕ) (text : List ℕ) (v : Value) → IsMappedText (IsConcat (DefaultEnded most) (WeightLines most)) weights_value text v ↔ KindText (WeightsForm most) v text
-weights_are most text v = (
+pub weights_are : (most : ℕ) (kernel : Bool) (text : List ℕ) (v : Value) → IsMappedText (IsConcat (DefaultEnded most) (WeightLines most kernel)) weights_value text v ↔ KindText (WeightsForm most kernel) v text
+weights_are most kernel text v = (
   λ h. (let ended = h.1.begins in
-      let k = lines_to (IsWeightLine most) h.1.back (h.0.1) h.1.ends in
+      let k = lines_to (IsWeightLine most kernel) h.1.back (h.0.1) h.1.ends in
       let front : h.1.front ≡ ended.front ++ 10 ∷ [] = rw ended.ends at ended.whole in
       record {
         lines = ended.front ∷ k.0;
@@ -89,7 +89,7 @@ weights_are most text v = (
           back = _;
           whole = h.text_is ∙ rw a.lines_are (sym (append_assoc a.first (10 ∷ []) _));
           begins = record { front = a.first; back = 10 ∷ []; whole = refl; begins = default_from most a.first a.default a.first_is; ends = refl };
-          ends = lines_from (IsWeightLine most) _ a.devices a.others a.others_are refl;
+          ends = lines_from (IsWeightLine most kernel) _ a.devices a.others a.others_are refl;
         },
         sym a.value,
       ))),

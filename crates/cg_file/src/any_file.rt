@@ -8,15 +8,19 @@ ghost use Rattle.cg_value.specs.Kind.{IsReadForm};
 ghost use Rattle.cg_file.specs.Kinds.{TextsOf};
 
 use crate::clamp::ClampFile;
+use crate::class::ClassFile;
 use crate::cpu_max::CpuMaxFile;
 use crate::device_limits::DeviceLimitsFile;
+use crate::device_params::DeviceParamsFile;
 use crate::device_stats::DeviceStatsFile;
 use crate::device_targets::DeviceTargetsFile;
 use crate::device_weights::DeviceWeightsFile;
 use crate::flat::FlatFile;
+use crate::flat_limits::FlatLimitsFile;
 use crate::limit::LimitFile;
 use crate::mode::ModeFile;
 use crate::nested::NestedFile;
+use crate::node_stats::NodeStatsFile;
 use crate::number::NumberFile;
 use crate::numbers::NumbersFile;
 use crate::partition::PartitionFile;
@@ -38,19 +42,23 @@ pub enum AnyFile {
     Signed(SignedFile),
     Limit(LimitFile),
     Mode(ModeFile),
+    Class(ClassFile),
     CpuMax(CpuMaxFile),
     Clamp(ClampFile),
     Numbers(NumbersFile),
     Words(WordsFile),
     Flat(FlatFile),
+    FlatLimits(FlatLimitsFile),
     DeviceStats(DeviceStatsFile),
     DeviceLimits(DeviceLimitsFile),
     DeviceWeights(DeviceWeightsFile),
     DeviceTargets(DeviceTargetsFile),
+    DeviceParams(DeviceParamsFile),
     Set(SetFile),
     Partition(PartitionFile),
     Pressure(PressureFile),
     Nested(NestedFile),
+    NodeStats(NodeStatsFile),
     Raw(RawFile),
 }
 
@@ -62,19 +70,23 @@ macro_rules! with_text {
             AnyFile::Signed($text) => $call,
             AnyFile::Limit($text) => $call,
             AnyFile::Mode($text) => $call,
+            AnyFile::Class($text) => $call,
             AnyFile::CpuMax($text) => $call,
             AnyFile::Clamp($text) => $call,
             AnyFile::Numbers($text) => $call,
             AnyFile::Words($text) => $call,
             AnyFile::Flat($text) => $call,
+            AnyFile::FlatLimits($text) => $call,
             AnyFile::DeviceStats($text) => $call,
             AnyFile::DeviceLimits($text) => $call,
             AnyFile::DeviceWeights($text) => $call,
             AnyFile::DeviceTargets($text) => $call,
+            AnyFile::DeviceParams($text) => $call,
             AnyFile::Set($text) => $call,
             AnyFile::Partition($text) => $call,
             AnyFile::Pressure($text) => $call,
             AnyFile::Nested($text) => $call,
+            AnyFile::NodeStats($text) => $call,
             AnyFile::Raw($text) => $call,
         }
     };
@@ -91,21 +103,31 @@ fn text_of(alloc: Global, form: ReadForm) -> AnyFile
         ReadForm::Signed { lo, hi } => AnyFile::Signed(SignedFile::new(lo, hi)),
         ReadForm::Limit => AnyFile::Limit(LimitFile::new()),
         ReadForm::Mode => AnyFile::Mode(ModeFile::new()),
+        ReadForm::Class => AnyFile::Class(ClassFile::new()),
         ReadForm::CpuMax => AnyFile::CpuMax(CpuMaxFile::new()),
         ReadForm::Clamp => AnyFile::Clamp(ClampFile::new()),
         ReadForm::Numbers { lo, hi } => AnyFile::Numbers(NumbersFile::new(alloc, lo, hi)),
         ReadForm::Words => AnyFile::Words(WordsFile::new(alloc)),
         ReadForm::Flat => AnyFile::Flat(FlatFile::new(alloc)),
-        ReadForm::DeviceStats => AnyFile::DeviceStats(DeviceStatsFile::new(alloc)),
-        ReadForm::DeviceLimits => AnyFile::DeviceLimits(DeviceLimitsFile::new(alloc)),
-        ReadForm::DeviceWeights { most } => {
-            AnyFile::DeviceWeights(DeviceWeightsFile::new(alloc, most))
+        ReadForm::FlatLimits => AnyFile::FlatLimits(FlatLimitsFile::new(alloc)),
+        ReadForm::DeviceStats { kernel } => {
+            AnyFile::DeviceStats(DeviceStatsFile::new(alloc, kernel))
         }
-        ReadForm::DeviceTargets => AnyFile::DeviceTargets(DeviceTargetsFile::new(alloc)),
+        ReadForm::DeviceLimits { kernel } => {
+            AnyFile::DeviceLimits(DeviceLimitsFile::new(alloc, kernel))
+        }
+        ReadForm::DeviceWeights { most, kernel } => {
+            AnyFile::DeviceWeights(DeviceWeightsFile::new(alloc, most, kernel))
+        }
+        ReadForm::DeviceTargets { kernel } => {
+            AnyFile::DeviceTargets(DeviceTargetsFile::new(alloc, kernel))
+        }
+        ReadForm::DeviceParams => AnyFile::DeviceParams(DeviceParamsFile::new(alloc)),
         ReadForm::Set { most } => AnyFile::Set(SetFile::new(alloc, most)),
         ReadForm::Partition => AnyFile::Partition(PartitionFile::new(alloc)),
         ReadForm::Pressure => AnyFile::Pressure(PressureFile::new()),
         ReadForm::Nested => AnyFile::Nested(NestedFile::new(alloc)),
+        ReadForm::NodeStats => AnyFile::NodeStats(NodeStatsFile::new(alloc)),
         ReadForm::Raw => AnyFile::Raw(RawFile::new(alloc)),
     }
 }
@@ -147,9 +169,11 @@ impl AnyFile {
         match self {
             AnyFile::Numbers(text) => text.take_line(line, b'\n'),
             AnyFile::Flat(text) => text.take_line(line, b'\n'),
+            AnyFile::FlatLimits(text) => text.take_line(line, b'\n'),
             AnyFile::DeviceStats(text) => text.take_line(line, b'\n'),
             AnyFile::DeviceLimits(text) => text.take_line(line, b'\n'),
             AnyFile::DeviceTargets(text) => text.take_line(line, b'\n'),
+            AnyFile::DeviceParams(text) => text.take_line(line, b'\n'),
             AnyFile::Nested(text) => text.take_line(line, b'\n'),
             _ => false,
         }
@@ -185,9 +209,11 @@ impl AnyFile {
             AnyFile::Raw(text) => text.take_front(bytes),
             AnyFile::Numbers(_)
             | AnyFile::Flat(_)
+            | AnyFile::FlatLimits(_)
             | AnyFile::DeviceStats(_)
             | AnyFile::DeviceLimits(_)
             | AnyFile::DeviceTargets(_)
+            | AnyFile::DeviceParams(_)
             | AnyFile::Nested(_) => self.take_ended(bytes),
             _ => 0,
         }

@@ -6,7 +6,7 @@ ghost use Rattle.cg_value.specs.declared.kind.ReadForm.TheVariants.{DeviceLimits
 ghost use Rattle.cg_value.specs.ReadLine.{IsLimitLine};
 
 use cg_join::{
-    DeviceText, LabelText, LimitText, Lines, MakeToken, MapValue, Mapped, Sequence, WholeLines,
+    DeviceNameText, LabelText, LimitText, Lines, MakeToken, MapValue, Mapped, Sequence, WholeLines,
     labelled, limit_in,
 };
 use cg_text::{Device, Items, Keyword, Limit, OutOfMemory, Token};
@@ -26,7 +26,7 @@ type FourLimitValues = (((), Limit), (((), Limit), (((), Limit), ((), Limit))));
 #[derive(Clone, Copy)]
 pub struct ToLimitLine;
 
-impl MapValue<Sequence<DeviceText, FourLimits>> for ToLimitLine {
+impl MapValue<Sequence<DeviceNameText, FourLimits>> for ToLimitLine {
     type To = LimitLine;
 
     ghost use Rattle.cg_join.specs.SettledLaws.{zero_least};
@@ -36,7 +36,7 @@ impl MapValue<Sequence<DeviceText, FourLimits>> for ToLimitLine {
 
     ghost value_size = { λ _. 0 };
 
-    fn map_value(value: (Device, FourLimitValues)) -> LimitLine {
+    fn map_value(value: (Option<Device>, FourLimitValues)) -> LimitLine {
         let (device, ((_, rbps), ((_, wbps), ((_, riops), (_, wiops))))) = value;
         LimitLine {
             device,
@@ -54,7 +54,7 @@ impl MapValue<Sequence<DeviceText, FourLimits>> for ToLimitLine {
     ghost adds_no_memory = { λ v. zero_least _ };
 }
 
-type LineParts = Mapped<Sequence<DeviceText, FourLimits>, ToLimitLine>;
+type LineParts = Mapped<Sequence<DeviceNameText, FourLimits>, ToLimitLine>;
 
 /// A line of a device, and ` rbps=`, ` wbps=`, ` riops=` and ` wiops=`, each with a limit.
 #[derive(Drop)]
@@ -63,9 +63,9 @@ pub struct LimitLineText {
 }
 
 impl LimitLineText {
-    /// A token of such lines.
-    pub(crate) fn new() -> LimitLineText
-        ensures spells { Spells ⟦<LimitLineText as Token>⟧.means result (λ text line. IsLimitLine line text) }
+    /// A token of such lines. Where `kernel`, the device may be gone.
+    pub(crate) fn new(kernel: bool) -> LimitLineText
+        ensures spells { Spells ⟦<LimitLineText as Token>⟧.means result (λ text line. IsLimitLine kernel line text) }
         ensures size { ⟦<LimitLineText as Token>⟧.size result ≡ 0 }
     {
         let wiops = labelled(Keyword::Wiops, limit_in(0, u64::MAX));
@@ -76,7 +76,7 @@ impl LimitLineText {
         let three = Sequence::new(wbps, two);
         let four = Sequence::new(rbps, three);
         LimitLineText {
-            parts: Mapped::new(Sequence::new(DeviceText::new(), four)),
+            parts: Mapped::new(Sequence::new(DeviceNameText::new(kernel), four)),
         }
     }
 }
@@ -137,24 +137,26 @@ impl Token for LimitLineText {
     }
 }
 
-/// Makes tokens of such lines.
+/// Makes tokens of such lines. Where `kernel`, a device may be gone.
 #[derive(Clone, Copy)]
-pub struct LimitStart;
+pub struct LimitStart {
+    kernel: bool,
+}
 
 impl MakeToken<LimitLineText> for LimitStart {
     ghost use Rattle.cg_file.specs.DeviceLineLaws.{limits_startable};
 
-    ghost texts = { λ _ text line. IsLimitLine line text };
+    ghost texts = { λ s text line. IsLimitLine s.kernel line text };
 
     fn start(&self) -> LimitLineText {
-        LimitLineText::new()
+        LimitLineText::new(self.kernel)
     }
 
-    ghost some_text = { λ _. limits_startable.some };
+    ghost some_text = { λ s. (limits_startable s.kernel).some };
 
-    ghost one_text = { λ _. limits_startable.one };
+    ghost one_text = { λ s. (limits_startable s.kernel).one };
 
-    ghost text_bytes = { λ _. limits_startable.bytes };
+    ghost text_bytes = { λ s. (limits_startable s.kernel).bytes };
 }
 
 /// A line, turned into the file's value.
@@ -191,14 +193,14 @@ pub struct DeviceLimitsFile {
 }
 
 impl DeviceLimitsFile {
-    /// A token of such files.
-    pub fn new(alloc: Global) -> DeviceLimitsFile
+    /// A token of such files. Where `kernel`, a device may be gone.
+    pub fn new(alloc: Global, kernel: bool) -> DeviceLimitsFile
         ensures spells { Spells ⟦<DeviceLimitsFile as Token>⟧.means result
-            (λ text v. KindText DeviceLimitsForm v text) }
+            (λ text v. KindText (DeviceLimitsForm kernel) v text) }
         ensures size { ⟦<DeviceLimitsFile as Token>⟧.size result ≡ 0 }
     {
         DeviceLimitsFile {
-            text: Mapped::new(Lines::new(alloc, LimitStart, b'\n')),
+            text: Mapped::new(Lines::new(alloc, LimitStart { kernel }, b'\n')),
         }
     }
 }

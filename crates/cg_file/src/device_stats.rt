@@ -9,33 +9,34 @@ ghost use Rattle.cg_file.specs.StatFileLaws.{AreStatPairs};
 use crate::pad::PadText;
 use cg_index::KeyedItems;
 use cg_join::{
-    AmountText, DeviceText, DistinctPairs, Lines, MakeToken, MapValue, Mapped, Pairing, Sequence,
-    WholeLines, WordStart, run_parts,
+    AmountText, DeviceNameText, DistinctPairs, Lines, MakeToken, MapValue, Mapped, Pairing,
+    Sequence, WholeLines, WordStart, run_parts,
 };
 use cg_text::{Amount, Device, Items, Key, OutOfMemory, Token};
 use cg_value::{StatLine, StatPair, Value};
 use std::alloc::Global;
 
-/// Makes tokens of amounts.
+/// Makes tokens of amounts, also of those below 0 where `kernel`.
 #[derive(Clone, Copy)]
-pub struct AmountStart;
+pub struct AmountStart {
+    kernel: bool,
+}
 
 impl MakeToken<AmountText> for AmountStart {
-    ghost use Rattle.std.specs.Prelude.{false};
     ghost use Rattle.cg_text.specs.Amount.{IsAmount};
     ghost use Rattle.cg_file.specs.StartableLaws.{amount_startable};
 
-    ghost texts = { λ _ text amount. IsAmount false amount text };
+    ghost texts = { λ s text amount. IsAmount s.kernel amount text };
 
     fn start(&self) -> AmountText {
-        AmountText::new(false)
+        AmountText::new(self.kernel)
     }
 
-    ghost some_text = { λ _. (amount_startable false).some };
+    ghost some_text = { λ s. (amount_startable s.kernel).some };
 
-    ghost one_text = { λ _. (amount_startable false).one };
+    ghost one_text = { λ s. (amount_startable s.kernel).one };
 
-    ghost text_bytes = { λ _. (amount_startable false).bytes };
+    ghost text_bytes = { λ s. (amount_startable s.kernel).bytes };
 }
 
 /// Makes a pair of a sub-key and its amount.
@@ -85,14 +86,14 @@ pub struct StatPairs {
 }
 
 impl StatPairs {
-    /// A token of such pairs.
-    pub(crate) fn new(alloc: Global) -> StatPairs
-        ensures spells { Spells ⟦<StatPairs as Token>⟧.means result AreStatPairs }
+    /// A token of such pairs, also of amounts below 0 where `kernel`.
+    pub(crate) fn new(alloc: Global, kernel: bool) -> StatPairs
+        ensures spells { Spells ⟦<StatPairs as Token>⟧.means result (AreStatPairs kernel) }
         ensures size { ⟦<StatPairs as Token>⟧.size result ≡ 0 }
     {
         let words = WordStart::new(alloc, false);
         StatPairs {
-            pairs: DistinctPairs::joined(alloc, words, AmountStart, b' ', b'='),
+            pairs: DistinctPairs::joined(alloc, words, AmountStart { kernel }, b' ', b'='),
         }
     }
 }
@@ -157,7 +158,7 @@ impl Token for StatPairs {
 #[derive(Clone, Copy)]
 pub struct ToStatLine;
 
-impl MapValue<Sequence<DeviceText, PadText<StatPairs>>> for ToStatLine {
+impl MapValue<Sequence<DeviceNameText, PadText<StatPairs>>> for ToStatLine {
     type To = StatLine;
 
     ghost use Rattle.cg_file.specs.StatFileLaws.{stat_line, stat_size, no_less};
@@ -166,7 +167,7 @@ impl MapValue<Sequence<DeviceText, PadText<StatPairs>>> for ToStatLine {
 
     ghost value_size = { stat_size };
 
-    fn map_value(value: (Device, (bool, KeyedItems<StatPair>))) -> StatLine {
+    fn map_value(value: (Option<Device>, (bool, KeyedItems<StatPair>))) -> StatLine {
         let (device, (pad, pairs)) = value;
         StatLine { device, pad, pairs }
     }
@@ -178,7 +179,7 @@ impl MapValue<Sequence<DeviceText, PadText<StatPairs>>> for ToStatLine {
     ghost adds_no_memory = { λ v. no_less (stat_size (stat_line v)) };
 }
 
-type LineParts = Mapped<Sequence<DeviceText, PadText<StatPairs>>, ToStatLine>;
+type LineParts = Mapped<Sequence<DeviceNameText, PadText<StatPairs>>, ToStatLine>;
 
 /// A line of a device, at most one space of its own, and pairs of a sub-key and an amount with a space before each, no
 /// sub-key twice. Also a device with no pairs is one.
@@ -188,14 +189,14 @@ pub struct StatLineText {
 }
 
 impl StatLineText {
-    /// A line of a device and its pairs.
-    pub(crate) fn new(alloc: Global) -> StatLineText
-        ensures spells { Spells ⟦<StatLineText as Token>⟧.means result (λ text line. IsStatLine line text) }
+    /// A line of a device and its pairs. Where `kernel`, the device may be gone, and an amount be below 0.
+    pub(crate) fn new(alloc: Global, kernel: bool) -> StatLineText
+        ensures spells { Spells ⟦<StatLineText as Token>⟧.means result (λ text line. IsStatLine kernel line text) }
         ensures size { ⟦<StatLineText as Token>⟧.size result ≡ 0 }
     {
-        let pairs = PadText::new(StatPairs::new(alloc), KeyedItems::new(alloc));
+        let pairs = PadText::new(StatPairs::new(alloc, kernel), KeyedItems::new(alloc));
         StatLineText {
-            parts: Mapped::new(Sequence::new(DeviceText::new(), pairs)),
+            parts: Mapped::new(Sequence::new(DeviceNameText::new(kernel), pairs)),
         }
     }
 }
@@ -258,33 +259,27 @@ impl Token for StatLineText {
     }
 }
 
-/// Makes tokens of such lines.
+/// Makes tokens of such lines. Where `kernel`, a device may be gone, and an amount be below 0.
 #[derive(Clone, Copy)]
 pub struct StatStart {
     alloc: Global,
-}
-
-impl StatStart {
-    /// Such lines, which take their memory from `alloc`.
-    pub fn new(alloc: Global) -> StatStart {
-        StatStart { alloc }
-    }
+    kernel: bool,
 }
 
 impl MakeToken<StatLineText> for StatStart {
     ghost use Rattle.cg_file.specs.StatFileLaws.{stat_startable};
 
-    ghost texts = { λ _ text line. IsStatLine line text };
+    ghost texts = { λ s text line. IsStatLine s.kernel line text };
 
     fn start(&self) -> StatLineText {
-        StatLineText::new(self.alloc)
+        StatLineText::new(self.alloc, self.kernel)
     }
 
-    ghost some_text = { λ _. stat_startable.some };
+    ghost some_text = { λ s. (stat_startable s.kernel).some };
 
-    ghost one_text = { λ _. stat_startable.one };
+    ghost one_text = { λ s. (stat_startable s.kernel).one };
 
-    ghost text_bytes = { λ _. stat_startable.bytes };
+    ghost text_bytes = { λ s. (stat_startable s.kernel).bytes };
 }
 
 /// A line, turned into the file's value.
@@ -321,13 +316,14 @@ pub struct DeviceStatsFile {
 }
 
 impl DeviceStatsFile {
-    /// A token of such files.
-    pub fn new(alloc: Global) -> DeviceStatsFile
-        ensures spells { Spells ⟦<DeviceStatsFile as Token>⟧.means result (λ text v. KindText DeviceStatsForm v text) }
+    /// A token of such files. Where `kernel`, a device may be gone, and an amount be below 0.
+    pub fn new(alloc: Global, kernel: bool) -> DeviceStatsFile
+        ensures spells { Spells ⟦<DeviceStatsFile as Token>⟧.means result
+            (λ text v. KindText (DeviceStatsForm kernel) v text) }
         ensures size { ⟦<DeviceStatsFile as Token>⟧.size result ≡ 0 }
     {
         DeviceStatsFile {
-            text: Mapped::new(Lines::new(alloc, StatStart::new(alloc), b'\n')),
+            text: Mapped::new(Lines::new(alloc, StatStart { alloc, kernel }, b'\n')),
         }
     }
 }

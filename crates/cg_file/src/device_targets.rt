@@ -6,8 +6,8 @@ ghost use Rattle.cg_value.specs.declared.kind.ReadForm.TheVariants.{DeviceTarget
 ghost use Rattle.cg_value.specs.ReadLine.{IsTargetLine};
 
 use cg_join::{
-    DeviceText, LabelText, Lines, MakeToken, MapValue, Mapped, Sequence, WholeLines, decimal_in,
-    labelled,
+    DeviceNameText, LabelText, Lines, MakeToken, MapValue, Mapped, Sequence, WholeLines,
+    decimal_in, labelled,
 };
 use cg_text::{DecimalText, Device, Items, Keyword, OutOfMemory, Token};
 use cg_value::{TargetLine, Value};
@@ -17,7 +17,7 @@ use std::alloc::Global;
 #[derive(Clone, Copy)]
 pub struct ToTargetLine;
 
-impl MapValue<Sequence<DeviceText, LabelText<DecimalText>>> for ToTargetLine {
+impl MapValue<Sequence<DeviceNameText, LabelText<DecimalText>>> for ToTargetLine {
     type To = TargetLine;
 
     ghost use Rattle.cg_join.specs.SettledLaws.{zero_least};
@@ -27,7 +27,7 @@ impl MapValue<Sequence<DeviceText, LabelText<DecimalText>>> for ToTargetLine {
 
     ghost value_size = { λ _. 0 };
 
-    fn map_value(value: (Device, ((), u64))) -> TargetLine {
+    fn map_value(value: (Option<Device>, ((), u64))) -> TargetLine {
         TargetLine {
             device: value.0,
             target: value.1.1,
@@ -41,7 +41,7 @@ impl MapValue<Sequence<DeviceText, LabelText<DecimalText>>> for ToTargetLine {
     ghost adds_no_memory = { λ v. zero_least _ };
 }
 
-type LineParts = Mapped<Sequence<DeviceText, LabelText<DecimalText>>, ToTargetLine>;
+type LineParts = Mapped<Sequence<DeviceNameText, LabelText<DecimalText>>, ToTargetLine>;
 
 /// A line of a device, ` target=` and a number.
 #[derive(Drop)]
@@ -50,14 +50,14 @@ pub struct TargetLineText {
 }
 
 impl TargetLineText {
-    /// A token of such lines.
-    pub(crate) fn new() -> TargetLineText
-        ensures spells { Spells ⟦<TargetLineText as Token>⟧.means result (λ text line. IsTargetLine line text) }
+    /// A token of such lines. Where `kernel`, the device may be gone.
+    pub(crate) fn new(kernel: bool) -> TargetLineText
+        ensures spells { Spells ⟦<TargetLineText as Token>⟧.means result (λ text line. IsTargetLine kernel line text) }
         ensures size { ⟦<TargetLineText as Token>⟧.size result ≡ 0 }
     {
         let target = labelled(Keyword::Target, decimal_in(0, u64::MAX));
         TargetLineText {
-            parts: Mapped::new(Sequence::new(DeviceText::new(), target)),
+            parts: Mapped::new(Sequence::new(DeviceNameText::new(kernel), target)),
         }
     }
 }
@@ -118,24 +118,26 @@ impl Token for TargetLineText {
     }
 }
 
-/// Makes tokens of such lines.
+/// Makes tokens of such lines. Where `kernel`, a device may be gone.
 #[derive(Clone, Copy)]
-pub struct TargetStart;
+pub struct TargetStart {
+    kernel: bool,
+}
 
 impl MakeToken<TargetLineText> for TargetStart {
     ghost use Rattle.cg_file.specs.DeviceLineLaws.{target_startable};
 
-    ghost texts = { λ _ text line. IsTargetLine line text };
+    ghost texts = { λ s text line. IsTargetLine s.kernel line text };
 
     fn start(&self) -> TargetLineText {
-        TargetLineText::new()
+        TargetLineText::new(self.kernel)
     }
 
-    ghost some_text = { λ _. target_startable.some };
+    ghost some_text = { λ s. (target_startable s.kernel).some };
 
-    ghost one_text = { λ _. target_startable.one };
+    ghost one_text = { λ s. (target_startable s.kernel).one };
 
-    ghost text_bytes = { λ _. target_startable.bytes };
+    ghost text_bytes = { λ s. (target_startable s.kernel).bytes };
 }
 
 /// A line, turned into the file's value.
@@ -172,14 +174,14 @@ pub struct DeviceTargetsFile {
 }
 
 impl DeviceTargetsFile {
-    /// A token of such files.
-    pub fn new(alloc: Global) -> DeviceTargetsFile
+    /// A token of such files. Where `kernel`, a device may be gone.
+    pub fn new(alloc: Global, kernel: bool) -> DeviceTargetsFile
         ensures spells { Spells ⟦<DeviceTargetsFile as Token>⟧.means result
-            (λ text v. KindText DeviceTargetsForm v text) }
+            (λ text v. KindText (DeviceTargetsForm kernel) v text) }
         ensures size { ⟦<DeviceTargetsFile as Token>⟧.size result ≡ 0 }
     {
         DeviceTargetsFile {
-            text: Mapped::new(Lines::new(alloc, TargetStart, b'\n')),
+            text: Mapped::new(Lines::new(alloc, TargetStart { kernel }, b'\n')),
         }
     }
 }

@@ -6,7 +6,7 @@ ghost use Rattle.cg_value.specs.declared.kind.ReadForm.TheVariants.{DeviceWeight
 ghost use Rattle.cg_value.specs.ReadLine.{IsWeightLine};
 
 use cg_join::{
-    DeviceText, LabelText, Lines, MakeToken, MapValue, Mapped, Sequence, Spaced, decimal_in,
+    DeviceNameText, LabelText, Lines, MakeToken, MapValue, Mapped, Sequence, Spaced, decimal_in,
     labelled, spaced,
 };
 use cg_text::{ByteText, DecimalText, Device, Items, Keyword, OutOfMemory, Token};
@@ -17,7 +17,7 @@ use std::alloc::Global;
 #[derive(Clone, Copy)]
 pub struct ToWeightLine;
 
-impl MapValue<Sequence<DeviceText, Spaced<DecimalText>>> for ToWeightLine {
+impl MapValue<Sequence<DeviceNameText, Spaced<DecimalText>>> for ToWeightLine {
     type To = WeightLine;
 
     ghost use Rattle.cg_join.specs.SettledLaws.{zero_least};
@@ -27,7 +27,7 @@ impl MapValue<Sequence<DeviceText, Spaced<DecimalText>>> for ToWeightLine {
 
     ghost value_size = { λ _. 0 };
 
-    fn map_value(value: (Device, ((), u64))) -> WeightLine {
+    fn map_value(value: (Option<Device>, ((), u64))) -> WeightLine {
         WeightLine {
             device: value.0,
             weight: value.1.1,
@@ -41,7 +41,7 @@ impl MapValue<Sequence<DeviceText, Spaced<DecimalText>>> for ToWeightLine {
     ghost adds_no_memory = { λ v. zero_least _ };
 }
 
-type LineParts = Mapped<Sequence<DeviceText, Spaced<DecimalText>>, ToWeightLine>;
+type LineParts = Mapped<Sequence<DeviceNameText, Spaced<DecimalText>>, ToWeightLine>;
 
 /// A line of a device, a space and a weight.
 #[derive(Drop)]
@@ -50,15 +50,16 @@ pub struct WeightLineText {
 }
 
 impl WeightLineText {
-    /// A token of such lines, with weights from 1 to `most`.
-    pub(crate) fn new(most: u64) -> WeightLineText
+    /// A token of such lines, with weights from 1 to `most`. Where `kernel`, the device may be gone.
+    pub(crate) fn new(most: u64, kernel: bool) -> WeightLineText
         requires { 1 ≤ most }
-        ensures spells { Spells ⟦<WeightLineText as Token>⟧.means result (λ text line. IsWeightLine most line text) }
+        ensures spells { Spells ⟦<WeightLineText as Token>⟧.means result
+            (λ text line. IsWeightLine most kernel line text) }
         ensures size { ⟦<WeightLineText as Token>⟧.size result ≡ 0 }
     {
         let weight = spaced(decimal_in(1, most));
         WeightLineText {
-            parts: Mapped::new(Sequence::new(DeviceText::new(), weight)),
+            parts: Mapped::new(Sequence::new(DeviceNameText::new(kernel), weight)),
         }
     }
 }
@@ -119,27 +120,28 @@ impl Token for WeightLineText {
     }
 }
 
-/// Makes tokens of such lines, with weights from 1 to `most`.
+/// Makes tokens of such lines, with weights from 1 to `most`. Where `kernel`, a device may be gone.
 #[derive(Clone, Copy)]
 pub struct WeightStart {
     most: u64,
+    kernel: bool,
     ghost range: { 1 ≤ most },
 }
 
 impl MakeToken<WeightLineText> for WeightStart {
     ghost use Rattle.cg_file.specs.DeviceLineLaws.{weight_startable};
 
-    ghost texts = { λ s text line. IsWeightLine s.most line text };
+    ghost texts = { λ s text line. IsWeightLine s.most s.kernel line text };
 
     fn start(&self) -> WeightLineText {
-        WeightLineText::new(self.most)
+        WeightLineText::new(self.most, self.kernel)
     }
 
-    ghost some_text = { λ s. (weight_startable s.most s.range).some };
+    ghost some_text = { λ s. (weight_startable s.most s.kernel s.range).some };
 
-    ghost one_text = { λ s. (weight_startable s.most s.range).one };
+    ghost one_text = { λ s. (weight_startable s.most s.kernel s.range).one };
 
-    ghost text_bytes = { λ s. (weight_startable s.most s.range).bytes };
+    ghost text_bytes = { λ s. (weight_startable s.most s.kernel s.range).bytes };
 }
 
 /// The default weight and a newline.
@@ -182,17 +184,17 @@ pub struct DeviceWeightsFile {
 }
 
 impl DeviceWeightsFile {
-    /// A token of such files, with weights from 1 to `most`.
-    pub fn new(alloc: Global, most: u64) -> DeviceWeightsFile
+    /// A token of such files, with weights from 1 to `most`. Where `kernel`, a device may be gone.
+    pub fn new(alloc: Global, most: u64, kernel: bool) -> DeviceWeightsFile
         requires { 1 ≤ most }
         ensures spells { Spells ⟦<DeviceWeightsFile as Token>⟧.means result
-            (λ text v. KindText (DeviceWeightsForm most) v text) }
+            (λ text v. KindText (DeviceWeightsForm most kernel) v text) }
         ensures size { ⟦<DeviceWeightsFile as Token>⟧.size result ≡ 0 }
     {
         let default = spaced(decimal_in(1, most));
         let first = labelled(Keyword::Default, default);
         let line = Sequence::new(first, ByteText::new(b'\n'));
-        let lines = Lines::new(alloc, WeightStart { most }, b'\n');
+        let lines = Lines::new(alloc, WeightStart { most, kernel }, b'\n');
         DeviceWeightsFile {
             text: Mapped::new(Sequence::new(line, lines)),
         }

@@ -5,6 +5,7 @@ ghost use Rattle.cg_value.specs.Kind.{IsReadForm};
 
 use crate::any_file::AnyFile;
 use crate::clamp::ClampFile;
+use crate::class::ClassFile;
 use crate::cpu_max::CpuMaxFile;
 use crate::limit::LimitFile;
 use crate::mode::ModeFile;
@@ -33,6 +34,7 @@ fn value_in_front(alloc: Global, form: ReadForm, bytes: &[u8]) -> Option<(Value,
         ReadForm::Number { lo, hi } => NumberFile::new(lo, hi).whole(bytes),
         ReadForm::Limit => LimitFile::new().whole(bytes),
         ReadForm::Mode => ModeFile::new().whole(bytes),
+        ReadForm::Class => ClassFile::new().whole(bytes),
         ReadForm::CpuMax => CpuMaxFile::new().whole(bytes),
         ReadForm::Clamp => ClampFile::new().whole(bytes),
         ReadForm::Words if begins_empty(bytes) => Some((Value::Words(KeyedItems::new(alloc)), 1)),

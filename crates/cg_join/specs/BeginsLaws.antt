@@ -9,6 +9,7 @@ use Rattle.cg_text.specs.declared.decimal.Progress.TheVariants.{Start}
 use Rattle.cg_text.specs.declared.hundredths.Spelling.TheVariants.{Read}
 use Rattle.cg_join.specs.FilledLaws.{fixed_filled, first_filled}
 use Rattle.cg_join.specs.Maybe.{IsMaybe}
+use Rattle.cg_join.specs.Pairs.{AreLed, ArePairs}
 use Rattle.cg_join.specs.Repeat.{AreJoined}
 use Rattle.cg_join.specs.Distinct.{AreDistinctJoined}
 use Rattle.cg_join.specs.Spelling.{IsConcat, IsEither, IsMappedText}
@@ -122,3 +123,11 @@ module _ {V : Type 0} {F : ℕ → Type 0} {R : List ℕ → V → Type 0} where
 
   pub distinct_begins : (separator : ℕ) → Filled R → BeginsBy F R → BeginsBy F (AreDistinctJoined R separator)
   distinct_begins separator some f = record { is = λ byte back vs h. joined_at separator some f byte back vs h.0 }
+
+-- Pairs with a separator before each begin with it.
+pub pairs_begin : {V X : Type 0} (word : X → V) (R : List ℕ → X → Type 0) (separator : ℕ) → BeginsBy (λ c. c ≡ separator) (ArePairs word R separator)
+pairs_begin {X = X} word R separator = record { is = λ byte back ps h. at_pairs byte back ps h.0 }
+  where
+    at_pairs : (byte : ℕ) (back : List ℕ) (ps : List X) → AreLed R separator (byte ∷ back) ps → byte ≡ separator
+    at_pairs byte back [] h = absurd (cc)
+    at_pairs byte back (p ∷ ps) h = let e = h.1 in cc

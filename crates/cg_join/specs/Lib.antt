@@ -8,6 +8,8 @@ pub mod ChoiceLaws
 pub mod ChoiceRunLaws
 pub mod ClampLaws
 pub mod ClampState
+pub mod ClassLaws
+pub mod ClassState
 pub mod CompositeLaws
 pub mod Composites
 pub mod CutLaws

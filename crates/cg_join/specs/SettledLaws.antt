@@ -8,6 +8,9 @@ use Rattle.cg_join.specs.Join.{IsSequence}
 use Rattle.cg_join.specs.KeyedState.{AreKeyedAfter, is_begun, is_delimited, kept_keys}
 use Rattle.cg_join.specs.Lines.{AreLinesFrom, AreLinesAfter}
 use Rattle.cg_join.specs.Maybe.{MaybeRest, maybe_size}
+use Rattle.cg_join.specs.Pairs.{AreLedFrom, ArePairsAfter, PairRest, pair_size}
+use Rattle.cg_join.specs.PairsState.{IsCompleted, IsLastWord, WordAtHand, before_last, last_size, whole_pairs}
+use Rattle.cg_join.specs.PairsStateLaws.{completed_size}
 use Rattle.cg_join.specs.Ready.{OrReadyRest}
 use Rattle.cg_join.specs.Repeat.{IsList, IsListAfter, items_size}
 use Rattle.cg_join.specs.SequenceLaws.{nil_pair}
@@ -149,3 +152,34 @@ keyed_settled key given items P R end InValue kept f g m k v none new_key new_va
 -- Of a value that is turned into another.
 pub mapped_text_settled : {V W : Type 0} (mapped : V → W) (n : ℕ) (f : V → ℕ) (g : W → ℕ) (v : V) (w : W) → mapped v ≡ w → n ≤ f v → f v ≤ g (mapped v) → n ≤ g w
 mapped_text_settled mapped n f g v w e h k = rw (← e) (least_most n (f v) (g (mapped v)) h k)
+
+-- Of pairs, of which neither the word at hand holds anything where no word is taken, nor a value.
+led_over : {X : Type 0} (P R : List ℕ → X → Type 0) (separator : ℕ) (ps : List X) → AreLedFrom P R separator [] ps → ps ≡ []
+led_over P R separator [] h = refl
+led_over P R separator (p ∷ ps) h = absurd (let e = h.1 in cc)
+
+no_last : {X : Type 0} (ps : List X) → last_size (λ _. 0) ps ≡ 0
+no_last [] = refl
+no_last (p ∷ []) = refl
+no_last (p ∷ q ∷ ps) = no_last (q ∷ ps)
+
+none_more : (m n k p : ℕ) → n ≡ 0 → k ≡ 0 → m ≤ p → m + (n + k) ≤ p
+none_more m n k p e f h = omega (arith, e, f, h)
+
+pub pairs_settled : {V W X : Type 0} (word : X → V) (value : X → W) (K : List ℕ → V → Type 0) (D : List ℕ → W → Type 0) (R : List ℕ → X → Type 0) (delimiter separator : ℕ) (items : List X)
+    (stage : Stage) (f : V → ℕ) (n m : ℕ) → ((stage ≡ InWord → ⊥) → n ≡ 0) → m ≡ 0 → (all : List X) →
+    ArePairsAfter word stage (whole_pairs stage items) (PairRest word value (WordAtHand word stage items K) D stage delimiter) R separator [] all →
+    items_size (pair_size word value f (λ _. 0)) items + (n + m) ≤ items_size (pair_size word value f (λ _. 0)) all
+pairs_settled word value K D R delimiter separator items Before f n m new none all h =
+    let over = led_over (PairRest word value K D Before delimiter) R separator h.0.0 h.0.2 in
+    let same : all ≡ items = h.0.1 ∙ ap (λ t. items ++ t) over ∙ append-nil items in
+    let size = items_size (pair_size word value f (λ _. 0)) items in
+    rw same (none_more size n m size (new (λ e. (cc))) none (same_settled size size refl))
+pairs_settled word value K D R delimiter separator items InWord f n m new none all h =
+    let last = last_alone (PairRest word value K D InWord delimiter) R separator h.0.0 h.0.2 in
+    absurd (not_after delimiter last.2.front last.2.back last.2.whole)
+pairs_settled word value K D R delimiter separator items InValue f n m new none all h =
+    let last = last_alone (PairRest word value (λ rest v. IsLastWord word items v) D InValue delimiter) R separator h.0.0 h.0.2 in
+    let done : IsCompleted word value items (value last.0) all = record { pair = last.0; items = h.0.1 ∙ ap (λ t. before_last items ++ t) last.1; has_word = last.2.0; has_value = refl } in
+    let size = completed_size word value f (λ _. 0) items all (value last.0) done (no_last items) in
+    none_more (items_size (pair_size word value f (λ _. 0)) items) n m (items_size (pair_size word value f (λ _. 0)) all) (new (λ e. (cc))) none (omega (arith, size))

@@ -58,6 +58,7 @@ pub struct DistinctPairs<V: Token, B: MakeToken<V>, F: Pairing<V>> {
     ghost small_delimiter: { delimiter < 256 },
     ghost begun: { stage ≡ InValue → 0 < length items.items },
     ghost awaits: { stage ≡ InValue → last_size (λ p. V.value_size (F.value_of p)) items.items ≡ 0 },
+    ghost new_word: { (stage ≡ InWord → ⊥) → ⟦<WordText as Token>⟧.size word ≡ 0 },
     ghost distinct: { AreDistinct (map F.word_of items.items) } by { AreDistinct_prop (map F.word_of items.items) },
 }
 

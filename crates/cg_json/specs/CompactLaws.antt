@@ -20,14 +20,16 @@ use Rattle.cg_value.specs.Entry.{EntryData}
 use Rattle.cg_value.specs.ReadLine.{role_text}
 use Rattle.cg_value.specs.declared.value.Averages.{Averages}
 use Rattle.cg_value.specs.declared.value.LimitLine.{LimitLine}
+use Rattle.cg_value.specs.declared.value.NestedPair.{NestedPair}
+use Rattle.cg_value.specs.declared.value.ParamLine.{ParamLine}
 use Rattle.cg_value.specs.declared.value.Role.{Role}
 use Rattle.cg_value.specs.declared.value.StatLine.{StatLine}
 use Rattle.cg_value.specs.declared.value.TargetLine.{TargetLine}
 use Rattle.cg_value.specs.declared.value.WeightLine.{WeightLine}
 use Rattle.cg_json.specs.Compact.{led, joined, member_text, listed, ArePlain, IsPlainByte}
 use Rattle.cg_json.specs.Entry.{left_out_line, line_of}
-use Rattle.cg_json.specs.Json.{array_of, keyed, given_data, number_data, signed_data, text_data, limit_data, amount_data, device_data}
-use Rattle.cg_json.specs.Json.{cpu_max_data, stat_data, limits_data, weight_data, weights_data, target_data, partition_data, averages_data, pressure_data}
+use Rattle.cg_json.specs.Json.{array_of, keyed, given_data, number_data, signed_data, text_data, limit_data, amount_data, device_data, param_data}
+use Rattle.cg_json.specs.Json.{cpu_max_data, stat_data, limits_data, weight_data, weights_data, target_data, partition_data, averages_data, pressure_data, node_stats_data, params_data}
 use Rattle.cg_json.specs.Value.{kind_word, value_data}
 
 -- ---- Parts one after another
@@ -100,18 +102,18 @@ unfolding serde_json_on_literals
 cpu_max_text quota period = refl
 
 pub stat_text : (l : StatLine)
-    → compact_text (stat_data l) ≡ codes "{\"device\":" ++ (compact_text (device_data l.device) ++ (codes ",\"stats\":" ++ (compact_text (keyed (λ p. p.key) (λ p. amount_data p.amount) l.pairs) ++ 125 ∷ [])))
+    → compact_text (stat_data l) ≡ codes "{\"device\":" ++ (compact_text (given_data device_data l.device) ++ (codes ",\"stats\":" ++ (compact_text (keyed (λ p. p.key) (λ p. amount_data p.amount) l.pairs) ++ 125 ∷ [])))
 unfolding serde_json_on_literals
 stat_text l = refl
 
 pub limits_text : (l : LimitLine)
-    → compact_text (limits_data l) ≡ codes "{\"device\":" ++ (compact_text (device_data l.device) ++ (codes ",\"rbps\":" ++ (compact_text (limit_data l.rbps)
+    → compact_text (limits_data l) ≡ codes "{\"device\":" ++ (compact_text (given_data device_data l.device) ++ (codes ",\"rbps\":" ++ (compact_text (limit_data l.rbps)
     ++ (codes ",\"riops\":" ++ (compact_text (limit_data l.riops) ++ (codes ",\"wbps\":" ++ (compact_text (limit_data l.wbps)
     ++ (codes ",\"wiops\":" ++ (compact_text (limit_data l.wiops) ++ 125 ∷ [])))))))))
 unfolding serde_json_on_literals
 limits_text l = refl
 
-pub weight_text : (l : WeightLine) → compact_text (weight_data l) ≡ codes "{\"device\":" ++ (compact_text (device_data l.device) ++ (codes ",\"weight\":" ++ (decimal l.weight ++ 125 ∷ [])))
+pub weight_text : (l : WeightLine) → compact_text (weight_data l) ≡ codes "{\"device\":" ++ (compact_text (given_data device_data l.device) ++ (codes ",\"weight\":" ++ (decimal l.weight ++ 125 ∷ [])))
 unfolding serde_json_on_literals
 weight_text l = refl
 
@@ -120,9 +122,14 @@ pub weights_text : (default : ℕ) (ls : List WeightLine)
 unfolding serde_json_on_literals
 weights_text default ls = refl
 
-pub target_text : (l : TargetLine) → compact_text (target_data l) ≡ codes "{\"device\":" ++ (compact_text (device_data l.device) ++ (codes ",\"target\":" ++ (decimal l.target ++ 125 ∷ [])))
+pub target_text : (l : TargetLine) → compact_text (target_data l) ≡ codes "{\"device\":" ++ (compact_text (given_data device_data l.device) ++ (codes ",\"target\":" ++ (decimal l.target ++ 125 ∷ [])))
 unfolding serde_json_on_literals
 target_text l = refl
+
+pub params_text : (l : ParamLine)
+    → compact_text (params_data l) ≡ codes "{\"device\":" ++ (compact_text (given_data device_data l.device) ++ (codes ",\"params\":" ++ (compact_text (keyed (λ p. p.key) (λ p. param_data p.value) l.params) ++ 125 ∷ [])))
+unfolding serde_json_on_literals
+params_text l = refl
 
 pub averages_text : (a : Averages)
     → compact_text (averages_data a) ≡ codes "{\"avg10\":" ++ (decimal a.avg10.count ++ (codes ",\"avg300\":" ++ (decimal a.avg300.count
@@ -148,6 +155,11 @@ valid_text role valid reason e = rw e (partition_text role true reason)
 pub invalid_text : (role : Role) (valid : Bool) (reason : Option (List ℕ)) → valid ≡ false
     → compact_text (partition_data role valid reason) ≡ codes "{\"reason\":" ++ (compact_text (given_data text_data reason) ++ (codes ",\"role\":" ++ (compact_text (string (role_text role)) ++ codes ",\"valid\":false}")))
 invalid_text role valid reason e = rw e (partition_text role false reason)
+
+pub node_stats_text : (total : ℕ) (nodes : List NestedPair)
+    → compact_text (node_stats_data total nodes) ≡ codes "{\"nodes\":" ++ (compact_text (keyed (λ p. p.key) (λ p. number_data p.number) nodes) ++ (codes ",\"total\":" ++ (decimal total ++ 125 ∷ [])))
+unfolding serde_json_on_literals
+node_stats_text total nodes = refl
 
 pub entry_text : (e : EntryData)
     → line_of e ≡ codes "{\"kind\":" ++ (compact_text (string (kind_word e.value)) ++ (codes ",\"path\":" ++ (compact_text (text_data e.path) ++ (codes ",\"value\":" ++ (compact_text (value_data e.value) ++ 125 ∷ 10 ∷ [])))))

@@ -11,6 +11,8 @@ use Rattle.cg_text.specs.declared.values.Clamp.{Clamp}
 use Rattle.cg_text.specs.declared.values.Clamp.TheVariants as clamp
 use Rattle.cg_text.specs.declared.values.Device.{Device}
 use Rattle.cg_text.specs.declared.values.Hundredths.{Hundredths}
+use Rattle.cg_text.specs.declared.values.ParamValue.{ParamValue}
+use Rattle.cg_text.specs.declared.values.ParamValue.TheVariants as param
 use Rattle.cg_text.specs.declared.values.Limit.{Limit}
 use Rattle.cg_text.specs.declared.values.Limit.TheVariants as limit
 use Rattle.cg_value.specs.Print.{print_device}
@@ -18,8 +20,10 @@ use Rattle.cg_value.specs.ReadLine.{role_text}
 use Rattle.cg_value.specs.declared.value.Averages.{Averages}
 use Rattle.cg_value.specs.declared.value.LimitLine.{LimitLine}
 use Rattle.cg_value.specs.declared.value.NestedLine.{NestedLine}
+use Rattle.cg_value.specs.declared.value.NestedPair.{NestedPair}
 use Rattle.cg_value.specs.declared.value.Role.{Role}
 use Rattle.cg_value.specs.declared.value.StatLine.{StatLine}
+use Rattle.cg_value.specs.declared.value.ParamLine.{ParamLine}
 use Rattle.cg_value.specs.declared.value.TargetLine.{TargetLine}
 use Rattle.cg_value.specs.declared.value.WeightLine.{WeightLine}
 
@@ -75,6 +79,12 @@ amount_data amount.Max = string (codes "max")
 amount_data (amount.Below n) = signed_data (below_zero n)
 
 -- Major and minor, as 8:0.
+-- A number, an object with its hundredths, or the name.
+abbrev pub param_data : ParamValue → Data
+param_data (param.Whole n) = number_data n
+param_data (param.Decimal h) = amount_data (amount.Decimal h)
+param_data (param.Name name) = string name
+
 abbrev pub device_data : Device → Data
 device_data d = string (print_device d)
 
@@ -88,20 +98,23 @@ cpu_max_data quota period = fields ((codes "period", number_data period) ∷ (co
 
 -- The pad isn't shown.
 abbrev pub stat_data : StatLine → Data
-stat_data l = fields ((codes "device", device_data l.device) ∷ (codes "stats", keyed (λ p. p.key) (λ p. amount_data p.amount) l.pairs) ∷ [])
+stat_data l = fields ((codes "device", given_data device_data l.device) ∷ (codes "stats", keyed (λ p. p.key) (λ p. amount_data p.amount) l.pairs) ∷ [])
 
 abbrev pub limits_data : LimitLine → Data
-limits_data l = fields ((codes "device", device_data l.device) ∷ (codes "rbps", limit_data l.rbps) ∷ (codes "riops", limit_data l.riops)
+limits_data l = fields ((codes "device", given_data device_data l.device) ∷ (codes "rbps", limit_data l.rbps) ∷ (codes "riops", limit_data l.riops)
     ∷ (codes "wbps", limit_data l.wbps) ∷ (codes "wiops", limit_data l.wiops) ∷ [])
 
 abbrev pub weight_data : WeightLine → Data
-weight_data l = fields ((codes "device", device_data l.device) ∷ (codes "weight", number_data l.weight) ∷ [])
+weight_data l = fields ((codes "device", given_data device_data l.device) ∷ (codes "weight", number_data l.weight) ∷ [])
 
 abbrev pub weights_data : ℕ → List WeightLine → Data
 weights_data default ls = fields ((codes "default", number_data default) ∷ (codes "devices", array_of weight_data ls) ∷ [])
 
 abbrev pub target_data : TargetLine → Data
-target_data l = fields ((codes "device", device_data l.device) ∷ (codes "target", number_data l.target) ∷ [])
+target_data l = fields ((codes "device", given_data device_data l.device) ∷ (codes "target", number_data l.target) ∷ [])
+
+abbrev pub params_data : ParamLine → Data
+params_data l = fields ((codes "device", given_data device_data l.device) ∷ (codes "params", keyed (λ p. p.key) (λ p. param_data p.value) l.params) ∷ [])
 
 abbrev pub partition_data : Role → Bool → Option (List ℕ) → Data
 partition_data role valid reason = fields ((codes "reason", given_data text_data reason) ∷ (codes "role", string (role_text role)) ∷ (codes "valid", boolean valid) ∷ [])
@@ -115,3 +128,6 @@ pressure_data some full = fields ((codes "full", given_data averages_data full) 
 
 abbrev pub nested_data : NestedLine → Data
 nested_data l = keyed (λ p. p.key) (λ p. number_data p.number) l.pairs
+
+abbrev pub node_stats_data : ℕ → List NestedPair → Data
+node_stats_data total nodes = fields ((codes "nodes", keyed (λ p. p.key) (λ p. number_data p.number) nodes) ∷ (codes "total", number_data total) ∷ [])

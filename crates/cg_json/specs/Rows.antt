@@ -31,7 +31,7 @@ abbrev pub stat_pair : List ℕ → Amount → StatPair
 stat_pair key a = record { key = key; amount = a }
 
 abbrev pub stat_line : ℕ → Bool → List StatPair → StatLine
-stat_line major pad pairs = record { device = block major 0; pad = pad; pairs = pairs }
+stat_line major pad pairs = record { device = Some (block major 0); pad = pad; pairs = pairs }
 
 abbrev pub nested_pair : List ℕ → ℕ → NestedPair
 nested_pair key number = record { key = key; number = number }
@@ -92,7 +92,7 @@ abbrev pub limits_in_byte_order_line : List ℕ
 limits_in_byte_order_line = codes "{\"kind\":\"device_limits\",\"path\":\"io.max\",\"value\":[{\"device\":\"8:16\",\"rbps\":1,\"riops\":3,\"wbps\":\"max\",\"wiops\":4}]}\n"
 
 abbrev pub LimitsInByteOrder : Type 0
-LimitsInByteOrder = IsWritten (codes "io.max") (value.DeviceLimits (record { device = block 8 16; rbps = limit.At 1; wbps = limit.Max; riops = limit.At 3; wiops = limit.At 4 } ∷ [])) limits_in_byte_order_line
+LimitsInByteOrder = IsWritten (codes "io.max") (value.DeviceLimits (record { device = Some (block 8 16); rbps = limit.At 1; wbps = limit.Max; riops = limit.At 3; wiops = limit.At 4 } ∷ [])) limits_in_byte_order_line
 
 abbrev pub why_invalid_line : List ℕ
 why_invalid_line = codes "{\"kind\":\"partition\",\"path\":\"cpuset.cpus.partition\",\"value\":{\"reason\":\"a) b\",\"role\":\"root\",\"valid\":false}}\n"

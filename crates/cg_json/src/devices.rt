@@ -2,12 +2,12 @@
 ghost use Rattle.std.specs.Prelude.{◌≡◌, ◌++◌, IfOk, OnOk};
 ghost use Rattle.serde_json.specs.View.{view};
 ghost use Rattle.serde_json.specs.Written.{compact_text};
-ghost use Rattle.cg_json.specs.Json.{stat_data, limits_data, weight_data, target_data, weights_data};
+ghost use Rattle.cg_json.specs.Json.{stat_data, limits_data, weight_data, target_data, params_data, weights_data};
 
 use crate::compact::{append_array, append_byte, append_bytes, append_labelled};
 use crate::json::{Json, array};
 use cg_text::OutOfMemory;
-use cg_value::{LimitLine, StatLine, TargetLine, WeightLine};
+use cg_value::{LimitLine, ParamLine, StatLine, TargetLine, WeightLine};
 use serde_json::{Map, Value};
 use std::alloc::Global;
 
@@ -85,6 +85,24 @@ impl Json for TargetLine {
     fn append_to(&self, out: &mut Vec<u8>) -> Result<(), OutOfMemory> {
         append_labelled(out, b"{\"device\":", &self.device)?;
         append_labelled(out, b",\"target\":", &self.target)?;
+        append_byte(out, b'}')
+    }
+}
+
+/// The device and the object of its parameters.
+impl Json for ParamLine {
+    ghost tree_of = { params_data };
+
+    fn json(&self, alloc: Global) -> Result<Value, OutOfMemory> {
+        let mut map = Map::new(alloc);
+        serde_json::put(&mut map, alloc, "device", self.device.json(alloc)?)?;
+        serde_json::put(&mut map, alloc, "params", self.params.json(alloc)?)?;
+        Ok(Value::Object(map))
+    }
+
+    fn append_to(&self, out: &mut Vec<u8>) -> Result<(), OutOfMemory> {
+        append_labelled(out, b"{\"device\":", &self.device)?;
+        append_labelled(out, b",\"params\":", &self.params)?;
         append_byte(out, b'}')
     }
 }

@@ -7,8 +7,8 @@ use crate::text::append_string;
 use cg_text::{Items, OutOfMemory};
 
 /// Adds the line of what is left out of a snapshot, by why: an object of the place of the byte at fault, the kind
-/// `left_out`, the path, which is null where there is none, and the reason; and a newline. `OutOfMemory` where no memory
-/// is left.
+/// `left_out`, the path, which is null where there is none, and the reason; and a newline. `OutOfMemory` where no
+/// memory is left.
 pub fn append_left_out(
     out: &mut Vec<u8>,
     at: u64,

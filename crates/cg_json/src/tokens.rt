@@ -1,12 +1,14 @@
 //! Numbers, words and devices.
+ghost use Rattle.std.specs.Prelude.{◌≡◌};
 ghost use Rattle.serde_json.specs.Data.{string};
+ghost use Rattle.cg_text.specs.Class.{class_text};
 ghost use Rattle.cg_value.specs.ReadLine.{mode_text, role_text};
-ghost use Rattle.cg_json.specs.Json.{number_data, signed_data, limit_data, hundredths_data, clamp_data, below_zero, amount_data, device_data, given_data};
+ghost use Rattle.cg_json.specs.Json.{number_data, signed_data, limit_data, hundredths_data, clamp_data, below_zero, amount_data, param_data, device_data, given_data};
 
 use crate::compact::{append_byte, append_bytes, append_labelled};
 use crate::json::Json;
 use crate::text::{append_string, string};
-use cg_text::{Amount, Clamp, Device, Hundredths, Limit, OutOfMemory};
+use cg_text::{Amount, Clamp, Device, Hundredths, IoClass, Limit, OutOfMemory, ParamValue};
 use cg_value::{GroupMode, Role};
 use itoa::Buffer;
 use serde_json::{Map, Value};
@@ -155,6 +157,27 @@ impl Json for Amount {
     }
 }
 
+/// A parameter: a number, an object with its hundredths, or its name.
+impl Json for ParamValue {
+    ghost tree_of = { param_data };
+
+    fn json(&self, alloc: Global) -> Result<Value, OutOfMemory> {
+        match self {
+            ParamValue::Whole(number) => number.json(alloc),
+            ParamValue::Decimal(number) => Amount::Decimal(*number).json(alloc),
+            ParamValue::Name(name) => name.json(alloc),
+        }
+    }
+
+    fn append_to(&self, out: &mut Vec<u8>) -> Result<(), OutOfMemory> {
+        match self {
+            ParamValue::Whole(number) => number.append_to(out),
+            ParamValue::Decimal(number) => Amount::Decimal(*number).append_to(out),
+            ParamValue::Name(name) => name.append_to(out),
+        }
+    }
+}
+
 /// A device, as `"8:0"`.
 impl Json for Device {
     ghost tree_of = { device_data };
@@ -192,6 +215,18 @@ impl Json for GroupMode {
             GroupMode::DomainInvalid => append_string(out, "domain invalid"),
             GroupMode::Threaded => append_string(out, "threaded"),
         }
+    }
+}
+
+impl Json for IoClass {
+    ghost tree_of = { λ class. string (class_text class) };
+
+    fn json(&self, alloc: Global) -> Result<Value, OutOfMemory> {
+        string(alloc, self.word())
+    }
+
+    fn append_to(&self, out: &mut Vec<u8>) -> Result<(), OutOfMemory> {
+        append_string(out, self.word())
     }
 }
 

@@ -2,16 +2,17 @@
 ghost use Rattle.std.specs.Prelude.{◌≡◌, ◌++◌, ◌∷◌, [], IfOk, OnOk, decimal, map, codes};
 ghost use Rattle.cg_value.specs.Kind.{IsReadForm};
 ghost use Rattle.cg_value.specs.Files.{Fits, KindText};
-ghost use Rattle.cg_value.specs.Print.{print_limit, print_default_line, print_weight_line, print_partition, print_pressure_line, print_lines, print_of};
+ghost use Rattle.cg_value.specs.Print.{print_limit, print_default_line, print_weight_line, print_partition, print_pressure_line, print_node_stats, print_lines, print_of};
 ghost use Rattle.cg_value.specs.declared.kind.ReadForm.{ReadForm};
 ghost use Rattle.cg_print.specs.Headed.{headed};
 
 use crate::canonical::{
     Canonical, append_bytes, append_keyed_lines, append_labelled, append_line, append_lines,
-    append_newline,
+    append_newline, append_spaced,
 };
+use cg_index::KeyedItems;
 use cg_text::{Items, Limit, OutOfMemory};
-use cg_value::{Averages, RawLines, Role, Value, WeightLine};
+use cg_value::{Averages, NestedPair, RawLines, Role, Value, WeightLine};
 use std::alloc::Global;
 
 /// The canonical text of a value: the text of the file that holds it, which is whole lines, each with its newline. It
@@ -39,11 +40,13 @@ pub(crate) fn append_value(
         Value::Signed(number) => append_line(text, head, number),
         Value::Limit(limit) => append_line(text, head, limit),
         Value::Mode(mode) => append_line(text, head, mode),
+        Value::Class(class) => append_line(text, head, class),
         Value::CpuMax { quota, period } => append_cpu_max(text, head, *quota, *period),
         Value::Clamp(clamp) => append_line(text, head, clamp),
         Value::Numbers(numbers) => append_lines(text, head, numbers.as_slice()),
         Value::Words(words) => append_line(text, head, words),
         Value::Flat(flat) => append_lines(text, head, flat.pairs()),
+        Value::FlatLimits(pairs) => append_keyed_lines(text, head, pairs),
         Value::DeviceStats(lines) => append_lines(text, head, lines.as_slice()),
         Value::DeviceLimits(lines) => append_lines(text, head, lines.as_slice()),
         Value::DeviceWeights { default, lines } => append_weights(
@@ -53,6 +56,7 @@ pub(crate) fn append_value(
             lines.as_slice(),
         ),
         Value::DeviceTargets(lines) => append_lines(text, head, lines.as_slice()),
+        Value::DeviceParams(lines) => append_lines(text, head, lines.as_slice()),
         Value::Set(set) => append_line(text, head, set),
         Value::Partition {
             role,
@@ -61,6 +65,7 @@ pub(crate) fn append_value(
         } => append_partition(text, head, *role, *valid, reason),
         Value::Pressure { some, full } => append_pressure(text, head, *some, *full),
         Value::Nested(lines) => append_keyed_lines(text, head, lines),
+        Value::NodeStats { total, nodes } => append_node_stats(text, head, *total, nodes),
         Value::Raw(lines) => append_raw_lines(text, head, lines),
     }
 }
@@ -151,6 +156,22 @@ fn append_pressure_line(
         }
         None => Ok(()),
     }
+}
+
+/// Adds the line of a total and its pairs, as `total=4096 N0=4096 N1=0`.
+fn append_node_stats(
+    text: &mut Vec<u8>,
+    head: &[u8],
+    total: u64,
+    nodes: &KeyedItems<NestedPair>,
+) -> Result<(), OutOfMemory>
+    ensures { OnOk result (text.new.items ≡ text.old.items
+        ++ headed head.now (print_node_stats total nodes.now ∷ [])) }
+{
+    append_bytes(text, head)?;
+    append_labelled(text, b"total=", &total)?;
+    append_spaced(text, nodes)?;
+    append_newline(text)
 }
 
 /// Adds lines of bytes, each after the head.

@@ -1,11 +1,11 @@
 //! The canonical texts of lines.
-ghost use Rattle.cg_value.specs.Print.{print_flat_line, print_stat_pair, print_stat_line, print_limit_line, print_weight_line, print_target_line, print_averages, print_nested_pair, print_nested_line};
+ghost use Rattle.cg_value.specs.Print.{print_flat_limit, print_flat_line, print_stat_pair, print_stat_line, print_limit_line, print_weight_line, print_target_line, print_param_pair, print_param_line, print_averages, print_nested_pair, print_nested_line};
 
 use crate::canonical::{Canonical, append_bytes, append_labelled, append_spaced};
 use cg_text::OutOfMemory;
 use cg_value::{
-    Averages, FlatPair, LimitLine, NestedLine, NestedPair, StatLine, StatPair, TargetLine,
-    WeightLine,
+    Averages, FlatLimit, FlatPair, LimitLine, NestedLine, NestedPair, ParamLine, ParamPair,
+    StatLine, StatPair, TargetLine, WeightLine,
 };
 
 /// A line, as `anon 4096`.
@@ -15,6 +15,16 @@ impl Canonical for FlatPair {
     fn append_to(&self, out: &mut Vec<u8>) -> Result<(), OutOfMemory> {
         self.key.append_to(out)?;
         append_labelled(out, b" ", &self.number)
+    }
+}
+
+/// A line, as `sev max`.
+impl Canonical for FlatLimit {
+    ghost printed = { print_flat_limit };
+
+    fn append_to(&self, out: &mut Vec<u8>) -> Result<(), OutOfMemory> {
+        self.key.append_to(out)?;
+        append_labelled(out, b" ", &self.limit)
     }
 }
 
@@ -71,6 +81,26 @@ impl Canonical for TargetLine {
     fn append_to(&self, out: &mut Vec<u8>) -> Result<(), OutOfMemory> {
         self.device.append_to(out)?;
         append_labelled(out, b" target=", &self.target)
+    }
+}
+
+/// A pair, as `ctrl=user`.
+impl Canonical for ParamPair {
+    ghost printed = { print_param_pair };
+
+    fn append_to(&self, out: &mut Vec<u8>) -> Result<(), OutOfMemory> {
+        self.key.append_to(out)?;
+        append_labelled(out, b"=", &self.value)
+    }
+}
+
+/// A line, as `8:0 ctrl=user max=150.00`.
+impl Canonical for ParamLine {
+    ghost printed = { print_param_line };
+
+    fn append_to(&self, out: &mut Vec<u8>) -> Result<(), OutOfMemory> {
+        self.device.append_to(out)?;
+        append_spaced(out, &self.params)
     }
 }
 

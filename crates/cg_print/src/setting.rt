@@ -58,6 +58,7 @@ pub(crate) fn append_setting(text: &mut Vec<u8>, setting: &Setting) -> Result<()
         }
         Setting::Set(set) => set.append_to(text),
         Setting::Role(role) => role.append_to(text),
+        Setting::Class(class) => class.append_to(text),
         Setting::Trigger {
             full,
             stall,

@@ -1,13 +1,17 @@
 //! The canonical texts of tokens.
 ghost use Rattle.std.specs.Prelude.{◌∷◌, decimal};
 ghost use Rattle.std.specs.Fmt.{signed_decimal};
-ghost use Rattle.cg_value.specs.Print.{print_limit, print_hundredths, print_clamp, print_amount, print_device, print_range, print_set};
+ghost use Rattle.cg_value.specs.Print.{print_limit, print_hundredths, print_clamp, print_amount, print_device, print_device_name, print_range, print_set, print_param};
+ghost use Rattle.cg_text.specs.Class.{class_text};
 ghost use Rattle.cg_value.specs.ReadLine.{mode_text, role_text, words_line};
 ghost use Rattle.cg_value.specs.WriteLine.{sign_of, toggles_line};
 
 use crate::canonical::{Canonical, append_bytes, append_joined};
 use cg_index::KeyedItems;
-use cg_text::{Amount, Clamp, Device, Hundredths, Items, Key, Limit, NumberSet, OutOfMemory};
+use cg_text::{
+    Amount, Clamp, Device, Hundredths, IoClass, Items, Key, Limit, NumberSet, OutOfMemory,
+    ParamValue,
+};
 use cg_value::{GroupMode, Role, Toggle};
 use itoa::Buffer;
 
@@ -97,6 +101,31 @@ impl Canonical for Device {
     }
 }
 
+/// A device, or `(unknown)` for one that is gone.
+impl Canonical for Option<Device> {
+    ghost printed = { print_device_name };
+
+    fn append_to(&self, out: &mut Vec<u8>) -> Result<(), OutOfMemory> {
+        match self {
+            Some(device) => device.append_to(out),
+            None => append_bytes(out, b"(unknown)"),
+        }
+    }
+}
+
+/// A parameter, as `75000`, `95.00` or `user`.
+impl Canonical for ParamValue {
+    ghost printed = { print_param };
+
+    fn append_to(&self, out: &mut Vec<u8>) -> Result<(), OutOfMemory> {
+        match self {
+            ParamValue::Whole(number) => number.append_to(out),
+            ParamValue::Decimal(hundredths) => hundredths.append_to(out),
+            ParamValue::Name(name) => name.append_to(out),
+        }
+    }
+}
+
 /// A range, as `3` or `3-5`.
 impl Canonical for (u32, u32) {
     ghost printed = { print_range };
@@ -157,6 +186,14 @@ impl Canonical for GroupMode {
             GroupMode::DomainInvalid => append_bytes(out, b"domain invalid"),
             GroupMode::Threaded => append_bytes(out, b"threaded"),
         }
+    }
+}
+
+impl Canonical for IoClass {
+    ghost printed = { class_text };
+
+    fn append_to(&self, out: &mut Vec<u8>) -> Result<(), OutOfMemory> {
+        append_bytes(out, self.word().as_bytes())
     }
 }
 

@@ -1,7 +1,7 @@
 //! Texts of single tokens.
 use crate::escape::bytes_of;
 use crate::row::RowFault;
-use cg_join::{AmountText, ClampText, DeviceText, LimitText, device_name, param};
+use cg_join::{AmountText, ClampText, DeviceNameText, DeviceText, LimitText, ParamText};
 use cg_text::{
     DecimalText, FixedText, HundredthsText, LooseListText, NumberSet, OutOfMemory, ParamValue,
     SignedText, SizeText, Spelling, StrictListText, Token, WordText,
@@ -59,7 +59,7 @@ fn said_word(alloc: Global, controller: bool, text: &[u8]) -> Result<String, Row
 
 /// A parameter, as a row spells it.
 fn said_param(alloc: Global, text: &[u8]) -> Result<String, RowFault> {
-    match spelled(param(alloc), text)? {
+    match spelled(ParamText::new(alloc), text)? {
         Some(ParamValue::Name(name)) => Ok(format!(in alloc; "Name({:?})", name.bytes())?),
         Some(number) => Ok(format!(in alloc; "{number:?}")?),
         None => Ok(String::from_str(alloc, NONE)?),
@@ -82,8 +82,8 @@ fn said_number(alloc: Global, name: &str, text: &[u8]) -> Option<Result<String, 
         "limit" => said_within(alloc, LimitText::new(1000, u64::MAX), text),
         "size" => said(alloc, SizeText::new(), text),
         "device" => said(alloc, DeviceText::new(), text),
-        "device_name" => said(alloc, device_name(true), text),
-        "known_device_name" => said(alloc, device_name(false), text),
+        "device_name" => said(alloc, DeviceNameText::new(true), text),
+        "known_device_name" => said(alloc, DeviceNameText::new(false), text),
         _ => return None,
     })
 }

@@ -1,8 +1,8 @@
 -- What is right for a run that checks a snapshot.
-use Rattle.std.proofs.Common.{◌≡◌, ℕ, Bool, true, false, List, [], ◌∷◌, ◌++◌, length, map, Option, None, append-nil, append_assoc, inl, inr, refl, sym, ap, subst, ◌∙◌, take, drop, ◌+◌, ◌<◌, take-append-drop, get_or}
+use Rattle.std.proofs.Common.{◌≡◌, ℕ, Bool, true, false, List, [], ◌∷◌, ◌++◌, length, map, Option, append-nil, append_assoc, inl, inr, refl, sym, ap, subst, ◌∙◌, take, drop, ◌+◌, ◌<◌, take-append-drop, get_or}
 use Rattle.std.specs.Prelude.{nat_eq, if◌then◌else◌}
 use Rattle.std.proofs.lemmas.List.{map_more, map-append}
-use Rattle.std.specs.Io.KnownBytes.{Appends, IsAtEnd}
+use Rattle.std.specs.Io.KnownBytes.{IsAtEnd}
 use Rattle.cg_value.specs.Entry.{EntryData}
 use Rattle.cg_snap.specs.declared.stop.Stop.{Stop}
 use Rattle.cg_tree.specs.Find.{find}
@@ -14,10 +14,10 @@ use Rattle.cg_run.specs.Check.{IsCheckRight, control_text, finding_line, finding
 use Rattle.cg_run.specs.Checked.{AreAllLines, AreLinesRight, HasWrittenLines, IsKept}
 use Rattle.cg_run.specs.Explain.{Tells}
 use Rattle.cg_run.specs.Input.{Reading}
-use Rattle.cg_run.specs.Outcome.{checked, gone_on, last_line}
+use Rattle.cg_run.specs.Outcome.{checked, last_line}
 use Rattle.cg_run.specs.Run.{Wrote, joined}
 use Rattle.cg_run.specs.Stream.{IsStreamDone, IsStreamRight}
-use Rattle.cg_run.specs.Streaming.{EndsSo, HasWritten}
+use Rattle.cg_run.specs.Streaming.{EndsSo}
 use Rattle.cg_run.specs.declared.kept.Kept.{Kept}
 use Rattle.cg_run.specs.declared.outcome.Outcome.{Outcome}
 use Rattle.cg_run.specs.declared.outcome.Outcome.TheVariants as out
@@ -85,26 +85,6 @@ all_so before lines left_out false nothing e = (refl, e)
 
 pub all_lines : (before lines : List (List ℕ)) (left_out : ℕ) → AreLinesRight before lines left_out (checked (length lines) left_out) (before ++ lines)
 all_lines before lines left_out = all_so before lines left_out (nat_eq (length lines) 0) (nat_eq left_out 0) refl
-
--- All lines were written.
-wrote_so : (ps : List (List ℕ)) (n left_out : ℕ) (none nothing : Bool) (first now : Option (List ℕ)) (failed : Bool) → Appends first now (joined ps) →
-    Wrote first now failed (joined ps ++ last_line (if none then (if nothing then out.Done else out.LeftOut left_out) else out.Findings n))
-    (if none then (if nothing then out.Done else out.LeftOut left_out) else out.Findings n) (if none then (if nothing then out.Done else out.LeftOut left_out) else out.Findings n)
-wrote_so ps n left_out true true first now failed a = (refl, subst (Appends first now) (sym (append-nil (joined ps))) a)
-wrote_so ps n left_out true false first now failed a = (refl, subst (Appends first now) (sym (append-nil (joined ps))) a)
-wrote_so ps n left_out false nothing first now failed a = (refl, subst (Appends first now) (sym (append-nil (joined ps))) a)
-
-pub all_written : (before lines : List (List ℕ)) (left_out n : ℕ) (first now : Option (List ℕ)) (failed : Bool) (written : ℕ) (o : Outcome) → n ≡ length lines → o ≡ checked n left_out →
-    HasWritten first now (before ++ lines) written → HasWrittenLines before lines left_out first now failed o
-all_written before lines left_out n first now failed written o e f h =
-    let m = length lines in
-    record {
-      wanted = checked m left_out;
-      parts = before ++ lines;
-      right = all_lines before lines left_out;
-      wrote = subst (λ (x : Outcome). Wrote first now failed (joined (before ++ lines) ++ last_line (checked m left_out)) (checked m left_out) x) (sym (f ∙ ap (λ (k : ℕ). checked k left_out) e))
-          (wrote_so (before ++ lines) m left_out (nat_eq m 0) (nat_eq left_out 0) first now failed h.0);
-    }
 
 -- ---- The end of the input
 

@@ -26,18 +26,18 @@ use Rattle.cg_run.proofs.Showing.{closed_end, entries_append}
 use Rattle.cg_run.proofs.SnapEnds.{entries_push}
 use Rattle.cg_run.proofs.Streams.{text_all, text_on}
 
-some_push : (es : List EntryData) (e : EntryData) → es ++ e ∷ [] ≢ []
+pub some_push : (es : List EntryData) (e : EntryData) → es ++ e ∷ [] ≢ []
 some_push [] e = λ z. cc
 some_push (f ∷ es) e = λ z. cc
 
-plain_push : (es : List EntryData) (e : EntryData) → ArePlain es → AllByRecursion (Lacks 0) (print_lines e.value) → ArePlain (es ++ e ∷ [])
+pub plain_push : (es : List EntryData) (e : EntryData) → ArePlain es → AllByRecursion (Lacks 0) (print_lines e.value) → ArePlain (es ++ e ∷ [])
 plain_push [] e h last = (last, tt)
 plain_push (f ∷ es) e h last = (h.0, plain_push es e h.1 last)
 
 module _ (profile : Profile) (limits : Limits) (p : List ℕ) (es : List EntryData) (piece : List ℕ) where
   more_plain : (closed : ℕ) (more : List EntryData) → CloseMore profile limits p es piece closed more → ArePlain more
   more_plain closed more (inl none) = subst ArePlain (sym none.1) tt
-  more_plain closed more (inr some) = some.1.plain
+  more_plain closed more (inr some) = some.1.followed.plain
 
   -- Nothing was consumed.
   pub decoded_none : (d : SnapshotDecoder) → HasTaken d profile limits p es → HasDecoded d profile limits p es piece 0 0
@@ -82,10 +82,7 @@ module _ (profile : Profile) (limits : Limits) (p : List ℕ) (es : List EntryDa
               unstopped = taken_unstopped now profile limits (p ++ take (at + n) piece) (es ++ (h.more ++ e ∷ [])) taken;
               closed = taken_closed now profile limits (p ++ take (at + n) piece) (es ++ (h.more ++ e ∷ [])) taken;
               some = some_push h.more e;
-              plain = plain_push h.more e (more_plain closed h.more h.close) end.plain;
-              next = end.next;
-              good = end.good;
-              split = split;
+              followed = record { plain = plain_push h.more e (more_plain closed h.more h.close) end.plain; next = end.next; good = end.good; split = split };
             },
           );
           taken = taken;

@@ -1,5 +1,5 @@
 -- Why bytes are no text, from how they were taken.
-use Rattle.std.proofs.Common.{◌≡◌, ◌↔◌, ◌<◌, ◌≤◌, ◌+◌, ℕ, List, true, inl, inr, Some, None, Option, Result, Ok, Err, length, take, refl, sym, subst, length-take, arith}
+use Rattle.std.proofs.Common.{◌≡◌, ◌↔◌, ◌<◌, ◌≤◌, ◌+◌, ℕ, List, true, inl, inr, None, Option, Result, Ok, Err, length, take, refl, sym, subst, length-take, arith}
 use Rattle.std.proofs.lemmas.List.{take-take}
 use Rattle.cg_text.specs.Texts.{FirstBad, Viable}
 use Rattle.cg_text.specs.declared.memory.OutOfMemory.{OutOfMemory}

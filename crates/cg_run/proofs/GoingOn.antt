@@ -1,8 +1,8 @@
 -- What a reader of a snapshot tells that is gone on with.
 use Rattle.std.specs.Prelude.{MatchOption, Ok, OnOk, Result, is_some}
-use Rattle.std.proofs.Common.{◌≡◌, ◌≢◌, ℕ, suc, ◌+◌, ◌-◌, ◌<◌, ◌≤◌, Bool, List, [], ◌∷◌, ◌++◌, Option, Some, None, Err, true, false, not, length, take, get_or, inl, inr, refl, sym, ap, subst, ◌∙◌, append-nil, append_assoc, arith}
+use Rattle.std.proofs.Common.{◌≡◌, ◌≢◌, ℕ, ◌+◌, ◌-◌, ◌<◌, ◌≤◌, Bool, List, [], ◌∷◌, ◌++◌, Option, Some, None, Err, true, false, not, length, take, get_or, inl, inr, refl, sym, ap, subst, ◌∙◌, append-nil, append_assoc, arith}
 use Rattle.std.proofs.lemmas.Grind.{flat_map-append}
-use Rattle.std.proofs.lemmas.List.{length-append, take_all, take_more}
+use Rattle.std.proofs.lemmas.List.{length-append, take_more}
 use Rattle.std.specs.Bool.{MatchBool}
 use Rattle.std.specs.List.{AllByRecursion, flat_map}
 use Rattle.cg_text.specs.Token.{saturated}
@@ -50,7 +50,7 @@ use Rattle.cg_run.proofs.Keeping.{given_starved, unstopped_front}
 
 -- ---- How many blocks were left out
 
-how_many_both : (told more : List Told) → how_many (told ++ more) ≡ how_many told + how_many more
+pub how_many_both : (told more : List Told) → how_many (told ++ more) ≡ how_many told + how_many more
 how_many_both [] more = omega arith
 how_many_both (inl e ∷ told) more = how_many_both told more
 how_many_both (inr out ∷ told) more = let both = how_many_both told more in omega (arith, both)
@@ -112,11 +112,11 @@ some_text ps text e some none = absurd (omega (arith, some, ap length (e ∙ ap 
 
 -- ---- What is told, and the lines that explain it
 
-told_both : (ts us : List Telling) → told_of (ts ++ us) ≡ told_of ts ++ told_of us
+pub told_both : (ts us : List Telling) → told_of (ts ++ us) ≡ told_of ts ++ told_of us
 told_both [] us = refl
 told_both (t ∷ ts) us = ap (λ (x : List Told). t.told ∷ x) (told_both ts us)
 
-all_both : {X : Type 0} (P : X → Type 0) (xs ys : List X) → AllByRecursion P xs → AllByRecursion P ys → AllByRecursion P (xs ++ ys)
+pub all_both : {X : Type 0} (P : X → Type 0) (xs ys : List X) → AllByRecursion P xs → AllByRecursion P ys → AllByRecursion P (xs ++ ys)
 all_both P [] ys p q = q
 all_both P (x ∷ xs) ys p q = (p.0, all_both P xs ys p.1 q)
 
@@ -221,19 +221,6 @@ module _ (profile : Profile) (limits : Limits) where
 
   -- ---- The line of what is left out
 
-  pub none_explained : (bytes : List ℕ) (o : Option LeftOut) → ExplainsOut false profile limits bytes o []
-  none_explained bytes None = refl
-  none_explained bytes (Some out) = refl
-
-  pub limit_explained : (explain : Bool) (bytes : List ℕ) (out : LeftOut) → ((why : Why) → out.cause ≡ causes.Refused why → ⊥) → ExplainsOut explain profile limits bytes (Some out) []
-  limit_explained false bytes out n = refl
-  limit_explained true bytes out n = by out.cause refl
-    where
-      by : (cause : Cause) → out.cause ≡ cause → ExplainsCause profile limits bytes out cause []
-      by (causes.Refused why) e = absurd (n why e)
-      by causes.TooLong e = refl
-      by causes.TooMany e = refl
-
   module _ (q : List ℕ) (c : ℕ) (out : LeftOut) (fault : Fault) (f : IsFaultAt profile limits q c (Some out) (Some fault)) where
     pub fault_length : out.at ≡ length (f.2.front ++ f.1)
     fault_length = f.2.at ∙ sym (length-append f.2.front (f.1))
@@ -284,9 +271,9 @@ module _ {T : Type 0} (part : Told → List (List ℕ)) (Keeps : T → List Told
     )
 
     -- Nothing more was found.
-    pub found_none : (s now : GoingOnReader T) (h : HasGoneOn part Keeps s form explain p parts) → HasTakenOn now.decoder form (p ++ take used piece) h.found → used ≡ length piece → now.left_out ≡ s.left_out → now.teller ≡ s.teller → AreBehind now.lines (p ++ piece) → is_some now.lines ≡ is_some s.lines →
+    pub found_none : (s now : GoingOnReader T) (h : HasGoneOn part Keeps s form explain p parts) → HasTakenOn now.decoder form (p ++ take used piece) h.found → now.left_out ≡ s.left_out → now.teller ≡ s.teller → AreBehind now.lines (p ++ take used piece) → is_some now.lines ≡ is_some s.lines →
         HasGoneOn part Keeps now form explain (p ++ take used piece) parts
-    found_none s now h taken all same teller lines counted = record {
+    found_none s now h taken same teller lines counted = record {
       found = h.found;
       taken = taken;
       tellings = h.tellings;
@@ -295,7 +282,7 @@ module _ {T : Type 0} (part : Told → List (List ℕ)) (Keeps : T → List Told
       parts_are = h.parts_are;
       counts = same ∙ h.counts;
       keeps = subst (λ (t : T). Keeps t (told_by h.found)) (sym teller) h.keeps;
-      lines = subst (λ (t : List ℕ). AreBehind now.lines (p ++ t)) (sym (take_all used piece (omega (arith, all)))) lines;
+      lines = lines;
       explain_is = counted ∙ h.explain_is;
     }
 

@@ -16,7 +16,7 @@ longest_name Two = omega arith
 longest_name Kernel = omega arith
 
 -- No profile has more rows than these.
-pub few_rows : (profile : Profile) → length (rows profile) ≤ 78
+pub few_rows : (profile : Profile) → length (rows profile) ≤ 86
 few_rows One = omega arith
 few_rows Two = omega arith
 few_rows Kernel = omega arith

@@ -1,5 +1,5 @@
 -- What a reader of one file may let go of, and what its bytes are then.
-use Rattle.std.proofs.Common.{◌≡◌, ◌↔◌, ◌⊎◌, ◌+◌, ◌≤◌, ◌<◌, ℕ, true, false, List, [], ◌∷◌, ◌++◌, length, take, drop, Option, Some, None, inl, inr, refl, sym, ◌∙◌, ap, ap₂, subst, arith, append_assoc, append-nil, length-append, length-take}
+use Rattle.std.proofs.Common.{◌≡◌, ◌↔◌, ◌⊎◌, ◌+◌, ◌≤◌, ◌<◌, ℕ, Bool, true, false, List, [], ◌∷◌, ◌++◌, length, take, drop, Option, Some, None, inl, inr, refl, sym, ◌∙◌, ap, ap₂, subst, arith, append_assoc, append-nil, length-append, length-take}
 use Rattle.std.proofs.lemmas.List.{drop_all, drop_at, drop-append-le, take_all}
 use Rattle.std.specs.List.{AllZip}
 use Rattle.cg_text.specs.Texts.{Lacks, Viable, Next}
@@ -8,7 +8,7 @@ use Rattle.cg_value.specs.Files.{ReadLines, KindFile}
 use Rattle.cg_value.specs.LineLaws.{plain_lines}
 use Rattle.cg_value.specs.Lines.{unlines, AreLinesOf}
 use Rattle.cg_text.specs.Decimal.{IsDecimal}
-use Rattle.cg_value.specs.ReadLine.{IsLimitLine, IsRaw, IsStatLine, IsTargetLine}
+use Rattle.cg_value.specs.ReadLine.{IsLimitLine, IsParamLine, IsRaw, IsStatLine, IsTargetLine}
 use Rattle.cg_value.specs.declared.kind.ReadForm.{ReadForm}
 use Rattle.cg_value.specs.declared.kind.ReadForm.TheVariants as form
 use Rattle.cg_value.specs.declared.value.Value.{Value}
@@ -65,14 +65,17 @@ many_alone {X} P make kind is = record { let_go = λ text whole. record { same =
 pub numbers_alone : (lo hi : ℕ) → HasLinesAlone (form.Numbers lo hi)
 numbers_alone lo hi = many_alone (IsDecimal lo hi) value.Numbers (form.Numbers lo hi) (λ v lines. (λ h. h, λ h. h))
 
-pub stats_alone : HasLinesAlone form.DeviceStats
-stats_alone = many_alone IsStatLine value.DeviceStats form.DeviceStats (λ v lines. (λ h. h, λ h. h))
+pub stats_alone : (kernel : Bool) → HasLinesAlone (form.DeviceStats kernel)
+stats_alone kernel = many_alone (IsStatLine kernel) value.DeviceStats (form.DeviceStats kernel) (λ v lines. (λ h. h, λ h. h))
 
-pub limits_alone : HasLinesAlone form.DeviceLimits
-limits_alone = many_alone IsLimitLine value.DeviceLimits form.DeviceLimits (λ v lines. (λ h. h, λ h. h))
+pub limits_alone : (kernel : Bool) → HasLinesAlone (form.DeviceLimits kernel)
+limits_alone kernel = many_alone (IsLimitLine kernel) value.DeviceLimits (form.DeviceLimits kernel) (λ v lines. (λ h. h, λ h. h))
 
-pub targets_alone : HasLinesAlone form.DeviceTargets
-targets_alone = many_alone IsTargetLine value.DeviceTargets form.DeviceTargets (λ v lines. (λ h. h, λ h. h))
+pub targets_alone : (kernel : Bool) → HasLinesAlone (form.DeviceTargets kernel)
+targets_alone kernel = many_alone (IsTargetLine kernel) value.DeviceTargets (form.DeviceTargets kernel) (λ v lines. (λ h. h, λ h. h))
+
+pub params_alone : HasLinesAlone form.DeviceParams
+params_alone = many_alone IsParamLine value.DeviceParams form.DeviceParams (λ v lines. (λ h. h, λ h. h))
 
 pub raw_alone : HasLinesAlone form.Raw
 raw_alone = many_alone IsRaw value.Raw form.Raw (λ v lines. (λ h. h, λ h. h))
@@ -80,21 +83,23 @@ raw_alone = many_alone IsRaw value.Raw form.Raw (λ v lines. (λ h. h, λ h. h))
 -- Each of these kinds has lines alone.
 pub kinds_alone : (kind : ReadForm) → lines_alone kind ≡ true → HasLinesAlone kind
 kinds_alone (form.Numbers lo hi) alone = numbers_alone lo hi
-kinds_alone form.DeviceStats alone = stats_alone
-kinds_alone form.DeviceLimits alone = limits_alone
-kinds_alone form.DeviceTargets alone = targets_alone
+kinds_alone (form.DeviceStats kernel) alone = stats_alone kernel
+kinds_alone (form.DeviceLimits kernel) alone = limits_alone kernel
+kinds_alone (form.DeviceTargets kernel) alone = targets_alone kernel
+kinds_alone form.DeviceParams alone = params_alone
 kinds_alone form.Raw alone = raw_alone
 kinds_alone _ alone = absurd (cc)
 
 -- No other kind is among them.
-pub others_depend : (kind : ReadForm) → ((lo hi : ℕ) → kind ≡ form.Numbers lo hi → ⊥) → (kind ≡ form.DeviceStats → ⊥) → (kind ≡ form.DeviceLimits → ⊥) →
-    (kind ≡ form.DeviceTargets → ⊥) → (kind ≡ form.Raw → ⊥) → lines_alone kind ≡ false
-others_depend (form.Numbers lo hi) numbers stats limits targets raw = absurd (numbers lo hi refl)
-others_depend form.DeviceStats numbers stats limits targets raw = absurd (stats refl)
-others_depend form.DeviceLimits numbers stats limits targets raw = absurd (limits refl)
-others_depend form.DeviceTargets numbers stats limits targets raw = absurd (targets refl)
-others_depend form.Raw numbers stats limits targets raw = absurd (raw refl)
-others_depend _ numbers stats limits targets raw = refl
+pub others_depend : (kind : ReadForm) → ((lo hi : ℕ) → kind ≡ form.Numbers lo hi → ⊥) → ((kernel : Bool) → kind ≡ form.DeviceStats kernel → ⊥) → ((kernel : Bool) → kind ≡ form.DeviceLimits kernel → ⊥) →
+    ((kernel : Bool) → kind ≡ form.DeviceTargets kernel → ⊥) → (kind ≡ form.DeviceParams → ⊥) → (kind ≡ form.Raw → ⊥) → lines_alone kind ≡ false
+others_depend (form.Numbers lo hi) numbers stats limits targets params raw = absurd (numbers lo hi refl)
+others_depend (form.DeviceStats kernel) numbers stats limits targets params raw = absurd (stats kernel refl)
+others_depend (form.DeviceLimits kernel) numbers stats limits targets params raw = absurd (limits kernel refl)
+others_depend (form.DeviceTargets kernel) numbers stats limits targets params raw = absurd (targets kernel refl)
+others_depend form.DeviceParams numbers stats limits targets params raw = absurd (params refl)
+others_depend form.Raw numbers stats limits targets params raw = absurd (raw refl)
+others_depend _ numbers stats limits targets params raw = refl
 
 -- ---- What was let go of
 

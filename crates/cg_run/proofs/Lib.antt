@@ -3,6 +3,7 @@ pub mod Checking
 pub mod Commands
 pub mod Decoding
 pub mod Entered
+pub mod EntryRuns
 pub mod FileText
 pub mod Finds
 pub mod Flags

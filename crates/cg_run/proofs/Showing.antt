@@ -27,7 +27,7 @@ use Rattle.cg_run.proofs.Keeping.{unstopped_front}
 use Rattle.cg_run.proofs.ShowsBytes.{plain_shown, records_shown, shown-append, shown_end}
 use Rattle.cg_run.proofs.SnapEnds.{IsEntryEnd, entries_push, entry_end, last_lines, lines_lack_nul}
 use Rattle.cg_snap.specs.Begun.{IsRecordEnd}
-use Rattle.cg_run.specs.Decoded.{ArePlain, CloseMore, HaveClosed}
+use Rattle.cg_run.specs.Decoded.{AreFollowed, ArePlain, CloseMore}
 use Rattle.cg_run.specs.Run.{joined}
 
 -- ---- Entries
@@ -68,7 +68,7 @@ module _ (was : List ℕ) (p : List ℕ) (es : List EntryData) (b : IsShownBehin
     shows = s ∙ text_more;
   }
 
-  module _ (now : List ℕ) (profile : Profile) (limits : Limits) (more : List EntryData) (end : HaveClosed profile limits (p ++ q) es more) (lines : List ℕ)
+  module _ (now : List ℕ) (more : List EntryData) (end : AreFollowed (p ++ q) es more) (lines : List ℕ)
       (cut : IsCut (was ++ shown_bytes q) lines now) where
     abbrev next : List ℕ
     next = end.next ++ 0 ∷ []
@@ -136,9 +136,9 @@ module _ (was now : List ℕ) (profile : Profile) (limits : Limits) (p piece : L
   cut_shown [] lines e cut (inr some) within =
       absurd (omega (arith, some.0, within, ap length e, length-take closed piece))
   cut_shown (byte ∷ q) lines e cut (inr some) within =
-      let end = subst (λ (t : List ℕ). HaveClosed profile limits (p ++ t) es more) (sym e) some.1 in (
-        lines_are was p es b (byte ∷ q) now profile limits more end lines cut,
-        behind_entries was p es b (byte ∷ q) now profile limits more end lines cut,
+      let end = subst (λ (t : List ℕ). AreFollowed (p ++ t) es more) (sym e) some.1.followed in (
+        lines_are was p es b (byte ∷ q) now more end lines cut,
+        behind_entries was p es b (byte ∷ q) now more end lines cut,
       )
 
   -- The text of the entries that the piece closes.
@@ -162,7 +162,7 @@ closed_end d profile limits p piece used es e some within c t =
     subst (λ (bytes : List ℕ). IsEntryEnd bytes es e) (sym whole)
     (entry_end profile (p ++ front) last es e c (subst (λ (bytes : List ℕ). Closed profile bytes (es ++ e ∷ [])) whole closed))
 
-some_shown : (es : List EntryData) → es ≢ [] → map shown_part es ≢ []
+pub some_shown : (es : List EntryData) → es ≢ [] → map shown_part es ≢ []
 some_shown [] some = λ z. some refl
 some_shown (e ∷ es) some = λ z. cc
 

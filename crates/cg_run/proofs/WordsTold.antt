@@ -1,5 +1,5 @@
 -- How faults are told.
-use Rattle.std.proofs.Common.{◌≡◌, ◌⊎◌, ◌<◌, inl, inr, List, [], length, Option, Some, Result, Ok, Err, sym, subst, arith}
+use Rattle.std.proofs.Common.{◌≡◌, ◌⊎◌, ◌<◌, inl, inr, List, [], length, Option, Result, Ok, Err, sym, subst, arith}
 use Rattle.std.specs.Prelude.{IfErr, IfOk}
 use Rattle.std.specs.declared.io.ErrorKind.{ErrorKind as IoKind}
 use Rattle.clap.specs.Words.{Row, Text, Kinds as Errors, IsAmong, fault_of, matches_of, subcommand_of}

@@ -20,15 +20,19 @@ use Rattle.cg_run.specs.Streaming.{IsByteStop}
 abbrev pub ArePlain : List EntryData → Type 0
 ArePlain es = AllByRecursion (λ e. AllByRecursion (Lacks 0) (print_lines e.value)) es
 
--- The bytes, which nothing stops, are those of the entries and of more entries, and then the next path with its NUL.
-pub record HaveClosed (profile : Profile) (limits : Limits) (bytes : List ℕ) (es more : List EntryData) : Type 0 where
-  pub unstopped : IsSnapUnstopped profile limits bytes
-  pub closed : Closed profile bytes (es ++ more)
-  pub some : more ≢ []
+-- The bytes are those of the entries and of more entries, and then the next path with its NUL.
+pub record AreFollowed (bytes : List ℕ) (es more : List EntryData) : Type 0 where
   pub plain : ArePlain more
   pub next : List ℕ
   pub good : IsPath next
   pub split : bytes ≡ print_entries es ++ (print_entries more ++ (next ++ 0 ∷ []))
+
+-- So it is, and nothing stops the bytes, which close the entries.
+pub record HaveClosed (profile : Profile) (limits : Limits) (bytes : List ℕ) (es more : List EntryData) : Type 0 where
+  pub unstopped : IsSnapUnstopped profile limits bytes
+  pub closed : Closed profile bytes (es ++ more)
+  pub some : more ≢ []
+  pub followed : AreFollowed bytes es more
 
 -- The first bytes of a piece, so many of them, close more entries; or none do.
 abbrev pub CloseMore : Profile → Limits → List ℕ → List EntryData → List ℕ → ℕ → List EntryData → Type 0

@@ -18,9 +18,10 @@ pub record HasLinesAlone (kind : ReadForm) : Type 0 where
 -- The kinds whose files are lines of one relation each, in any number. They have lines alone.
 abbrev pub lines_alone : ReadForm → Bool
 lines_alone (form.Numbers lo hi) = true
-lines_alone form.DeviceStats = true
-lines_alone form.DeviceLimits = true
-lines_alone form.DeviceTargets = true
+lines_alone (form.DeviceStats kernel) = true
+lines_alone (form.DeviceLimits kernel) = true
+lines_alone (form.DeviceTargets kernel) = true
+lines_alone form.DeviceParams = true
 lines_alone form.Raw = true
 lines_alone _ = false
 

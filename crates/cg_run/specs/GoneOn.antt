@@ -169,3 +169,7 @@ keeps_none t told = Unit {0}
 
 abbrev pub keeps_ruled : KeptTeller → List Told → Type 0
 keeps_ruled t told = t.entries.items ≡ ruled (entries_of told)
+
+-- Each entry is shown, and nothing is kept of it.
+abbrev pub ShowsEntries : {T : Type 0} → (Told → List (List ℕ)) → (T → List Told → Type 0) → T → Type 0
+ShowsEntries part Keeps t = (told : List Told) (e : EntryData) → (part (inl e) ≡ shown_part e ∷ []) × (Keeps t told → Keeps t (told ++ inl e ∷ []))

@@ -1,5 +1,5 @@
 -- What a reader of a snapshot stands for of which what is at fault is left out.
-use Rattle.std.proofs.Common.{◌≡◌, ℕ, ◌≤◌, Bool, List, [], ◌∷◌, ◌++◌, length, inl, inr, Option, Some, None, is_some, refl, sym, subst, ap, arith}
+use Rattle.std.proofs.Common.{◌≡◌, ℕ, ◌<◌, ◌≤◌, Bool, List, [], ◌∷◌, ◌++◌, length, inl, inr, Option, Some, None, is_some, sym, subst, ap, arith}
 use Rattle.std.specs.List.{AllByRecursion, flat_map}
 use Rattle.cg_value.specs.Entry.{EntryData}
 use Rattle.cg_value.specs.declared.profile.Profile.{Profile}
@@ -10,15 +10,18 @@ use Rattle.cg_snap.specs.GoingOnState.{IsBefore, form_of, going_stream}
 use Rattle.cg_snap.specs.Pulled.{HasPulled}
 use Rattle.cg_snap.specs.declared.decode.StreamFault.{StreamFault}
 use Rattle.cg_snap.specs.declared.decode.StreamFault.TheVariants as faults
+use Rattle.cg_snap.specs.declared.event.Event.{Event}
+use Rattle.cg_snap.specs.declared.event.Event.TheVariants as events
 use Rattle.cg_snap.specs.declared.fault.Fault.{Fault}
 use Rattle.cg_snap.specs.declared.going_on.Found.{Found}
 use Rattle.cg_snap.specs.declared.going_on.LeftOut.{LeftOut}
 use Rattle.cg_snap.specs.declared.limits.Limits.{Limits}
 use Rattle.cg_snap.specs.declared.stop.Stop.TheVariants as stops
-use Rattle.cg_run.specs.GoneOn.{AreExplained, ExplainsTold, IsGoingUnstopped, Telling, TellsParts, explained_part, left_out_of, told_of}
+use Rattle.cg_run.specs.GoneOn.{ExplainsTold, GoingStopOf, IsGoingUnstopped, Telling, TellsParts, explained_part, left_out_of, told_of}
 use Rattle.cg_run.specs.Lines.{AreBehind}
 use Rattle.cg_run.specs.Run.{joined}
 use Rattle.cg_run.specs.Stood.{HasStood}
+use Rattle.cg_run.specs.Streaming.{FoundIs}
 use Rattle.cg_run.specs.Taken.{taken_closed, taken_counted, taken_unstopped}
 use Rattle.cg_run.specs.declared.going_on.Ended.{Ended}
 use Rattle.cg_run.specs.declared.going_on.GoingOnReader.{GoingOnReader}
@@ -30,6 +33,13 @@ HasTakenOn d form = HasPulled going_stream form_of d form (stream_limits (form.1
 -- ... also where the next byte stopped it.
 abbrev pub HasStoodOn : GoingOnDecoder → Profile × Limits → List ℕ → Type 0
 HasStoodOn d form = HasStood going_stream form_of d form (stream_limits (form.1))
+
+-- The stream goes on with a byte more, or memory was refused.
+abbrev pub GoesOn : ℕ → Event (Unit {0}) → Type 0
+GoesOn used events.NeedMore = 0 < used
+GoesOn used (events.Given u) = 0 < used
+GoesOn used (events.Stopped stop) = ⊥
+GoesOn used events.OutOfMemory = Unit {0}
 
 -- What is left out with the byte behind q, if something is: what came of its block before that byte.
 abbrev pub IsFaultAt : Profile → Limits → List ℕ → ℕ → Option LeftOut → Option Fault → Type 0
@@ -57,6 +67,11 @@ module _ {T : Type 0} (parts : Told → List (List ℕ)) (Keeps : T → List Tol
     pub keeps : Keeps s.teller (told_by found)
     pub lines : AreBehind s.lines p
     pub explain_is : is_some s.lines ≡ explain
+
+  -- What a call of next came to that left this reader.
+  abbrev pub FoundOn : GoingOnReader T → Profile × Limits → (explain : Bool) → List ℕ → List (List ℕ) → List ℕ → ℕ → List ℕ → List ℕ → Event (Unit {0}) → Type 0
+  FoundOn s form explain p all piece used old new what =
+      FoundIs (TellsParts parts explain (form.0) (form.1)) (IsGoingUnstopped (form.1)) (HasGoneOn s form explain) (GoingStopOf (form.1)) p all piece used old new what
 
   module _ (s : GoingOnReader T) (form : Profile × Limits) (explain : Bool) (p : List ℕ) (all : List (List ℕ)) (h : HasGoneOn s form explain p all) where
     pub going_stands : HasStoodOn s.decoder form p

@@ -5,6 +5,7 @@ pub mod CommandLine
 pub mod Decoded
 pub mod Ended
 pub mod Entries
+pub mod EntryRun
 pub mod Explain
 pub mod Explained
 pub mod FileReader

@@ -1,5 +1,5 @@
 -- Where the decoder of a stream stands, also behind a stop.
-use Rattle.std.proofs.Common.{◌≡◌, ◌↔◌, ℕ, ◌≤◌, List, length, map, refl, ap, arith}
+use Rattle.std.proofs.Common.{◌≡◌, ◌↔◌, ℕ, ◌≤◌, List, length, refl, ap, arith}
 use Rattle.cg_text.specs.Texts.{TextOf}
 use Rattle.cg_value.specs.Entry.{EntryData, ItemData}
 use Rattle.cg_value.specs.declared.profile.Profile.{Profile}

@@ -34,9 +34,10 @@ fn has_lines_alone(kind: ReadKind) -> bool
 {
     match kind.form() {
         ReadForm::Numbers { lo: _, hi: _ } => true,
-        ReadForm::DeviceStats => true,
-        ReadForm::DeviceLimits => true,
-        ReadForm::DeviceTargets => true,
+        ReadForm::DeviceStats { kernel: _ } => true,
+        ReadForm::DeviceLimits { kernel: _ } => true,
+        ReadForm::DeviceTargets { kernel: _ } => true,
+        ReadForm::DeviceParams => true,
         ReadForm::Raw => true,
         _ => false,
     }

@@ -1,5 +1,5 @@
 //! A snapshot of which what is at fault is left out: what is told of its blocks, each as soon as it is known.
-ghost use Rattle.std.specs.Prelude.{◌≡◌, ◌<◌, ◌∷◌, ◌++◌, [], List, ℕ, Bool, Some, true, MatchResult, OnErr, OnOk, is_some, length};
+ghost use Rattle.std.specs.Prelude.{◌≡◌, ◌<◌, ◌≤◌, ◌∷◌, ◌++◌, [], List, ℕ, Bool, Some, true, MatchOption, MatchResult, OnErr, OnOk, is_some, length, take};
 ghost use Rattle.std.specs.List.{flat_map};
 ghost use Rattle.cg_value.specs.declared.profile.Profile.{Profile};
 ghost use Rattle.cg_snap.specs.Begun.{IsRecordEnd};
@@ -13,8 +13,10 @@ ghost use Rattle.cg_run.specs.GoneOnReader.{ExplainsOut, IsFaultAt};
 ghost use Rattle.cg_run.specs.Lines.{AreBehind, AreCounted};
 ghost use Rattle.cg_run.specs.Run.{joined};
 
+use crate::entry_run::pass_run;
 use crate::kept::Kept;
 use crate::lines::{Lines, lines_behind, lines_of};
+use crate::shown_text::append_closed;
 use crate::spot::spot_in;
 use crate::spot_text::append_spot;
 use crate::stream_reader::{KeptEntries, LastPart, StreamReader};
@@ -150,7 +152,11 @@ fn append(out: &mut Vec<u8>, text: &[u8]) -> Result<(), OutOfMemory>
 }
 
 impl<T: Teller> GoingOnReader<T> {
-    ghost use Rattle.cg_run.specs.GoneOnReader.{EndsOnBy, HasEndedOn, HasGoneOn};
+    ghost use Rattle.std.proofs.Common.{inl};
+    ghost use Rattle.cg_snap.specs.GoingOnEntry.{BeginsBlock};
+    ghost use Rattle.cg_run.specs.GoneOn.{ShowsEntries};
+    ghost use Rattle.cg_run.specs.GoneOnReader.{EndsOnBy, FoundOn, GoesOn, HasEndedOn, HasGoneOn, HasStoodOn};
+    ghost use Rattle.cg_run.specs.Streaming.{IsFoundBy, StandsBehind};
 
     /// A reader that consumed nothing. It may explain what is left out.
     pub(crate) fn new(
@@ -201,6 +207,108 @@ impl<T: Teller> GoingOnReader<T> {
         append(out, self.text.as_slice())?;
         self.left_out = left_out;
         Ok(())
+    }
+
+    /// Tells an entry, and appends its text to `out`. After `OutOfMemory` `out` is as before.
+    fn give_entry(&mut self, out: &mut Vec<u8>, entry: Entry) -> Result<(), OutOfMemory>
+        ensures given { (told : List Told) → T.keeps self.old.teller told → OnOk result
+            ((out.new.items ≡ out.old.items ++ joined (T.parts (inl entry)))
+            × T.keeps self.new.teller (told ++ inl entry ∷ [])) }
+        ensures kept { OnErr result (out.new.items ≡ out.old.items) }
+        ensures decoder { self.new.decoder ≡ self.old.decoder }
+        ensures left_out { self.new.left_out ≡ self.old.left_out }
+        ensures lines { self.new.lines ≡ self.old.lines }
+    {
+        self.text.clear();
+        self.teller.tell_entry(&mut self.text, entry)?;
+        append(out, self.text.as_slice())?;
+        Ok(())
+    }
+
+    /// Shows the entries whose lines lie in the piece behind those that so many bytes of it tell, one behind another,
+    /// by their bytes.
+    fn show_run(&mut self, piece: &[u8], at: usize, out: &mut Vec<u8>) -> Progress<()>
+        requires { at ≤ length piece.now }
+        ensures shown { (form : Profile × Limits) (explain : Bool) (p : List ℕ) (parts : List (List ℕ)) →
+            ShowsEntries T.parts T.keeps self.old.teller →
+            BeginsBlock (form.0) self.old.decoder.records (p ++ take at piece.now) →
+            HasGoneOn T.parts T.keeps self.old form explain (p ++ take at piece.now) parts →
+            FoundOn T.parts T.keeps self.new form explain p parts piece.now result.used
+            out.old.items out.new.items result.what }
+        ensures used { result.used ≤ length piece.now }
+        ensures goes { 0 < at → GoesOn result.used result.what }
+    {
+        let run = pass_run(&mut self.decoder, piece, at);
+        let (front, _) = piece.split_at(run.end);
+        let (_, bytes) = front.split_at(run.begin);
+        self.text.clear();
+        match append_closed(out, &mut self.text, bytes) {
+            Ok(()) => {
+                let (taken, _) = piece.split_at(run.used);
+                let (_, passed) = taken.split_at(at);
+                self.lines = lines_behind(self.lines, passed);
+                Progress {
+                    used: run.used,
+                    what: Event::Given(()),
+                }
+            }
+            Err(_) => Progress {
+                used: run.used,
+                what: Event::OutOfMemory,
+            },
+        }
+    }
+
+    /// Takes bytes of the piece until something is found, and tells it.
+    fn find(&mut self, piece: &[u8], out: &mut Vec<u8>) -> Progress<()>
+        ensures found { (form : Profile × Limits) (explain : Bool) (p : List ℕ) (parts : List (List ℕ)) →
+            HasGoneOn T.parts T.keeps self.old form explain p parts →
+            FoundOn T.parts T.keeps self.new form explain p parts piece.now result.used
+            out.old.items out.new.items result.what }
+        ensures stood { (form : Profile × Limits) (explain : Bool) (p : List ℕ) (parts : List (List ℕ)) →
+            HasGoneOn T.parts T.keeps self.old form explain p parts →
+            StandsBehind (HasStoodOn self.new.decoder form) p piece.now result.used result.what }
+        ensures used { result.used ≤ length piece.now }
+        ensures progress { IsFoundBy (length piece.now) result.used result.what }
+    {
+        let pulled = self.decoder.next(piece);
+        let used = pulled.used;
+        match pulled.what {
+            Event::NeedMore => {
+                self.lines = lines_behind(self.lines, piece);
+                Progress {
+                    used,
+                    what: Event::NeedMore,
+                }
+            }
+            Event::Given(found) => {
+                let (front, _) = piece.split_at(used - 1);
+                let byte = piece[used - 1];
+                let lines = lines_behind(self.lines, front);
+                match self.give(out, found, lines, byte) {
+                    Ok(()) => {
+                        self.lines = lines_behind(lines, &[byte]);
+                        Progress {
+                            used,
+                            what: Event::Given(()),
+                        }
+                    }
+                    // The byte that tells it wants the memory.
+                    Err(_) => Progress {
+                        used: used - 1,
+                        what: Event::OutOfMemory,
+                    },
+                }
+            }
+            Event::Stopped(stop) => Progress {
+                used,
+                what: Event::Stopped(stop),
+            },
+            Event::OutOfMemory => Progress {
+                used,
+                what: Event::OutOfMemory,
+            },
+        }
     }
 
     /// Tells the entry that the end of the input closes, if it closes one.
@@ -274,43 +382,38 @@ impl<T: Teller> StreamReader for GoingOnReader<T> {
     ghost counted = { λ s form. going_counted T.parts T.keeps s (form.0) (form.1) };
 
     fn next(&mut self, piece: &[u8], out: &mut Vec<u8>) -> Progress<()> {
-        let pulled = self.decoder.next(piece);
+        let pulled = self.decoder.next_entry(piece);
         let used = pulled.used;
+        if used == 0 {
+            return self.find(piece, out);
+        }
+        let (front, _) = piece.split_at(used);
+        let lines = lines_behind(self.lines, front);
         match pulled.what {
-            Event::NeedMore => {
-                self.lines = lines_behind(self.lines, piece);
+            Event::Given(entry) => match self.give_entry(out, entry) {
+                Ok(()) => {
+                    self.lines = lines;
+                    if self.teller.shows() {
+                        return self.show_run(piece, used, out);
+                    }
+                    Progress {
+                        used,
+                        what: Event::Given(()),
+                    }
+                }
+                // The byte that closes the entry wants the memory.
+                Err(_) => Progress {
+                    used: used - 1,
+                    what: Event::OutOfMemory,
+                },
+            },
+            _ => {
+                self.lines = lines;
                 Progress {
                     used,
                     what: Event::NeedMore,
                 }
             }
-            Event::Given(found) => {
-                let (front, _) = piece.split_at(used - 1);
-                let byte = piece[used - 1];
-                let lines = lines_behind(self.lines, front);
-                match self.give(out, found, lines, byte) {
-                    Ok(()) => {
-                        self.lines = lines_behind(lines, &[byte]);
-                        Progress {
-                            used,
-                            what: Event::Given(()),
-                        }
-                    }
-                    // The byte that tells it wants the memory.
-                    Err(_) => Progress {
-                        used: used - 1,
-                        what: Event::OutOfMemory,
-                    },
-                }
-            }
-            Event::Stopped(stop) => Progress {
-                used,
-                what: Event::Stopped(stop),
-            },
-            Event::OutOfMemory => Progress {
-                used,
-                what: Event::OutOfMemory,
-            },
         }
     }
 

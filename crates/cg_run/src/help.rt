@@ -131,7 +131,8 @@ Example:
 pub(crate) const PROFILE: &str = "\
 Which grammar: the greatest list number is 65535 in 1 and 1048575 in 2,
 memory.numa_stat is raw lines in 1 and nested in 2; kernel is 2 with rows for
-more files, as `cgfile --profile kernel kinds` lists them
+more files, as `cgfile --profile kernel kinds` lists them, with (unknown) for a
+device that is gone, and with values of io.stat below 0
 [default: 1]";
 
 pub(crate) const MAX_RECORD: &str =

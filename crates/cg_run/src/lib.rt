@@ -8,6 +8,7 @@ mod checked;
 mod command_line;
 pub mod cut;
 mod entries;
+mod entry_run;
 mod explain;
 pub mod explained;
 mod file_reader;

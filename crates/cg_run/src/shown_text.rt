@@ -62,7 +62,7 @@ pub(crate) fn append_text(out: &mut Vec<u8>, text: &mut Vec<u8>) -> Result<(), O
 }
 
 /// How many bytes of a text are lines.
-fn lines_end(text: &[u8]) -> usize
+pub(crate) fn lines_end(text: &[u8]) -> usize
     ensures cut { IsCut text.now (take result text.now) (drop result text.now) }
     ensures within { result ≤ length text.now }
 {

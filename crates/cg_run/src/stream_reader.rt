@@ -102,8 +102,8 @@ pub(crate) trait StreamReader: Drop {
 
 /// A reader of a stream whose end leaves parts.
 pub(crate) trait LastPart: StreamReader {
-    /// Appends the texts of the parts that the end of the stream leaves, and answers how many blocks were left out of the
-    /// whole. After `Err` nothing was appended.
+    /// Appends the texts of the parts that the end of the stream leaves, and answers how many blocks were left out of
+    /// the whole. After `Err` nothing was appended.
     fn finish(self, out: &mut Vec<u8>) -> Result<u64, StreamFault>
         ensures { (form : Self.Setup) (p : List ℕ) (parts : List (List ℕ)) → Self.took self form p parts →
             EndIs (Self.whole form) p parts out.old.items out.new.items result };

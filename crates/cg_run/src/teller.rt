@@ -1,12 +1,12 @@
 //! What is done with what is told of a snapshot that is gone on with.
 ghost use Rattle.std.proofs.Common.{inl, inr};
-ghost use Rattle.std.specs.Prelude.{◌≡◌, ◌≢◌, ◌∷◌, ◌++◌, [], List, ℕ, OnOk};
+ghost use Rattle.std.specs.Prelude.{◌≡◌, ◌≢◌, ◌∷◌, ◌++◌, [], List, ℕ, IsTrue, OnOk};
 ghost use Rattle.std.specs.List.{flat_map};
 ghost use Rattle.cg_value.specs.Entry.{EntryData};
 ghost use Rattle.cg_snap.specs.GoingOn.{Told};
 ghost use Rattle.cg_tree.specs.Ruled.{ruled};
 ghost use Rattle.cg_run.specs.Check.{finding_lines};
-ghost use Rattle.cg_run.specs.GoneOn.{Telling, checked_outcome, entries_of, explained_part, told_of, told_outcome};
+ghost use Rattle.cg_run.specs.GoneOn.{ShowsEntries, Telling, checked_outcome, entries_of, explained_part, told_of, told_outcome};
 ghost use Rattle.cg_run.specs.Run.{joined};
 ghost use Rattle.cg_run.specs.declared.outcome.Outcome.{Outcome};
 
@@ -36,6 +36,10 @@ pub(crate) trait Teller: Drop {
         ensures { (told : List Told) → keeps self.old told → OnOk result
             ((text.new.items ≡ text.old.items ++ joined (parts (inl entry)))
             × keeps self.new (told ++ inl entry ∷ [])) };
+
+    /// Whether entries are shown, and nothing is kept of them, so that their bytes may be shown in place of them.
+    fn shows(&self) -> bool
+        ensures { IsTrue result → ShowsEntries parts keeps self.now };
 
     /// Appends the line of a block that is left out.
     fn tell_left_out(&mut self, text: &mut Vec<u8>, left_out: &LeftOut) -> Result<(), OutOfMemory>
@@ -88,6 +92,10 @@ impl Teller for ShownTeller {
         Ok(())
     }
 
+    fn shows(&self) -> bool {
+        true
+    }
+
     fn tell_left_out(&mut self, text: &mut Vec<u8>, left_out: &LeftOut) -> Result<(), OutOfMemory> {
         append_left_out(text, left_out)
     }
@@ -121,6 +129,10 @@ impl Teller for JsonTeller {
 
     fn tell_entry(&mut self, text: &mut Vec<u8>, entry: Entry) -> Result<(), OutOfMemory> {
         cg_json::append_line(text, &entry)
+    }
+
+    fn shows(&self) -> bool {
+        false
     }
 
     fn tell_left_out(&mut self, text: &mut Vec<u8>, left_out: &LeftOut) -> Result<(), OutOfMemory> {
@@ -171,6 +183,10 @@ impl Teller for KeptTeller {
 
     fn tell_entry(&mut self, _text: &mut Vec<u8>, entry: Entry) -> Result<(), OutOfMemory> {
         keep(&mut self.entries, entry)
+    }
+
+    fn shows(&self) -> bool {
+        false
     }
 
     fn tell_left_out(&mut self, text: &mut Vec<u8>, left_out: &LeftOut) -> Result<(), OutOfMemory> {

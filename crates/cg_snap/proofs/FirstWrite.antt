@@ -9,6 +9,7 @@ use Rattle.cg_text.specs.Word.{IsControllerWord}
 use Rattle.cg_text.specs.declared.pairs.LimitKey.TheVariants as key
 use Rattle.cg_text.specs.declared.pairs.LimitPairs.{LimitPairs}
 use Rattle.cg_text.specs.declared.values.Clamp.TheVariants as clamp
+use Rattle.cg_text.specs.declared.values.IoClass.TheVariants.{Idle}
 use Rattle.cg_text.specs.declared.values.Limit.TheVariants as limit
 use Rattle.cg_value.specs.FirstLineLaws.{first_value}
 use Rattle.cg_value.specs.Kind.{any_u64, IsWriteForm}
@@ -62,9 +63,10 @@ first_setting (form.Limit lo hi) b = (setting.Limit limit.Max, codes "max", reco
 first_setting form.SizeLimit b = (setting.Limit limit.Max, codes "max", record { x = limit.Max; value = refl; spelled = refl })
 first_setting form.Clamp b = (setting.Clamp clamp.Max, codes "max", record { x = clamp.Max; value = refl; spelled = refl })
 first_setting form.Mode b = (setting.Threaded, codes "threaded", (refl, refl))
+first_setting form.Class b = (setting.Class Idle, codes "idle", record { x = Idle; value = refl; spelled = refl })
 first_setting form.Controllers b = (setting.Controllers (toggle ∷ []), codes "+a", record { x = toggle ∷ []; value = refl; spelled = record { some = λ e. absurd (cc); each = each_toggle; line_is = refl } })
 first_setting form.CpuMax b = (setting.CpuMax limit.Max None, codes "max", record { x = (limit.Max, None); value = refl; spelled = refl })
-first_setting form.Reclaim b =
+first_setting (form.Reclaim max) b =
     (setting.Reclaim 0 None, codes "0", record { x = (0, None); value = refl; spelled = record { count = 0; factor = 1; product = refl; fits = omega arith; spelled = inl (inl (refl, refl, refl), refl) } })
 first_setting form.DeviceLimits b = (
   setting.DeviceLimits (record { major = 0; minor = 0 }) (Some limit.Max) None None None,

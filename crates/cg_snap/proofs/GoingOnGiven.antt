@@ -1,5 +1,5 @@
 -- A block that is closed by the NUL of another path, which begins a block of its own.
-use Rattle.std.proofs.Common.{◌≡◌, ◌≢◌, ℕ, ◌<◌, ◌≤◌, List, [], ◌∷◌, ◌++◌, length, refl, sym, ap, subst, ◌∙◌, append_assoc, arith, Bool, true, false, Option, Some, None, inl, inr}
+use Rattle.std.proofs.Common.{◌≡◌, ◌≢◌, ℕ, ◌+◌, ◌-◌, ◌<◌, ◌≤◌, List, [], ◌∷◌, ◌++◌, length, take, get_or, refl, sym, ap, subst, ◌∙◌, append_assoc, arith, Bool, true, false, Option, Some, None, inl, inr}
 use Rattle.std.specs.List.{AllByRecursion}
 use Rattle.std.specs.Bool.{MatchBool}
 use Rattle.std.proofs.lemmas.Bool.{MatchBool-at_false, MatchBool-at_true, cases_lt}
@@ -10,24 +10,28 @@ use Rattle.cg_value.specs.Entry.{EntryData, IsPath}
 use Rattle.cg_value.specs.PathLaws.{path_lacks_newline, path_lacks_nul}
 use Rattle.cg_value.specs.Records.{records}
 use Rattle.cg_value.specs.declared.profile.Profile.{Profile}
-use Rattle.cg_snap.specs.Begun.{IsBegun}
+use Rattle.cg_snap.specs.Begun.{IsBegun, IsRecordEnd}
 use Rattle.cg_snap.specs.Closed.{Closed, EndsOther}
 use Rattle.cg_snap.specs.ClosedLaws.{begun_once, closed_once}
 use Rattle.cg_snap.specs.Course.{HasProgressed}
 use Rattle.cg_snap.specs.DecoderState.{HasConsumed, HasConsumedInLine, HasConsumedInPath}
+use Rattle.cg_snap.specs.GoingOnEntry.{BeginsBlock, EndsBlock}
 use Rattle.cg_snap.specs.Meter.{IsCounted}
 use Rattle.cg_snap.specs.PathBytes.{ArePathBytes}
 use Rattle.cg_snap.specs.Snap.{Snap, SnapText}
 use Rattle.cg_snap.specs.SnapStop.{IsManyRecords, IsRecordWhy, IsSnapUnstopped}
 use Rattle.cg_snap.specs.Streams.{snap_stream}
+use Rattle.cg_snap.specs.declared.going_on_records.GoingOnRecords.{GoingOnRecords}
 use Rattle.cg_snap.specs.declared.limits.Limits.{Limits}
 use Rattle.cg_snap.specs.declared.meter.Meter.{Meter}
 use Rattle.cg_snap.specs.declared.present.CurrentEntry.{CurrentEntry}
 use Rattle.cg_snap.specs.declared.snapshot_records.SnapshotRecords.{SnapshotRecords}
 use Rattle.cg_snap.proofs.Begins.{not_long}
-use Rattle.cg_snap.proofs.Closes.{begun_after, nul_plain}
+use Rattle.cg_snap.proofs.Closes.{begun_after, nul_plain, records_end}
+use Rattle.cg_snap.proofs.Courses.{taken_more}
 use Rattle.cg_snap.proofs.GoingOnFaults.{snoc, start_unstopped}
 use Rattle.cg_snap.proofs.GoingOnLines.{lacks_left}
+use Rattle.cg_snap.proofs.GoingOnMoves.{record_end_both}
 use Rattle.cg_snap.proofs.Heads.{path_bytes}
 use Rattle.cg_snap.proofs.Joins.{records-append}
 use Rattle.cg_snap.proofs.Places.{HasBefore, few_many, is_many}
@@ -266,3 +270,53 @@ module _ (profile : Profile) where
       unstopped = subst (λ (l : Limits). IsSnapUnstopped profile l whole) (sym (same ∙ is)) alone_unstopped;
       closed = at_closed profile s.begun.items s.present whole [] at_present;
     }
+
+-- ---- What ends a block, whatever stands before it
+
+module _ (profile : Profile) (t : GoingOnRecords) (old : Meter) (block front : List ℕ) (used : ℕ) (e : EntryData) (some : 0 < used) (within : used ≤ length front) (closed : Closed profile (block ++ take (used - 1) front) [])
+    (along : HasProgressed (snap_stream profile) t.block old (block ++ take used front) (e ∷ [])) (same : t.meter.limits ≡ old.limits) (offset : t.meter.offset ≡ old.record_len) (len : t.meter.record_len ≡ old.record_len) where
+  abbrev before : List ℕ
+  before = block ++ take (used - 1) front
+
+  abbrev last : ℕ
+  last = get_or front (used - 1) 0
+
+  whole_block : before ++ last ∷ [] ≡ block ++ take used front
+  whole_block =
+      let next : used - 1 + 1 ≡ used = omega (arith, some) in
+      taken_more block front (used - 1) (omega (arith, some, within)) ∙ ap (λ (n : ℕ). block ++ take n front) next
+
+  with_last : HasProgressed (snap_stream profile) t.block old (before ++ last ∷ []) (e ∷ [])
+  with_last = subst (λ (u : List ℕ). HasProgressed (snap_stream profile) t.block old u (e ∷ [])) (sym whole_block) along
+
+  parts : GivenParts profile t.block.begun.items t.block.present before last e
+  parts = given_parts profile t.block.begun.items t.block.present before last e closed with_last.state.at
+
+  abbrev next : List ℕ
+  next = parts.x.path.items
+
+  given_is : parts.given ≡ records e.path (parts.entries.0)
+  given_is = parts.entries.4 ∙ ap (λ (u : List ℕ). records e.path (parts.entries.0) ++ u) parts.entries.5 ∙ append-nil (records e.path (parts.entries.0))
+
+  split : block ++ take used front ≡ parts.given ++ (next ++ 0 ∷ [])
+  split = sym whole_block ∙ ap (λ (u : List ℕ). u ++ last ∷ []) parts.split ∙ ap (λ (d : ℕ). (parts.given ++ next) ++ d ∷ []) parts.nul ∙ append_assoc parts.given next (0 ∷ [])
+
+  ended : IsRecordEnd parts.given
+  ended = subst IsRecordEnd (sym given_is) (records_end e.path [] (parts.entries.0) (inl refl))
+
+  begun : HasProgressed (snap_stream profile) t.block t.meter (next ++ 0 ∷ []) []
+  begun = begun_along profile old.limits t.block old t.meter before last e parts with_last refl same offset len
+
+  pub block_ended : EndsBlock profile t (block ++ take used front) e
+  block_ended = (record { front = parts.given; ended = ended; next = next; good = parts.good; split = split; begun = begun }, parts.entries)
+
+  -- So they begin another behind whole lines that stand before the block.
+  pub block_begun : (lines : List ℕ) → IsRecordEnd lines → BeginsBlock profile t (lines ++ (block ++ take used front))
+  block_begun lines whole = record {
+    front = lines ++ parts.given;
+    ended = record_end_both lines parts.given whole ended;
+    next = next;
+    good = parts.good;
+    split = ap (λ (u : List ℕ). lines ++ u) split ∙ sym (append_assoc lines parts.given (next ++ 0 ∷ []));
+    begun = begun;
+  }

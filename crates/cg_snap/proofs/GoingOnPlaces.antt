@@ -1,5 +1,5 @@
 -- Where the record stands that comes of a snapshot that is gone on with, and which bytes may come.
-use Rattle.std.proofs.Common.{◌≡◌, ℕ, ◌<◌, ◌↔◌, Bool, true, false, List, [], ◌∷◌, ◌++◌, refl, sym, ap, subst, ◌∙◌, append_assoc, Option, Some, None, inl, inr}
+use Rattle.std.proofs.Common.{◌≡◌, ℕ, ◌<◌, ◌↔◌, Bool, true, false, List, [], ◌∷◌, ◌++◌, refl, sym, ap, subst, ◌∙◌, append_assoc, Option, Some, inl, inr}
 use Rattle.cg_text.specs.Bytes.{HasByte}
 use Rattle.cg_text.specs.Texts.{Next}
 use Rattle.cg_text.specs.TextsLaws.{lacks_both}
@@ -7,7 +7,7 @@ use Rattle.cg_value.specs.PathLaws.{path_lacks_newline, path_lacks_nul}
 use Rattle.cg_value.specs.Records.{records}
 use Rattle.cg_value.specs.declared.profile.Profile.{Profile}
 use Rattle.cg_snap.specs.Begun.{IsBegun, IsRecordEnd}
-use Rattle.cg_snap.specs.GoingOn.{IsBlockOf, IsPassed, IsPresent, IsWanted, Told, block_limits}
+use Rattle.cg_snap.specs.GoingOn.{IsBlockOf, IsPassed, IsWanted, Told, block_limits}
 use Rattle.cg_snap.specs.GoingOnState.{EndsInLine, IsPassingOver, IsReading}
 use Rattle.cg_snap.specs.RecordPlace.{IsRecordPlace}
 use Rattle.cg_snap.specs.Snap.{Snap}

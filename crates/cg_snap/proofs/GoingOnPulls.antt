@@ -1,5 +1,5 @@
 -- What bytes do that are read at once, where nothing was left out that may go on.
-use Rattle.std.proofs.Common.{◌≡◌, ℕ, ◌+◌, ◌-◌, ◌<◌, ◌≤◌, List, [], ◌∷◌, ◌++◌, length, take, get_or, refl, sym, ap, subst, ◌∙◌, append_assoc, arith, Bool, false, Option, Some, None, is_some, inl, inr, ◌⊎◌}
+use Rattle.std.proofs.Common.{◌≡◌, ℕ, ◌+◌, ◌-◌, ◌<◌, ◌≤◌, List, [], ◌∷◌, ◌++◌, length, take, refl, sym, ap, subst, ◌∙◌, append_assoc, arith, false, Option, Some, None, is_some, inl, inr, ◌⊎◌}
 use Rattle.std.specs.List.{AllByRecursion}
 use Rattle.std.proofs.lemmas.Bool.{cases_lt}
 use Rattle.std.proofs.lemmas.List.{append-nil, length-append, length_push}
@@ -8,7 +8,8 @@ use Rattle.cg_value.specs.Entry.{EntryData}
 use Rattle.cg_value.specs.declared.profile.Profile.{Profile}
 use Rattle.cg_snap.specs.Begun.{IsBegun, IsRecordEnd}
 use Rattle.cg_snap.specs.Course.{HasProgressed, PieceDid}
-use Rattle.cg_snap.specs.GoingOn.{Told, told_by}
+use Rattle.cg_snap.specs.GoingOn.{Told}
+use Rattle.cg_snap.specs.GoingOnEntry.{BlockDid, EntryDid, IsGivenBy}
 use Rattle.cg_snap.specs.GoingOnState.{AreLines, HasFound, IsReading, breaks_none, going_stream, many_of_none}
 use Rattle.cg_snap.specs.Meter.{IsCounted}
 use Rattle.cg_snap.specs.StreamStop.{IsStreamUnstopped}
@@ -126,3 +127,31 @@ module _ (profile : Profile) (limits : Limits) (s : GoingOnRecords) (p : List �
       byte = inl (sym f.kept ∙ none);
     }) (kept ∙ none) t.block.present refl
   ]
+
+-- ---- What is answered of an entry alone
+
+module _ (form : Profile × Limits) (s : GoingOnRecords) (m : Meter) (p : List ℕ) (found : List Found) (piece : List ℕ) (used : ℕ) where
+  -- Nothing was given.
+  pub did_none : (what : Event EntryData) → ((e : EntryData) → what ≡ events.Given e → ⊥) → HasProgressed (going_stream form) s m (p ++ take used piece) found → EntryDid form s m p found piece used what
+  did_none events.NeedMore n h = h
+  did_none (events.Given e) n h = absurd (n e refl)
+  did_none (events.Stopped stop) n h = h
+  did_none events.OutOfMemory n h = h
+
+  pub took_none : (what : Event EntryData) → ((e : EntryData) → what ≡ events.Given e → ⊥) → EntryDid form s m p found piece used what → HasProgressed (going_stream form) s m (p ++ take used piece) found
+  took_none events.NeedMore n h = h
+  took_none (events.Given e) n h = absurd (n e refl)
+  took_none (events.Stopped stop) n h = h
+  took_none events.OutOfMemory n h = h
+
+pub block_none : (profile : Profile) (s : GoingOnRecords) (bytes : List ℕ) (what : Event EntryData) → ((e : EntryData) → what ≡ events.Given e → ⊥) → BlockDid profile s bytes what
+block_none profile s bytes events.NeedMore n = tt
+block_none profile s bytes (events.Given e) n = absurd (n e refl)
+block_none profile s bytes (events.Stopped stop) n = tt
+block_none profile s bytes events.OutOfMemory n = tt
+
+pub some_none : (used : ℕ) (what : Event EntryData) → ((e : EntryData) → what ≡ events.Given e → ⊥) → IsGivenBy used what
+some_none used events.NeedMore n = tt
+some_none used (events.Given e) n = absurd (n e refl)
+some_none used (events.Stopped stop) n = tt
+some_none used events.OutOfMemory n = tt

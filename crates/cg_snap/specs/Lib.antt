@@ -9,6 +9,7 @@ pub mod Encode
 pub mod EncodeLaws
 pub mod GoingOn
 pub mod GoingOnDecoder
+pub mod GoingOnEntry
 pub mod GoingOnLaws
 pub mod GoingOnState
 pub mod HeadState
@@ -34,3 +35,4 @@ pub mod Sound
 pub mod Stop
 pub mod StreamStop
 pub mod Streams
+pub mod WiderLaws

@@ -14,7 +14,7 @@ use Rattle.cg_value.specs.Files.{ReadLines}
 use Rattle.cg_value.specs.Path.{IsNameOf}
 use Rattle.cg_value.specs.ReadLine.{IsRaw}
 use Rattle.cg_value.specs.RowName.{behind, behind_size, row_name, sized_name}
-use Rattle.cg_value.specs.Table.{Row, list_end, more_rows, numa_stat, read_form_of, reads_by, reads_in, rows}
+use Rattle.cg_value.specs.Table.{Row, is_kernel, list_end, more_rows, numa_stat, read_form_of, reads_by, reads_in, rows}
 use Rattle.cg_value.specs.declared.kind.ReadForm.{ReadForm}
 use Rattle.cg_value.specs.declared.kind.ReadForm.TheVariants as form
 use Rattle.cg_value.specs.declared.profile.Profile.{Profile}
@@ -32,6 +32,7 @@ use Rattle.cg_snap.specs.Closed.{Closed}
 use Rattle.cg_snap.specs.ClosedLaws.{given_once}
 use Rattle.cg_snap.specs.Snap.{AreEntryLines, SnapText}
 use Rattle.cg_snap.specs.SnapLaws.{entry_starts, heads_lines, lines_plain, not_of}
+use Rattle.cg_snap.specs.WiderLaws.{all_limits_wider, stats_wider, targets_wider, weights_wider}
 
 -- ---- Lists of more numbers
 
@@ -124,6 +125,34 @@ sets_differ Kernel One name b = absurd b
 sets_differ Kernel Two name b = absurd b
 sets_differ Kernel Kernel name b = inl refl
 
+-- A form that carries whether the profile is that of the kernel.
+module _ (make : Bool → ReadForm) (typed : (kernel : Bool) → make kernel ≢ form.Raw) (wider : (v : Value) (lines : List (List ℕ)) → ReadLines (make false) v lines → ReadLines (make true) v lines) where
+  devices_widened : IsWidened (Some (make false)) (Some (make true))
+  devices_widened = record { first = make false; later = make true; first_is = refl; later_is = refl; first_typed = typed false; later_typed = typed true; wider = wider }
+
+  devices_differ : (from to : Profile) (name : List ℕ) → IsBefore from to → Differ (IsNew to) name (Some (make (is_kernel from))) (Some (make (is_kernel to)))
+  devices_differ One One name b = inl refl
+  devices_differ One Two name b = inl refl
+  devices_differ One Kernel name b = inr (inl devices_widened)
+  devices_differ Two One name b = absurd b
+  devices_differ Two Two name b = inl refl
+  devices_differ Two Kernel name b = inr (inl devices_widened)
+  devices_differ Kernel One name b = absurd b
+  devices_differ Kernel Two name b = absurd b
+  devices_differ Kernel Kernel name b = inl refl
+
+stats_differ : (from to : Profile) (name : List ℕ) → IsBefore from to → Differ (IsNew to) name (Some (form.DeviceStats (is_kernel from))) (Some (form.DeviceStats (is_kernel to)))
+stats_differ = devices_differ (λ kernel. form.DeviceStats kernel) (λ kernel e. cc) stats_wider
+
+limits_differ : (from to : Profile) (name : List ℕ) → IsBefore from to → Differ (IsNew to) name (Some (form.DeviceLimits (is_kernel from))) (Some (form.DeviceLimits (is_kernel to)))
+limits_differ = devices_differ (λ kernel. form.DeviceLimits kernel) (λ kernel e. cc) all_limits_wider
+
+weights_differ : (from to : Profile) (name : List ℕ) → IsBefore from to → Differ (IsNew to) name (Some (form.DeviceWeights 10000 (is_kernel from))) (Some (form.DeviceWeights 10000 (is_kernel to)))
+weights_differ = devices_differ (λ kernel. form.DeviceWeights 10000 kernel) (λ kernel e. cc) (weights_wider 10000)
+
+targets_differ : (from to : Profile) (name : List ℕ) → IsBefore from to → Differ (IsNew to) name (Some (form.DeviceTargets (is_kernel from))) (Some (form.DeviceTargets (is_kernel to)))
+targets_differ = devices_differ (λ kernel. form.DeviceTargets kernel) (λ kernel e. cc) targets_wider
+
 numa_differs : (from to : Profile) → IsBefore from to → Differ (IsNew to) (codes "memory.numa_stat") (Some (numa_stat from)) (Some (numa_stat to))
 numa_differs One One b = inl refl
 numa_differs One Two b = inr (inr (refl, refl))
@@ -151,7 +180,7 @@ rows_differ from to b =
     let s : (name : List ℕ) → Differ (IsNew to) name (Some (form.Set (list_end from))) (Some (form.Set (list_end to))) = λ name. sets_differ from to name b in
     let from_56 : RowsDiffer (IsNew to) (drop 56 (rows from)) (drop 56 (rows to)) = (refl, s (codes "cpuset.cpus.exclusive"), (refl, s (codes "cpuset.cpus.exclusive.effective"), (refl, s (codes "cpuset.cpus.isolated"), (refl, inl refl, more_differ from to b)))) in
     let from_52 : RowsDiffer (IsNew to) (drop 52 (rows from)) (drop 52 (rows to)) = (refl, s (codes "cpuset.cpus"), (refl, s (codes "cpuset.mems"), (refl, s (codes "cpuset.cpus.effective"), (refl, s (codes "cpuset.mems.effective"), from_56)))) in
-    let from_40 : RowsDiffer (IsNew to) (drop 40 (rows from)) (drop 40 (rows to)) = (refl, numa_differs from to b, (refl, inl refl, (refl, inl refl, (refl, inl refl, (refl, inl refl, (refl, inl refl, (refl, inl refl, (refl, inl refl, (refl, inl refl, (refl, inl refl, (refl, inl refl, (refl, inl refl, from_52)))))))))))) in
+    let from_40 : RowsDiffer (IsNew to) (drop 40 (rows from)) (drop 40 (rows to)) = (refl, numa_differs from to b, (refl, inl refl, (refl, stats_differ from to (codes "io.stat") b, (refl, limits_differ from to (codes "io.max") b, (refl, weights_differ from to (codes "io.weight") b, (refl, targets_differ from to (codes "io.latency") b, (refl, inl refl, (refl, inl refl, (refl, inl refl, (refl, inl refl, (refl, inl refl, (refl, inl refl, from_52)))))))))))) in
     let from_30 : RowsDiffer (IsNew to) (drop 30 (rows from)) (drop 30 (rows to)) = (refl, inl refl, (refl, inl refl, (refl, inl refl, (refl, inl refl, (refl, inl refl, (refl, inl refl, (refl, inl refl, (refl, inl refl, (refl, inl refl, (refl, inl refl, from_40)))))))))) in
     let from_20 : RowsDiffer (IsNew to) (drop 20 (rows from)) (drop 20 (rows to)) = (refl, inl refl, (refl, inl refl, (refl, inl refl, (refl, inl refl, (refl, inl refl, (refl, inl refl, (refl, inl refl, (refl, inl refl, (refl, inl refl, (refl, inl refl, from_30)))))))))) in
     let from_10 : RowsDiffer (IsNew to) (drop 10 (rows from)) (drop 10 (rows to)) = (refl, inl refl, (refl, inl refl, (refl, inl refl, (refl, inl refl, (refl, inl refl, (refl, inl refl, (refl, inl refl, (refl, inl refl, (refl, inl refl, (refl, inl refl, from_20)))))))))) in
@@ -213,19 +242,23 @@ raw_or (form.Number lo hi) = inr (λ xs lines h. (let e = h.value in cc))
 raw_or (form.Signed lo hi) = inr (λ xs lines h. (let e = h.value in cc))
 raw_or form.Limit = inr (λ xs lines h. (let e = h.value in cc))
 raw_or form.Mode = inr (λ xs lines h. (let e = h.value in cc))
+raw_or form.Class = inr (λ xs lines h. (let e = h.value in cc))
 raw_or form.CpuMax = inr (λ xs lines h. (let e = h.value in cc))
 raw_or form.Clamp = inr (λ xs lines h. (let e = h.value in cc))
 raw_or (form.Numbers lo hi) = inr (λ xs lines h. (let e = h.value in cc))
 raw_or form.Words = inr (λ xs lines h. (let e = h.value in cc))
 raw_or form.Flat = inr (λ xs lines h. (let e = h.value in cc))
-raw_or form.DeviceStats = inr (λ xs lines h. (let e = h.value in cc))
-raw_or form.DeviceLimits = inr (λ xs lines h. (let e = h.value in cc))
-raw_or (form.DeviceWeights most) = inr (λ xs lines h. (let e = h.value in cc))
-raw_or form.DeviceTargets = inr (λ xs lines h. (let e = h.value in cc))
+raw_or form.FlatLimits = inr (λ xs lines h. (let e = h.value in cc))
+raw_or (form.DeviceStats kernel) = inr (λ xs lines h. (let e = h.value in cc))
+raw_or (form.DeviceLimits kernel) = inr (λ xs lines h. (let e = h.value in cc))
+raw_or (form.DeviceWeights most kernel) = inr (λ xs lines h. (let e = h.value in cc))
+raw_or (form.DeviceTargets kernel) = inr (λ xs lines h. (let e = h.value in cc))
+raw_or form.DeviceParams = inr (λ xs lines h. (let e = h.value in cc))
 raw_or (form.Set most) = inr (λ xs lines h. (let e = h.value in cc))
 raw_or form.Partition = inr (λ xs lines h. (let e = h.value in cc))
 raw_or form.Pressure = inr (λ xs lines h. (let e = h.value in cc))
 raw_or form.Nested = inr (λ xs lines h. (let e = h.value in cc))
+raw_or form.NodeStats = inr (λ xs lines h. (let e = h.value in cc))
 raw_or form.Raw = inl refl
 
 raw_only : (k : ReadForm) (xs lines : List (List ℕ)) → ReadLines k (value.Raw xs) lines → k ≡ form.Raw

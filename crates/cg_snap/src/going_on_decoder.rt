@@ -1,10 +1,12 @@
 //! The decoder of a snapshot that leaves out what is at fault, and goes on.
-ghost use Rattle.std.specs.Prelude.{◌≡◌, ℕ, List, [], Option, Some, None, Ok, Err, MatchBool, MatchOption, length};
+ghost use Rattle.std.specs.Prelude.{◌≡◌, ◌≤◌, ◌++◌, ℕ, List, [], Option, Some, None, Ok, Err, MatchBool, MatchOption, length, take};
 ghost use Rattle.cg_text.specs.Token.{saturated};
 ghost use Rattle.cg_value.specs.Entry.{EntryData};
+ghost use Rattle.cg_value.specs.declared.profile.Profile.{Profile};
 ghost use Rattle.cg_snap.specs.Begun.{IsRecordEnd};
 ghost use Rattle.cg_snap.specs.GoingOn.{IsPassed, IsWanted, stream_limits};
 ghost use Rattle.cg_snap.specs.GoingOnDecoder.{GoingFinishIs, IsHeldOn, StandsOn, going_form_of, going_held_by, going_limits_of, going_stop_of};
+ghost use Rattle.cg_snap.specs.GoingOnEntry.{BlockDid, EntryDid, IsGivenBy, IsOfBlock};
 ghost use Rattle.cg_snap.specs.GoingOnState.{HasFound, form_of};
 ghost use Rattle.cg_snap.specs.RecordPlace.{IsRecordPlace};
 ghost use Rattle.cg_snap.specs.declared.going_on.Found.{Found};
@@ -12,6 +14,7 @@ ghost use Rattle.cg_snap.specs.declared.stop.Stop.{Stop};
 
 use crate::course::allowed;
 use crate::decoder::{Decoder, finish_records};
+use crate::event::{Event, Progress};
 use crate::going_on_records::GoingOnRecords;
 use crate::limits::Limits;
 use crate::record_place::RecordPlace;
@@ -37,6 +40,33 @@ impl Decoder<GoingOnRecords> {
             GoingOnRecords::new(alloc, profile, limits),
             limits.of_stream(),
         )
+    }
+
+    /// Consumes bytes of the block that is read until they close its entry, and gives this alone, more quickly than
+    /// `next`. Where it gives none it may not have consumed the whole piece, and what it answers is said of the block
+    /// alone: `next` tells what comes of the rest. It consumes nothing where lines are passed over or may be, and after
+    /// a stop.
+    pub fn next_entry(&mut self, piece: &[u8]) -> Progress<Entry>
+        ensures pulled { (p : List ℕ) (found : List Found) → self.old.stop ≡ None → StandsOn self.old p found →
+            EntryDid (going_form_of self.new) self.new.records self.new.meter p found piece.now
+            result.used result.what }
+        ensures block { (profile : Profile) (block : List ℕ) → self.old.stop ≡ None →
+            IsOfBlock profile self.old.records block →
+            BlockDid profile self.new.records (block ++ take result.used piece.now) result.what }
+        ensures used { result.used ≤ length piece.now }
+        ensures some { IsGivenBy result.used result.what }
+        ensures stuck { (s : Stop) → self.old.stop ≡ Some s → (result.used ≡ 0) × (self.new ≡ self.old) }
+        ensures stop { self.new.stop ≡ self.old.stop }
+        ensures form { going_form_of self.new ≡ going_form_of self.old }
+        ensures limits { going_limits_of self.new ≡ going_limits_of self.old }
+    {
+        if self.stop.is_some() {
+            return Progress {
+                used: 0,
+                what: Event::NeedMore,
+            };
+        }
+        self.records.pull_entry(&mut self.meter, piece)
     }
 
     /// The sum of the lengths of its vectors, or `u64::MAX` where that is more. It takes no memory.

@@ -4,15 +4,17 @@ ghost use Rattle.cg_text.specs.Texts.{Lacks};
 ghost use Rattle.cg_value.specs.declared.profile.Profile.{Profile};
 ghost use Rattle.cg_snap.specs.Course.{AreOfRecord, GoesForward, HasProgressed};
 ghost use Rattle.cg_snap.specs.GoingOn.{IsCause, Told, block_limits};
-ghost use Rattle.cg_snap.specs.GoingOnState.{FaultLeaves, HasTold, IsAgain, IsEnded, IsLeft, IsOfEntry, IsPathAt, IsReading, IsUnsettled, IsWholeStop};
+ghost use Rattle.cg_snap.specs.GoingOnEntry.{BlockDid, EntryDid, IsGivenBy, IsOfBlock};
+ghost use Rattle.cg_snap.specs.GoingOnState.{FaultLeaves, HasTold, IsAgain, IsEnded, IsLeft, IsOfEntry, IsPathAt, IsReading, IsUnsettled, IsWholeStop, form_of, going_stream};
 ghost use Rattle.cg_snap.specs.Streams.{snap_stream};
 ghost use Rattle.cg_snap.specs.SnapStop.{SnapStopOf};
 ghost use Rattle.cg_snap.specs.declared.event.Event.TheVariants as events;
+ghost use Rattle.cg_snap.specs.declared.going_on.Found.{Found};
 ghost use Rattle.cg_snap.specs.declared.limits.Limits.{Limits};
 ghost use Rattle.cg_snap.specs.declared.stop.Stop.{Stop};
 
 use crate::class::is_nameless;
-use crate::course::advance;
+use crate::course::{advance, pull};
 use crate::entry::ended;
 use crate::event::{Event, Progress};
 use crate::fault::Fault;
@@ -306,6 +308,34 @@ impl GoingOnRecords {
             Some(_) => bytes.min(1),
             None => bytes,
         }
+    }
+
+    /// Takes bytes of the block, to the NUL that closes its entry, where nothing was left out that may go on. Counts
+    /// them.
+    pub(crate) fn pull_entry(&mut self, meter: &mut Meter, piece: &[u8]) -> Progress<Entry>
+        ensures pulled { (form : Profile × Limits) (p : List ℕ) (found : List Found) →
+            HasProgressed (going_stream form) self.old meter.old p found →
+            EntryDid form self.new meter.new p found piece.now result.used result.what }
+        ensures block { (profile : Profile) (block : List ℕ) → IsOfBlock profile self.old block →
+            BlockDid profile self.new (block ++ take result.used piece.now) result.what }
+        ensures used { result.used ≤ length piece.now }
+        ensures some { IsGivenBy result.used result.what }
+        ensures form { form_of self.new ≡ form_of self.old }
+        ensures limits { meter.new.limits ≡ meter.old.limits }
+    {
+        if self.is_passing || self.left_out.is_some() {
+            return Progress {
+                used: 0,
+                what: Event::NeedMore,
+            };
+        }
+        let (front, _) = piece.split_at(meter.room(piece.len()));
+        let progress = pull(&mut self.block, &mut self.meter, front);
+        meter.count_to(progress.used, self.meter.record_len);
+        if let Event::Given(_) = &progress.what {
+            self.meter.begin_at_record();
+        }
+        progress
     }
 }
 

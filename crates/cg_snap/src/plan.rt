@@ -58,7 +58,8 @@ pub(crate) fn path_refusal(profile: Profile, begun: &Vec<u8>, byte: u8) -> Optio
 /// The item of a whole line. There always is one.
 fn written(profile: Profile, writing: CurrentItem) -> Option<PlanItem>
     ensures { (kind : WriteForm) (line : List ℕ) → IsPath writing.path.items →
-        WritesAt profile writing.path.items (Some kind) → Lacks 10 line → SettingReads writing.reader kind (line ++ 10 ∷ []) →
+        WritesAt profile writing.path.items (Some kind) → Lacks 10 line →
+        SettingReads writing.reader kind (line ++ 10 ∷ []) →
         MatchOption result ⊥ (λ item. (item.path ≡ writing.path.items) × IsItemLine profile item line) }
 {
     let CurrentItem { path, reader } = writing;

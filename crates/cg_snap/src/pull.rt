@@ -39,20 +39,11 @@ impl Pull for PlanRecords {
 }
 
 impl Pull for GoingOnRecords {
-    // Where nothing was left out that may go on, the block takes all bytes to its end at once. Behind what it didn't
-    // take the stream is read on record by record.
+    // Behind what the block didn't take at once the stream is read on record by record.
     fn pull(&mut self, meter: &mut Meter, piece: &[u8]) -> Progress<Found> {
-        if self.is_passing || self.left_out.is_some() {
-            return pull(self, meter, piece);
-        }
-        let (front, _) = piece.split_at(meter.room(piece.len()));
-        let Progress { used, what } = pull(&mut self.block, &mut self.meter, front);
-        meter.count_to(used, self.meter.record_len);
+        let Progress { used, what } = self.pull_entry(meter, piece);
         match what {
-            Event::Given(entry) => {
-                self.meter.begin_at_record();
-                given(used, entry)
-            }
+            Event::Given(entry) => given(used, entry),
             _ => pull_rest(self, meter, piece, used),
         }
     }

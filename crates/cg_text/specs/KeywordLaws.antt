@@ -6,8 +6,8 @@ use Rattle.cg_text.specs.Texts.{Lacks}
 use Rattle.cg_text.specs.Token.{AreBytes}
 use Rattle.cg_text.specs.Keyword.{text_of}
 use Rattle.cg_text.specs.declared.keyword.Keyword.{Keyword}
-use Rattle.cg_text.specs.declared.keyword.Keyword.TheVariants.{Max, Unknown, Default, Some, Full, Domain, DomainThreaded, DomainInvalid, Threaded, Member, Root, Isolated, Invalid, Opening, Rbps, Wbps, Riops}
-use Rattle.cg_text.specs.declared.keyword.Keyword.TheVariants.{Wiops, Target, Swappiness, Avg10, Avg60, Avg300, Total}
+use Rattle.cg_text.specs.declared.keyword.Keyword.TheVariants.{Max, Unknown, Default, Some, Full, Domain, DomainThreaded, DomainInvalid, Threaded, NoChange, PromoteToRt, RestrictToBe, Idle, NoneToRt}
+use Rattle.cg_text.specs.declared.keyword.Keyword.TheVariants.{Member, Root, Isolated, Invalid, Opening, Rbps, Wbps, Riops, Wiops, Target, Swappiness, Avg10, Avg60, Avg300, Total, NodeTotal}
 
 tested_bytes : (xs : List ℕ) → list_all (λ b. nat_lt b 256) xs ≡ true → AreBytes xs
 tested_bytes [] e = tt
@@ -31,6 +31,11 @@ keyword_bytes Domain = tested_bytes (text_of Domain) refl
 keyword_bytes DomainThreaded = tested_bytes (text_of DomainThreaded) refl
 keyword_bytes DomainInvalid = tested_bytes (text_of DomainInvalid) refl
 keyword_bytes Threaded = tested_bytes (text_of Threaded) refl
+keyword_bytes NoChange = tested_bytes (text_of NoChange) refl
+keyword_bytes PromoteToRt = tested_bytes (text_of PromoteToRt) refl
+keyword_bytes RestrictToBe = tested_bytes (text_of RestrictToBe) refl
+keyword_bytes Idle = tested_bytes (text_of Idle) refl
+keyword_bytes NoneToRt = tested_bytes (text_of NoneToRt) refl
 keyword_bytes Member = tested_bytes (text_of Member) refl
 keyword_bytes Root = tested_bytes (text_of Root) refl
 keyword_bytes Isolated = tested_bytes (text_of Isolated) refl
@@ -46,6 +51,7 @@ keyword_bytes Avg10 = tested_bytes (text_of Avg10) refl
 keyword_bytes Avg60 = tested_bytes (text_of Avg60) refl
 keyword_bytes Avg300 = tested_bytes (text_of Avg300) refl
 keyword_bytes Total = tested_bytes (text_of Total) refl
+keyword_bytes NodeTotal = tested_bytes (text_of NodeTotal) refl
 
 -- None has a newline.
 pub keyword_lacks : (keyword : Keyword) → Lacks 10 (text_of keyword)
@@ -58,6 +64,11 @@ keyword_lacks Domain = tested_lacks 10 (text_of Domain) refl
 keyword_lacks DomainThreaded = tested_lacks 10 (text_of DomainThreaded) refl
 keyword_lacks DomainInvalid = tested_lacks 10 (text_of DomainInvalid) refl
 keyword_lacks Threaded = tested_lacks 10 (text_of Threaded) refl
+keyword_lacks NoChange = tested_lacks 10 (text_of NoChange) refl
+keyword_lacks PromoteToRt = tested_lacks 10 (text_of PromoteToRt) refl
+keyword_lacks RestrictToBe = tested_lacks 10 (text_of RestrictToBe) refl
+keyword_lacks Idle = tested_lacks 10 (text_of Idle) refl
+keyword_lacks NoneToRt = tested_lacks 10 (text_of NoneToRt) refl
 keyword_lacks Member = tested_lacks 10 (text_of Member) refl
 keyword_lacks Root = tested_lacks 10 (text_of Root) refl
 keyword_lacks Isolated = tested_lacks 10 (text_of Isolated) refl
@@ -73,3 +84,4 @@ keyword_lacks Avg10 = tested_lacks 10 (text_of Avg10) refl
 keyword_lacks Avg60 = tested_lacks 10 (text_of Avg60) refl
 keyword_lacks Avg300 = tested_lacks 10 (text_of Avg300) refl
 keyword_lacks Total = tested_lacks 10 (text_of Total) refl
+keyword_lacks NodeTotal = tested_lacks 10 (text_of NodeTotal) refl

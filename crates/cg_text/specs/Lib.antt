@@ -5,6 +5,7 @@ pub mod ByteLaws
 pub mod Bytes
 pub mod BytesLaws
 pub mod Clamp
+pub mod Class
 pub mod Decimal
 pub mod DecimalLaws
 pub mod DecimalState

@@ -28,6 +28,16 @@ pub enum Keyword {
     DomainInvalid,
     /// `threaded`: a threaded group.
     Threaded,
+    /// `no-change`: requests keep their priority.
+    NoChange,
+    /// `promote-to-rt`: requests get the class of real time.
+    PromoteToRt,
+    /// `restrict-to-be`: requests get the class of best effort at most.
+    RestrictToBe,
+    /// `idle`: requests get the class that is served when no other wants the device.
+    Idle,
+    /// `none-to-rt`: the old word for `promote-to-rt`.
+    NoneToRt,
     /// `member`: a partition's member, which is no root.
     Member,
     /// `root`: a partition root.
@@ -58,6 +68,8 @@ pub enum Keyword {
     Avg300,
     /// ` total=`: before the total stall time.
     Total,
+    /// `total=`: before the total of all nodes.
+    NodeTotal,
 }
 
 impl Keyword {
@@ -75,6 +87,11 @@ impl Keyword {
             Keyword::DomainThreaded => b"domain threaded",
             Keyword::DomainInvalid => b"domain invalid",
             Keyword::Threaded => b"threaded",
+            Keyword::NoChange => b"no-change",
+            Keyword::PromoteToRt => b"promote-to-rt",
+            Keyword::RestrictToBe => b"restrict-to-be",
+            Keyword::Idle => b"idle",
+            Keyword::NoneToRt => b"none-to-rt",
             Keyword::Member => b"member",
             Keyword::Root => b"root",
             Keyword::Isolated => b"isolated",
@@ -90,6 +107,7 @@ impl Keyword {
             Keyword::Avg60 => b" avg60=",
             Keyword::Avg300 => b" avg300=",
             Keyword::Total => b" total=",
+            Keyword::NodeTotal => b"total=",
         }
     }
 }

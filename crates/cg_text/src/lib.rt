@@ -50,5 +50,5 @@ pub use signed::SignedText;
 pub use size::SizeText;
 pub use token::Token;
 pub use trigger::{Times, TriggerText};
-pub use values::{Amount, Clamp, Device, Hundredths, Limit, ParamValue};
+pub use values::{Amount, Clamp, Device, Hundredths, IoClass, Limit, ParamValue};
 pub use word::WordText;

@@ -1,4 +1,6 @@
 //! The values that tokens spell.
+ghost use Rattle.std.specs.Prelude.{◌≡◌};
+ghost use Rattle.cg_text.specs.Class.{class_text};
 
 use crate::key::Key;
 
@@ -45,4 +47,34 @@ pub enum ParamValue {
 pub struct Device {
     pub major: u32,
     pub minor: u32,
+}
+
+/// What becomes of the priorities of a group's requests (cgroup-v2.rst, "IO Priority").
+#[derive(Clone, Copy, Debug, PartialEq, Eq)]
+pub enum IoClass {
+    /// `no-change`: they stay.
+    NoChange,
+    /// `promote-to-rt`: those of another class than real time get that class.
+    PromoteToRt,
+    /// `restrict-to-be`: those of no class, or of real time, get the class of best effort.
+    RestrictToBe,
+    /// `idle`: they get the lowest class.
+    Idle,
+    /// `none-to-rt`: the old word for `promote-to-rt`.
+    NoneToRt,
+}
+
+impl IoClass {
+    /// Its word.
+    pub fn word(self) -> &'static str
+        ensures { result.now ≡ class_text self }
+    {
+        match self {
+            IoClass::NoChange => "no-change",
+            IoClass::PromoteToRt => "promote-to-rt",
+            IoClass::RestrictToBe => "restrict-to-be",
+            IoClass::Idle => "idle",
+            IoClass::NoneToRt => "none-to-rt",
+        }
+    }
 }

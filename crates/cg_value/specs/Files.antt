@@ -1,5 +1,6 @@
 -- What a file is: lines that spell its value, each with its newline (cgroup-v2.rst, "Interface Files").
 use Rattle.std.specs.Prelude.{◌≡◌, ℕ, Bool, List, Option, Some}
+use Rattle.cg_text.specs.Class.{IsClass}
 use Rattle.cg_text.specs.Clamp.{IsClamp}
 use Rattle.cg_text.specs.Decimal.{IsDecimal}
 use Rattle.cg_text.specs.Limit.{IsLimit}
@@ -10,12 +11,13 @@ use Rattle.cg_text.specs.declared.hundredths.Spelling.TheVariants.{Read}
 use Rattle.cg_text.specs.declared.values.Limit.{Limit}
 use Rattle.cg_value.specs.Kind.{any_u64}
 use Rattle.cg_value.specs.Lines.{unlines, IsOneLine, AreLinesOf}
-use Rattle.cg_value.specs.ReadLine.{IsMode, IsCpuMax, AreWords, AreFlatLines, IsStatLine, IsLimitLine, AreWeightLines, IsTargetLine, IsPartition, ArePressureLines, AreNestedLines, IsRaw}
+use Rattle.cg_value.specs.ReadLine.{IsMode, IsCpuMax, AreWords, AreFlatLines, IsStatLine, IsLimitLine, AreWeightLines, IsTargetLine, IsPartition, ArePressureLines, AreNestedLines, IsNodeStats, IsRaw, AreFlatLimits, IsParamLine}
 use Rattle.cg_value.specs.Table.{read_form_of}
 use Rattle.cg_value.specs.declared.kind.ReadForm.{ReadForm}
 use Rattle.cg_value.specs.declared.kind.ReadForm.TheVariants as form
 use Rattle.cg_value.specs.declared.profile.Profile.{Profile}
 use Rattle.cg_value.specs.declared.value.Averages.{Averages}
+use Rattle.cg_value.specs.declared.value.NestedPair.{NestedPair}
 use Rattle.cg_value.specs.declared.value.Role.{Role}
 use Rattle.cg_value.specs.declared.value.Value.{Value}
 use Rattle.cg_value.specs.declared.value.Value.TheVariants as value
@@ -32,19 +34,23 @@ ReadLines (form.Number lo hi) v lines = IsOneLine (IsDecimal lo hi) value.Number
 ReadLines (form.Signed lo hi) v lines = IsOneLine (IsSigned lo hi) value.Signed v lines
 ReadLines form.Limit v lines = IsOneLine (IsLimit 0 any_u64) value.Limit v lines
 ReadLines form.Mode v lines = IsOneLine IsMode value.Mode v lines
+ReadLines form.Class v lines = IsOneLine IsClass value.Class v lines
 ReadLines form.CpuMax v lines = IsOneLine IsCpuMax (λ (x : Limit × ℕ). value.CpuMax (x.0) (x.1)) v lines
 ReadLines form.Clamp v lines = IsOneLine (IsClamp Read) value.Clamp v lines
 ReadLines (form.Numbers lo hi) v lines = AreLinesOf (IsDecimal lo hi) value.Numbers v lines
 ReadLines form.Words v lines = IsMadeOf AreWords value.Words v lines
 ReadLines form.Flat v lines = IsMadeOf AreFlatLines value.Flat v lines
-ReadLines form.DeviceStats v lines = AreLinesOf IsStatLine value.DeviceStats v lines
-ReadLines form.DeviceLimits v lines = AreLinesOf IsLimitLine value.DeviceLimits v lines
-ReadLines (form.DeviceWeights most) v lines = AreWeightLines most v lines
-ReadLines form.DeviceTargets v lines = AreLinesOf IsTargetLine value.DeviceTargets v lines
+ReadLines form.FlatLimits v lines = IsMadeOf AreFlatLimits value.FlatLimits v lines
+ReadLines (form.DeviceStats kernel) v lines = AreLinesOf (IsStatLine kernel) value.DeviceStats v lines
+ReadLines (form.DeviceLimits kernel) v lines = AreLinesOf (IsLimitLine kernel) value.DeviceLimits v lines
+ReadLines (form.DeviceWeights most kernel) v lines = AreWeightLines most kernel v lines
+ReadLines (form.DeviceTargets kernel) v lines = AreLinesOf (IsTargetLine kernel) value.DeviceTargets v lines
+ReadLines form.DeviceParams v lines = AreLinesOf IsParamLine value.DeviceParams v lines
 ReadLines (form.Set most) v lines = IsOneLine (IsStrictList most) value.Set v lines
 ReadLines form.Partition v lines = IsOneLine (λ (x : Role × Bool × Option (List ℕ)) line. IsPartition (x.0) (x.1) (x.2) line) (λ x. value.Partition (x.0) (x.1) (x.2)) v lines
 ReadLines form.Pressure v lines = IsMadeOf (λ (x : Option Averages × Option Averages) ls. ArePressureLines (x.0) (x.1) ls) (λ x. value.Pressure (x.0) (x.1)) v lines
 ReadLines form.Nested v lines = IsMadeOf AreNestedLines value.Nested v lines
+ReadLines form.NodeStats v lines = IsOneLine IsNodeStats (λ (x : ℕ × List NestedPair). value.NodeStats (x.0) (x.1)) v lines
 ReadLines form.Raw v lines = AreLinesOf IsRaw value.Raw v lines
 
 -- A file of this kind can hold the value.

@@ -13,6 +13,7 @@ use Rattle.cg_text.specs.Word.{IsControllerWord}
 use Rattle.cg_text.specs.declared.hundredths.Spelling.TheVariants.{Read}
 use Rattle.cg_text.specs.declared.values.Clamp.TheVariants as clamp
 use Rattle.cg_text.specs.declared.values.Limit.TheVariants as limit
+use Rattle.cg_text.specs.declared.values.ParamValue.TheVariants as param
 use Rattle.cg_value.specs.Files.{ReadLines, KindFile}
 use Rattle.cg_value.specs.Kind.{any_u64, IsReadForm}
 use Rattle.cg_value.specs.Laws.{IsFirstLine, MayHaveNoLine}
@@ -23,6 +24,7 @@ use Rattle.cg_value.specs.declared.kind.ReadForm.{ReadForm}
 use Rattle.cg_value.specs.declared.kind.ReadForm.TheVariants as form
 use Rattle.cg_value.specs.declared.value.Averages.{Averages}
 use Rattle.cg_value.specs.declared.value.GroupMode.TheVariants.{Domain}
+use Rattle.cg_text.specs.declared.values.IoClass.TheVariants.{Idle}
 use Rattle.cg_value.specs.declared.value.Role.TheVariants.{Member}
 use Rattle.cg_value.specs.declared.value.Value.{Value}
 use Rattle.cg_value.specs.declared.value.Value.TheVariants as value
@@ -77,6 +79,7 @@ first_value (form.Number lo hi) b = (value.Number lo, decimal lo, record { x = l
 first_value (form.Signed lo hi) b = (value.Signed (pos 0), codes "0", record { x = pos 0; line = codes "0"; value = refl; lines_are = refl; spelled = signed_zero lo hi b.0 b.1 })
 first_value form.Limit b = (value.Limit limit.Max, codes "max", record { x = limit.Max; line = codes "max"; value = refl; lines_are = refl; spelled = refl })
 first_value form.Mode b = (value.Mode Domain, codes "domain", record { x = Domain; line = codes "domain"; value = refl; lines_are = refl; spelled = refl })
+first_value form.Class b = (value.Class Idle, codes "idle", record { x = Idle; line = codes "idle"; value = refl; lines_are = refl; spelled = refl })
 first_value form.CpuMax b = (
   value.CpuMax limit.Max 0,
   codes "max 0",
@@ -104,20 +107,32 @@ first_value form.Flat b = (
     };
   },
 )
-first_value form.DeviceStats b = (
-  value.DeviceStats (record { device = record { major = 0; minor = 0 }; pad = false; pairs = [] } ∷ []),
+first_value form.FlatLimits b = (
+  value.FlatLimits (record { key = codes "a"; limit = limit.Max } ∷ []),
+  codes "a max",
+  record {
+    x = record { key = codes "a"; limit = limit.Max } ∷ [];
+    value = refl;
+    spelled = record {
+      each = (record { front = codes "a"; back = codes "max"; text_is = refl; front_is = (refl, (omega arith, ((omega arith, omega arith, (λ e. omega (arith, e))), tt))); back_is = refl }, tt);
+      distinct = (tt, tt);
+    };
+  },
+)
+first_value (form.DeviceStats kernel) b = (
+  value.DeviceStats (record { device = Some (record { major = 0; minor = 0 }); pad = false; pairs = [] } ∷ []),
   codes "0:0",
   record {
-    xs = record { device = record { major = 0; minor = 0 }; pad = false; pairs = [] } ∷ [];
+    xs = record { device = Some (record { major = 0; minor = 0 }); pad = false; pairs = [] } ∷ [];
     value = refl;
     spelled = (record { device = codes "0:0"; pairs = []; line_is = refl; device_is = device; pairs_are = refl; distinct = tt }, tt);
   },
 )
-first_value form.DeviceLimits b = (
-  value.DeviceLimits (record { device = record { major = 0; minor = 0 }; rbps = limit.Max; wbps = limit.Max; riops = limit.Max; wiops = limit.Max } ∷ []),
+first_value (form.DeviceLimits kernel) b = (
+  value.DeviceLimits (record { device = Some (record { major = 0; minor = 0 }); rbps = limit.Max; wbps = limit.Max; riops = limit.Max; wiops = limit.Max } ∷ []),
   codes "0:0 rbps=max wbps=max riops=max wiops=max",
   record {
-    xs = record { device = record { major = 0; minor = 0 }; rbps = limit.Max; wbps = limit.Max; riops = limit.Max; wiops = limit.Max } ∷ [];
+    xs = record { device = Some (record { major = 0; minor = 0 }); rbps = limit.Max; wbps = limit.Max; riops = limit.Max; wiops = limit.Max } ∷ [];
     value = refl;
     spelled = (
       record {
@@ -137,7 +152,7 @@ first_value form.DeviceLimits b = (
     );
   },
 )
-first_value (form.DeviceWeights most) b = (
+first_value (form.DeviceWeights most kernel) b = (
   value.DeviceWeights 1 [],
   codes "default 1",
   record {
@@ -151,13 +166,33 @@ first_value (form.DeviceWeights most) b = (
     others_are = tt;
   },
 )
-first_value form.DeviceTargets b = (
-  value.DeviceTargets (record { device = record { major = 0; minor = 0 }; target = 0 } ∷ []),
+first_value (form.DeviceTargets kernel) b = (
+  value.DeviceTargets (record { device = Some (record { major = 0; minor = 0 }); target = 0 } ∷ []),
   codes "0:0 target=0",
   record {
-    xs = record { device = record { major = 0; minor = 0 }; target = 0 } ∷ [];
+    xs = record { device = Some (record { major = 0; minor = 0 }); target = 0 } ∷ [];
     value = refl;
     spelled = (record { front = codes "0:0"; back = codes "0"; text_is = refl; front_is = device; back_is = zero any_u64 }, tt);
+  },
+)
+first_value form.DeviceParams b = (
+  value.DeviceParams (record { device = Some (record { major = 0; minor = 0 }); params = record { key = codes "a"; value = param.Whole 0 } ∷ [] } ∷ []),
+  codes "0:0 a=0",
+  record {
+    xs = record { device = Some (record { major = 0; minor = 0 }); params = record { key = codes "a"; value = param.Whole 0 } ∷ [] } ∷ [];
+    value = refl;
+    spelled = (
+      record {
+        device = codes "0:0";
+        params = codes " a=0";
+        line_is = refl;
+        device_is = device;
+        some = omega arith;
+        params_are = (codes "a=0", [], refl, record { front = codes "a"; back = codes "0"; text_is = refl; front_is = (refl, (omega arith, ((omega arith, omega arith, (λ e. omega (arith, e))), tt))); back_is = zero any_u64 }, refl);
+        distinct = (tt, tt);
+      },
+      tt,
+    );
   },
 )
 first_value (form.Set most) b = (value.Set [], [], record { x = []; line = []; value = refl; lines_are = refl; spelled = (tt, refl) })
@@ -183,6 +218,17 @@ first_value form.Nested b = (
     };
   },
 )
+first_value form.NodeStats b = (
+  value.NodeStats 0 [],
+  codes "total=0",
+  record {
+    x = (0, []);
+    line = codes "total=0";
+    value = refl;
+    lines_are = refl;
+    spelled = record { total = codes "0"; nodes = []; line_is = refl; total_is = zero any_u64; nodes_are = refl; distinct = tt };
+  },
+)
 first_value form.Raw b = (value.Raw ([] ∷ []), [], record { xs = [] ∷ []; value = refl; spelled = ((refl, tt), tt) })
 
 -- Each kind has a file of one line.
@@ -201,19 +247,23 @@ may_be (form.Number lo hi) h = absurd h
 may_be (form.Signed lo hi) h = absurd h
 may_be form.Limit h = absurd h
 may_be form.Mode h = absurd h
+may_be form.Class h = absurd h
 may_be form.CpuMax h = absurd h
 may_be form.Clamp h = absurd h
 may_be (form.Numbers lo hi) h = (value.Numbers [], record { xs = []; value = refl; spelled = tt })
 may_be form.Words h = (value.Words [], record { x = []; value = refl; spelled = record { each = All-nil IsControllerWord; distinct = tt; lines_are = inr (refl, refl) } })
 may_be form.Flat h = (value.Flat [], record { x = []; value = refl; spelled = record { each = tt; distinct = tt } })
-may_be form.DeviceStats h = (value.DeviceStats [], record { xs = []; value = refl; spelled = tt })
-may_be form.DeviceLimits h = (value.DeviceLimits [], record { xs = []; value = refl; spelled = tt })
-may_be (form.DeviceWeights most) h = absurd h
-may_be form.DeviceTargets h = (value.DeviceTargets [], record { xs = []; value = refl; spelled = tt })
+may_be form.FlatLimits h = (value.FlatLimits [], record { x = []; value = refl; spelled = record { each = tt; distinct = tt } })
+may_be (form.DeviceStats kernel) h = (value.DeviceStats [], record { xs = []; value = refl; spelled = tt })
+may_be (form.DeviceLimits kernel) h = (value.DeviceLimits [], record { xs = []; value = refl; spelled = tt })
+may_be (form.DeviceWeights most kernel) h = absurd h
+may_be (form.DeviceTargets kernel) h = (value.DeviceTargets [], record { xs = []; value = refl; spelled = tt })
+may_be form.DeviceParams h = (value.DeviceParams [], record { xs = []; value = refl; spelled = tt })
 may_be (form.Set most) h = absurd h
 may_be form.Partition h = absurd h
 may_be form.Pressure h = absurd h
 may_be form.Nested h = (value.Nested [], record { x = []; value = refl; spelled = record { each = tt; distinct = tt } })
+may_be form.NodeStats h = absurd h
 may_be form.Raw h = (value.Raw [], record { xs = []; value = refl; spelled = tt })
 
 no_pressure : (some full : Option Averages) (lines : List (List ℕ)) → ArePressureLines some full lines → [] ≡ unlines lines → ⊥
@@ -227,19 +277,23 @@ may_only (form.Number lo hi) v lines h e = no_first h.line lines [] h.lines_are 
 may_only (form.Signed lo hi) v lines h e = no_first h.line lines [] h.lines_are e
 may_only form.Limit v lines h e = no_first h.line lines [] h.lines_are e
 may_only form.Mode v lines h e = no_first h.line lines [] h.lines_are e
+may_only form.Class v lines h e = no_first h.line lines [] h.lines_are e
 may_only form.CpuMax v lines h e = no_first h.line lines [] h.lines_are e
 may_only form.Clamp v lines h e = no_first h.line lines [] h.lines_are e
 may_only (form.Numbers lo hi) v lines h e = tt
 may_only form.Words v lines h e = tt
 may_only form.Flat v lines h e = tt
-may_only form.DeviceStats v lines h e = tt
-may_only form.DeviceLimits v lines h e = tt
-may_only (form.DeviceWeights most) v lines h e = no_first h.first lines h.others h.lines_are e
-may_only form.DeviceTargets v lines h e = tt
+may_only form.FlatLimits v lines h e = tt
+may_only (form.DeviceStats kernel) v lines h e = tt
+may_only (form.DeviceLimits kernel) v lines h e = tt
+may_only (form.DeviceWeights most kernel) v lines h e = no_first h.first lines h.others h.lines_are e
+may_only (form.DeviceTargets kernel) v lines h e = tt
+may_only form.DeviceParams v lines h e = tt
 may_only (form.Set most) v lines h e = no_first h.line lines [] h.lines_are e
 may_only form.Partition v lines h e = no_first h.line lines [] h.lines_are e
 may_only form.Pressure v lines h e = no_pressure (h.x.0) (h.x.1) lines h.spelled e
 may_only form.Nested v lines h e = tt
+may_only form.NodeStats v lines h e = no_first h.line lines [] h.lines_are e
 may_only form.Raw v lines h e = tt
 
 -- The kinds that have the text of no bytes.

@@ -1,6 +1,7 @@
 -- What holds of values that fit kinds, kind by kind.
 use Rattle.std.proofs.Common.{◌≡◌, ℕ, ◌↔◌, ℤ, Bool, List, [], ◌∷◌, ◌++◌, Option, map, codes, refl}
 use Rattle.std.specs.List.{AllZip}
+use Rattle.cg_text.specs.Class.{class_text}
 use Rattle.cg_text.specs.Clamp.{IsClamp}
 use Rattle.cg_text.specs.Decimal.{IsDecimal}
 use Rattle.cg_text.specs.Distinct.{AreDistinct}
@@ -14,15 +15,19 @@ use Rattle.cg_value.specs.Files.{IsMadeOf, ReadLines, Fits}
 use Rattle.cg_value.specs.Flat.{HasDistinctKeys}
 use Rattle.cg_value.specs.Kind.{any_u64}
 use Rattle.cg_value.specs.Lines.{IsOneLine, AreLinesOf}
-use Rattle.cg_value.specs.ReadLine.{mode_text, IsCpuMax, AreWords, IsFlatLine, AreFlatLines, IsStatLine, IsLimitLine, IsDefaultLine, IsWeightLine, IsTargetLine, IsPartition, ArePressureLines, IsNestedLine, AreNestedLines, IsRaw}
+use Rattle.cg_value.specs.ReadLine.{mode_text, IsCpuMax, AreWords, IsFlatLine, AreFlatLines, IsStatLine, IsLimitLine, IsDefaultLine, IsWeightLine, IsTargetLine, IsPartition, ArePressureLines, IsNestedLine, AreNestedLines, IsNodeStats, IsRaw, IsFlatLimit, AreFlatLimits, IsParamLine}
 use Rattle.cg_value.specs.SpelledLaws.{HasText, HasLines, parts_text, flat_distinct}
 use Rattle.cg_value.specs.declared.flat.FlatPair.{FlatPair}
 use Rattle.cg_value.specs.declared.kind.ReadForm.{ReadForm}
 use Rattle.cg_value.specs.declared.kind.ReadForm.TheVariants as form
 use Rattle.cg_value.specs.declared.value.Averages.{Averages}
+use Rattle.cg_value.specs.declared.value.FlatLimit.{FlatLimit}
 use Rattle.cg_value.specs.declared.value.GroupMode.{GroupMode}
+use Rattle.cg_text.specs.declared.values.IoClass.{IoClass}
 use Rattle.cg_value.specs.declared.value.LimitLine.{LimitLine}
 use Rattle.cg_value.specs.declared.value.NestedLine.{NestedLine}
+use Rattle.cg_value.specs.declared.value.NestedPair.{NestedPair}
+use Rattle.cg_value.specs.declared.value.ParamLine.{ParamLine}
 use Rattle.cg_value.specs.declared.value.Role.{Role}
 use Rattle.cg_value.specs.declared.value.StatLine.{StatLine}
 use Rattle.cg_value.specs.declared.value.TargetLine.{TargetLine}
@@ -74,6 +79,9 @@ limit_fits l = through form.Limit (value.Limit l) (one_on (IsLimit 0 any_u64) va
 pub mode_fits : (m : GroupMode) → Fits form.Mode (value.Mode m)
 mode_fits m = record { lines = mode_text m ∷ []; spelled = record { x = m; line = mode_text m; value = refl; lines_are = refl; spelled = refl } }
 
+pub class_fits : (c : IoClass) → Fits form.Class (value.Class c)
+class_fits c = record { lines = class_text c ∷ []; spelled = record { x = c; line = class_text c; value = refl; lines_are = refl; spelled = refl } }
+
 cpu_max_one : (x y : Limit × ℕ) → value.CpuMax (x.0) (x.1) ≡ value.CpuMax (y.0) (y.1) → x ≡ y
 cpu_max_one (a, b) (c, d) e = cc
 
@@ -106,11 +114,20 @@ flat_lines ps d = (
 pub flat_fits : (ps : List FlatPair) → HasDistinctKeys ps → HasLines (AllZip IsFlatLine ps) ↔ Fits form.Flat (value.Flat ps)
 flat_fits ps d = through form.Flat (value.Flat ps) (λ h. made_on AreFlatLines value.Flat (λ x y e. cc) ps ((flat_lines ps d).0 h)) (λ lines h. (flat_lines ps d).1 (made_back AreFlatLines value.Flat (λ x y e. cc) ps lines h))
 
-pub stats_fit : (ls : List StatLine) → HasLines (AllZip IsStatLine ls) ↔ Fits form.DeviceStats (value.DeviceStats ls)
-stats_fit ls = through form.DeviceStats (value.DeviceStats ls) (of_on IsStatLine value.DeviceStats (λ x y e. cc) ls) (of_back IsStatLine value.DeviceStats (λ x y e. cc) ls)
+flat_limit_lines : (ps : List FlatLimit) → (HasLines (AllZip IsFlatLimit ps) × AreDistinct (map (λ p. p.key) ps)) ↔ HasLines (AreFlatLimits ps)
+flat_limit_lines ps = (
+  λ h. record { lines = h.0.lines; spelled = record { each = h.0.spelled; distinct = h.1 } },
+  λ h. (record { lines = h.lines; spelled = h.spelled.each }, h.spelled.distinct),
+)
 
-pub limits_fit : (ls : List LimitLine) → HasLines (AllZip IsLimitLine ls) ↔ Fits form.DeviceLimits (value.DeviceLimits ls)
-limits_fit ls = through form.DeviceLimits (value.DeviceLimits ls) (of_on IsLimitLine value.DeviceLimits (λ x y e. cc) ls) (of_back IsLimitLine value.DeviceLimits (λ x y e. cc) ls)
+pub flat_limits_fit : (ps : List FlatLimit) → (HasLines (AllZip IsFlatLimit ps) × AreDistinct (map (λ p. p.key) ps)) ↔ Fits form.FlatLimits (value.FlatLimits ps)
+flat_limits_fit ps = through form.FlatLimits (value.FlatLimits ps) (λ h. made_on AreFlatLimits value.FlatLimits (λ x y e. cc) ps ((flat_limit_lines ps).0 h)) (λ lines h. (flat_limit_lines ps).1 (made_back AreFlatLimits value.FlatLimits (λ x y e. cc) ps lines h))
+
+pub stats_fit : (kernel : Bool) (ls : List StatLine) → HasLines (AllZip (IsStatLine kernel) ls) ↔ Fits (form.DeviceStats kernel) (value.DeviceStats ls)
+stats_fit kernel ls = through (form.DeviceStats kernel) (value.DeviceStats ls) (of_on (IsStatLine kernel) value.DeviceStats (λ x y e. cc) ls) (of_back (IsStatLine kernel) value.DeviceStats (λ x y e. cc) ls)
+
+pub limits_fit : (kernel : Bool) (ls : List LimitLine) → HasLines (AllZip (IsLimitLine kernel) ls) ↔ Fits (form.DeviceLimits kernel) (value.DeviceLimits ls)
+limits_fit kernel ls = through (form.DeviceLimits kernel) (value.DeviceLimits ls) (of_on (IsLimitLine kernel) value.DeviceLimits (λ x y e. cc) ls) (of_back (IsLimitLine kernel) value.DeviceLimits (λ x y e. cc) ls)
 
 default_line : (most weight : ℕ) → HasText (IsDecimal 1 most weight) ↔ HasText (IsDefaultLine most weight)
 default_line most weight = (
@@ -118,23 +135,26 @@ default_line most weight = (
   λ h. record { text = h.spelled.0; spelled = h.spelled.2 },
 )
 
-weights_on : (most weight : ℕ) (ls : List WeightLine) → HasText (IsDecimal 1 most weight) × HasLines (AllZip (IsWeightLine most) ls) → HasLines (ReadLines (form.DeviceWeights most) (value.DeviceWeights weight ls))
-weights_on most weight ls h =
+weights_on : (most weight : ℕ) (kernel : Bool) (ls : List WeightLine) → HasText (IsDecimal 1 most weight) × HasLines (AllZip (IsWeightLine most kernel) ls) → HasLines (ReadLines (form.DeviceWeights most kernel) (value.DeviceWeights weight ls))
+weights_on most weight kernel ls h =
     let first = (default_line most weight).0 h.0 in
     record { lines = first.text ∷ h.1.lines; spelled = record { default = weight; devices = ls; first = first.text; others = h.1.lines; value = refl; lines_are = refl; first_is = first.spelled; others_are = h.1.spelled } }
 
-weights_back : (most weight : ℕ) (ls : List WeightLine) (lines : List (List ℕ)) → ReadLines (form.DeviceWeights most) (value.DeviceWeights weight ls) lines → HasText (IsDecimal 1 most weight) × HasLines (AllZip (IsWeightLine most) ls)
-weights_back most weight ls lines h =
+weights_back : (most weight : ℕ) (kernel : Bool) (ls : List WeightLine) (lines : List (List ℕ)) → ReadLines (form.DeviceWeights most kernel) (value.DeviceWeights weight ls) lines → HasText (IsDecimal 1 most weight) × HasLines (AllZip (IsWeightLine most kernel) ls)
+weights_back most weight kernel ls lines h =
     let of_all : value.DeviceWeights weight ls ≡ value.DeviceWeights h.default h.devices = h.value in
     let one : weight ≡ h.default = cc in
     let same : ls ≡ h.devices = cc in
     (rw one ((default_line most h.default).1 (record { text = h.first; spelled = h.first_is })), record { lines = h.others; spelled = rw same h.others_are })
 
-pub weights_fit : (most weight : ℕ) (ls : List WeightLine) → (HasText (IsDecimal 1 most weight) × HasLines (AllZip (IsWeightLine most) ls)) ↔ Fits (form.DeviceWeights most) (value.DeviceWeights weight ls)
-weights_fit most weight ls = through (form.DeviceWeights most) (value.DeviceWeights weight ls) (weights_on most weight ls) (weights_back most weight ls)
+pub weights_fit : (most weight : ℕ) (kernel : Bool) (ls : List WeightLine) → (HasText (IsDecimal 1 most weight) × HasLines (AllZip (IsWeightLine most kernel) ls)) ↔ Fits (form.DeviceWeights most kernel) (value.DeviceWeights weight ls)
+weights_fit most weight kernel ls = through (form.DeviceWeights most kernel) (value.DeviceWeights weight ls) (weights_on most weight kernel ls) (weights_back most weight kernel ls)
 
-pub targets_fit : (ls : List TargetLine) → HasLines (AllZip IsTargetLine ls) ↔ Fits form.DeviceTargets (value.DeviceTargets ls)
-targets_fit ls = through form.DeviceTargets (value.DeviceTargets ls) (of_on IsTargetLine value.DeviceTargets (λ x y e. cc) ls) (of_back IsTargetLine value.DeviceTargets (λ x y e. cc) ls)
+pub targets_fit : (kernel : Bool) (ls : List TargetLine) → HasLines (AllZip (IsTargetLine kernel) ls) ↔ Fits (form.DeviceTargets kernel) (value.DeviceTargets ls)
+targets_fit kernel ls = through (form.DeviceTargets kernel) (value.DeviceTargets ls) (of_on (IsTargetLine kernel) value.DeviceTargets (λ x y e. cc) ls) (of_back (IsTargetLine kernel) value.DeviceTargets (λ x y e. cc) ls)
+
+pub params_fit : (ls : List ParamLine) → HasLines (AllZip IsParamLine ls) ↔ Fits form.DeviceParams (value.DeviceParams ls)
+params_fit ls = through form.DeviceParams (value.DeviceParams ls) (of_on IsParamLine value.DeviceParams (λ x y e. cc) ls) (of_back IsParamLine value.DeviceParams (λ x y e. cc) ls)
 
 pub set_fits : (most : ℕ) (set : List (ℕ × ℕ)) → HasText (IsStrictList most set) ↔ Fits (form.Set most) (value.Set set)
 set_fits most set = through (form.Set most) (value.Set set) (one_on (IsStrictList most) value.Set (λ x y e. cc) set) (one_back (IsStrictList most) value.Set (λ x y e. cc) set)
@@ -166,9 +186,17 @@ nested_lines ls = (
 pub nested_fits : (ls : List NestedLine) → (HasLines (AllZip IsNestedLine ls) × AreDistinct (map (λ l. l.key) ls)) ↔ Fits form.Nested (value.Nested ls)
 nested_fits ls = through form.Nested (value.Nested ls) (λ h. made_on AreNestedLines value.Nested (λ x y e. cc) ls ((nested_lines ls).0 h)) (λ lines h. (nested_lines ls).1 (made_back AreNestedLines value.Nested (λ x y e. cc) ls lines h))
 
+node_stats_one : (x y : ℕ × List NestedPair) → value.NodeStats (x.0) (x.1) ≡ value.NodeStats (y.0) (y.1) → x ≡ y
+node_stats_one (a, b) (c, d) e = cc
+
+pub node_stats_fit : (total : ℕ) (nodes : List NestedPair) → HasText (IsNodeStats (total, nodes)) ↔ Fits form.NodeStats (value.NodeStats total nodes)
+node_stats_fit total nodes =
+    let make = λ (x : ℕ × List NestedPair). value.NodeStats (x.0) (x.1) in
+    through form.NodeStats (value.NodeStats total nodes) (one_on IsNodeStats make node_stats_one (total, nodes)) (one_back IsNodeStats make node_stats_one (total, nodes))
+
 pub raw_fits : (ls : List (List ℕ)) → HasLines (AllZip IsRaw ls) ↔ Fits form.Raw (value.Raw ls)
 raw_fits ls = through form.Raw (value.Raw ls) (of_on IsRaw value.Raw (λ x y e. cc) ls) (of_back IsRaw value.Raw (λ x y e. cc) ls)
 
 -- The lemmas on the kinds.
 pub ruleset fits_laws =
-    (number_fits, signed_fits, limit_fits, mode_fits, cpu_max_fits, clamp_fits, numbers_fit, words_fit, flat_fits, stats_fit, limits_fit, weights_fit, targets_fit, set_fits, partition_fits, pressure_fits, nested_fits, raw_fits)
+    (number_fits, signed_fits, limit_fits, mode_fits, class_fits, cpu_max_fits, clamp_fits, numbers_fit, words_fit, flat_fits, flat_limits_fit, stats_fit, limits_fit, weights_fit, targets_fit, params_fit, set_fits, partition_fits, pressure_fits, nested_fits, node_stats_fit, raw_fits)

@@ -1,6 +1,7 @@
 -- Which settings a write can hold: bounds on their numbers, and no more.
 use Rattle.std.proofs.Common.{◌≡◌, ◌≢◌, ℕ, suc, ◌+◌, ◌≤◌, ◌↔◌, inl, inr, ℤ, pos, negsuc, ◌≤ℤ◌, Bool, true, false, cond, List, [], ◌∷◌, ◌++◌, Option, Some, None, All, codes, refl, sym, ◌∙◌, ap, subst, append_assoc, arith}
 use Rattle.std.specs.Fmt.{decimal}
+use Rattle.cg_text.specs.Class.{class_text}
 use Rattle.cg_text.specs.Clamp.{IsClamp}
 use Rattle.cg_text.specs.Decimal.{IsDecimal}
 use Rattle.cg_text.specs.DecimalLaws.{numeral}
@@ -28,12 +29,13 @@ use Rattle.cg_value.specs.Print.{print_limit, print_clamp, print_device, print_s
 use Rattle.cg_value.specs.PrintTokenLaws.{decimal_prints, limit_prints, size_prints, clamp_prints, device_prints, ranges_print, loose_ranges}
 use Rattle.cg_value.specs.ReadLine.{role_text}
 use Rattle.cg_value.specs.Settings.{FitsWrite}
-use Rattle.cg_value.specs.Within.{IsWithin, IsLimitWithin, IsGivenWithin, IsClampWithin, IsDeviceWithin, IsQuotaWithin, IsGivenLimitWithin, NoneGiven, AreLimitsWithin, AreTimesWithin, AreRangesWithin}
-use Rattle.cg_value.specs.WriteLine.{IsSizeLimit, toggles_line, AreToggles, IsQuota, IsReclaim, IsLimitWrite, limits_setting, IsWeightWrite, IsTargetWrite, pressure_word, IsTrigger}
+use Rattle.cg_value.specs.Within.{IsWithin, IsLimitWithin, IsGivenWithin, IsClampWithin, IsDeviceWithin, IsQuotaWithin, IsGivenLimitWithin, NoneGiven, AreLimitsWithin, AreTimesWithin, AreRangesWithin, IsSwappinessWithin}
+use Rattle.cg_value.specs.WriteLine.{IsSizeLimit, toggles_line, AreToggles, IsQuota, IsSwappiness, IsReclaim, IsLimitWrite, limits_setting, IsWeightWrite, IsTargetWrite, pressure_word, IsTrigger}
 use Rattle.cg_value.specs.declared.kind.WriteForm.TheVariants as form
 use Rattle.cg_value.specs.declared.setting.Setting.{Setting}
 use Rattle.cg_value.specs.declared.setting.Setting.TheVariants as setting
 use Rattle.cg_value.specs.declared.setting.Toggle.{Toggle}
+use Rattle.cg_text.specs.declared.values.IoClass.{IoClass}
 use Rattle.cg_value.specs.declared.value.Role.{Role}
 
 append_nil : (xs : List ℕ) → xs ++ [] ≡ xs
@@ -79,18 +81,23 @@ quota_prints quota (Some n) h = record {
   back_is = decimal_prints 1000 1000000 n h.1 (omega arith);
 }
 
-pub reclaim_within : (size : ℕ) (swappiness : Option ℕ) (line : List ℕ) → IsReclaim size swappiness line → IsWithin 0 any_u64 size × IsGivenWithin 0 200 swappiness
-reclaim_within size None line h = ((omega arith, h.fits), tt)
-reclaim_within size (Some n) line h = ((omega arith, h.front_is.fits), (h.back_is.0, h.back_is.1))
+pub reclaim_within : (max : Bool) (size : ℕ) (swappiness : Option Limit) (line : List ℕ) → IsReclaim max size swappiness line → IsWithin 0 any_u64 size × IsSwappinessWithin max swappiness
+reclaim_within max size None line h = ((omega arith, h.fits), tt)
+reclaim_within max size (Some Max) line h = ((omega arith, h.front_is.fits), h.back_is.0)
+reclaim_within max size (Some (At n)) line h = ((omega arith, h.front_is.fits), (h.back_is.0, h.back_is.1))
 
-pub reclaim_prints : (size : ℕ) (swappiness : Option ℕ) → IsWithin 0 any_u64 size × IsGivenWithin 0 200 swappiness → IsReclaim size swappiness (decimal size ++ print_given (codes " swappiness=") decimal swappiness)
-reclaim_prints size None h = rw (append_nil (decimal size)) (size_prints size h.0.1)
-reclaim_prints size (Some n) h = record {
+swappiness_prints : (max : Bool) (l : Limit) → IsSwappinessWithin max (Some l) → IsSwappiness max l (print_limit l)
+swappiness_prints max Max h = (h, refl)
+swappiness_prints max (At n) h = decimal_prints 0 200 n h (omega arith)
+
+pub reclaim_prints : (max : Bool) (size : ℕ) (swappiness : Option Limit) → IsWithin 0 any_u64 size × IsSwappinessWithin max swappiness → IsReclaim max size swappiness (decimal size ++ print_given (codes " swappiness=") print_limit swappiness)
+reclaim_prints max size None h = rw (append_nil (decimal size)) (size_prints size h.0.1)
+reclaim_prints max size (Some l) h = record {
   front = decimal size;
-  back = decimal n;
-  text_is = sym (append_assoc (decimal size) (codes " swappiness=") (decimal n));
+  back = print_limit l;
+  text_is = sym (append_assoc (decimal size) (codes " swappiness=") (print_limit l));
   front_is = size_prints size h.0.1;
-  back_is = decimal_prints 0 200 n h.1 (omega arith);
+  back_is = swappiness_prints max l h.1;
 }
 
 pub weight_within : (most : ℕ) (device : Device) (weight : Option ℕ) (line : List ℕ) → IsWeightWrite most device weight line → IsDeviceWithin device × IsGivenWithin 1 most weight
@@ -259,6 +266,9 @@ clamp_fits c = (
 pub mode_fits : FitsWrite form.Mode setting.Threaded
 mode_fits = record { line = codes "threaded"; spelled = (refl, refl) }
 
+pub class_fits : (class : IoClass) → FitsWrite form.Class (setting.Class class)
+class_fits class = record { line = class_text class; spelled = record { x = class; value = refl; spelled = refl } }
+
 pub toggles_fit : (ts : List Toggle) → ((ts ≢ []) × All (λ t. IsControllerWord t.name) ts) ↔ FitsWrite form.Controllers (setting.Controllers ts)
 toggles_fit ts = (
   λ h. record { line = toggles_line ts; spelled = record { x = ts; value = refl; spelled = record { some = h.0; each = h.1; line_is = refl } } },
@@ -271,10 +281,10 @@ quota_fits quota period = (
   λ h. quota_within quota period h.line (made (λ (x : Limit × Option ℕ) l. IsQuota (x.0) (x.1) l) (λ x. setting.CpuMax (x.0) (x.1)) (λ x y e. same_pair x y (cc) (cc)) (quota, period) h.line h.spelled),
 )
 
-pub reclaim_fits : (size : ℕ) (swappiness : Option ℕ) → (IsWithin 0 any_u64 size × IsGivenWithin 0 200 swappiness) ↔ FitsWrite form.Reclaim (setting.Reclaim size swappiness)
-reclaim_fits size swappiness = (
-  λ h. record { line = decimal size ++ print_given (codes " swappiness=") decimal swappiness; spelled = record { x = (size, swappiness); value = refl; spelled = reclaim_prints size swappiness h } },
-  λ h. reclaim_within size swappiness h.line (made (λ (x : ℕ × Option ℕ) l. IsReclaim (x.0) (x.1) l) (λ x. setting.Reclaim (x.0) (x.1)) (λ x y e. same_pair x y (cc) (cc)) (size, swappiness) h.line h.spelled),
+pub reclaim_fits : (max : Bool) (size : ℕ) (swappiness : Option Limit) → (IsWithin 0 any_u64 size × IsSwappinessWithin max swappiness) ↔ FitsWrite (form.Reclaim max) (setting.Reclaim size swappiness)
+reclaim_fits max size swappiness = (
+  λ h. record { line = decimal size ++ print_given (codes " swappiness=") print_limit swappiness; spelled = record { x = (size, swappiness); value = refl; spelled = reclaim_prints max size swappiness h } },
+  λ h. reclaim_within max size swappiness h.line (made (λ (x : ℕ × Option Limit) l. IsReclaim max (x.0) (x.1) l) (λ x. setting.Reclaim (x.0) (x.1)) (λ x y e. same_pair x y (cc) (cc)) (size, swappiness) h.line h.spelled),
 )
 
 abbrev limits_of : Option Limit → Option Limit → Option Limit → Option Limit → LimitPairs

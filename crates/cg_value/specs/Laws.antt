@@ -69,9 +69,11 @@ abbrev pub MayHaveNoLine : ReadForm → Type 0
 MayHaveNoLine (form.Numbers lo hi) = Unit {0}
 MayHaveNoLine form.Words = Unit {0}
 MayHaveNoLine form.Flat = Unit {0}
-MayHaveNoLine form.DeviceStats = Unit {0}
-MayHaveNoLine form.DeviceLimits = Unit {0}
-MayHaveNoLine form.DeviceTargets = Unit {0}
+MayHaveNoLine form.FlatLimits = Unit {0}
+MayHaveNoLine (form.DeviceStats kernel) = Unit {0}
+MayHaveNoLine (form.DeviceLimits kernel) = Unit {0}
+MayHaveNoLine (form.DeviceTargets kernel) = Unit {0}
+MayHaveNoLine form.DeviceParams = Unit {0}
 MayHaveNoLine form.Nested = Unit {0}
 MayHaveNoLine form.Raw = Unit {0}
 MayHaveNoLine _ = ⊥

@@ -1,5 +1,5 @@
 -- What is looked up in values.
-use Rattle.std.specs.Prelude.{ℕ, Bool, nat_eq, ◌&&◌, List, [], ◌∷◌, Option, Some, None, if◌then◌else◌}
+use Rattle.std.specs.Prelude.{ℕ, Bool, false, nat_eq, ◌&&◌, List, [], ◌∷◌, Option, Some, None, if◌then◌else◌}
 use Rattle.std.specs.Str.{bytes_eq}
 use Rattle.cg_text.specs.declared.values.Amount.{Amount}
 use Rattle.cg_text.specs.declared.values.Device.{Device}
@@ -13,6 +13,11 @@ use Rattle.cg_value.specs.declared.value.WeightLine.{WeightLine}
 -- Whether the two are one device.
 abbrev pub is_device : Device → Device → Bool
 is_device a b = nat_eq a.major b.major && nat_eq a.minor b.minor
+
+-- Whether the line is of the device: one that is gone is no device.
+abbrev pub is_of : Option Device → Device → Bool
+is_of (Some a) b = is_device a b
+is_of None b = false
 
 -- The number of the key in a flat value.
 abbrev pub number_in : Value → List ℕ → Option ℕ
@@ -32,7 +37,7 @@ first_of (Some x) other = Some x
 -- The amount of the sub-key in the first line of the device that has it, if any.
 abbrev pub line_amount : Device → List ℕ → List StatLine → Option Amount
 line_amount device key [] = None
-line_amount device key (l ∷ ls) = if is_device l.device device then first_of (pair_amount key l.pairs) (line_amount device key ls) else line_amount device key ls
+line_amount device key (l ∷ ls) = if is_of l.device device then first_of (pair_amount key l.pairs) (line_amount device key ls) else line_amount device key ls
 
 abbrev pub amount_in : Value → Device → List ℕ → Option Amount
 amount_in (value.DeviceStats lines) device key = line_amount device key lines
@@ -41,7 +46,7 @@ amount_in _ device key = None
 -- The weight of the first line of the device, else the default.
 abbrev pub line_weight : Device → ℕ → List WeightLine → ℕ
 line_weight device default [] = default
-line_weight device default (l ∷ ls) = if is_device l.device device then l.weight else line_weight device default ls
+line_weight device default (l ∷ ls) = if is_of l.device device then l.weight else line_weight device default ls
 
 abbrev pub weight_in : Value → Device → Option ℕ
 weight_in (value.DeviceWeights default lines) device = Some (line_weight device default lines)

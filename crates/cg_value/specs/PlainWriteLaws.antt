@@ -29,8 +29,9 @@ use Rattle.cg_text.specs.declared.values.Device.{Device}
 use Rattle.cg_text.specs.declared.values.Limit.{Limit}
 use Rattle.cg_text.specs.declared.values.Limit.TheVariants.{Max, At}
 use Rattle.cg_value.specs.Kind.{any_u64}
+use Rattle.cg_value.specs.RawLinesLaws.{class_raw}
 use Rattle.cg_value.specs.ReadLine.{role_text}
-use Rattle.cg_value.specs.WriteLine.{IsSizeLimit, sign_of, toggles_line, IsQuota, IsReclaim, IsLimitWrite, IsWeightSetting, IsTargetWrite, pressure_word, WriteLine}
+use Rattle.cg_value.specs.WriteLine.{IsSizeLimit, sign_of, toggles_line, IsQuota, IsSwappiness, IsReclaim, IsLimitWrite, IsWeightSetting, IsTargetWrite, pressure_word, WriteLine}
 use Rattle.cg_value.specs.declared.kind.WriteForm.{WriteForm}
 use Rattle.cg_value.specs.declared.kind.WriteForm.TheVariants as form
 use Rattle.cg_value.specs.declared.setting.Setting.{Setting}
@@ -178,9 +179,13 @@ quota_raw : (quota : Limit) (period : Option ℕ) (line : List ℕ) → IsQuota 
 quota_raw quota None line h = limit_raw 1000 any_u64 quota line h
 quota_raw quota (Some n) line h = raw_parts h.front (codes " ") h.back line h.text_is (limit_raw 1000 any_u64 quota h.front h.front_is) (tested_raw (codes " ") refl) (numeral_raw n h.back h.back_is.2)
 
-reclaim_raw : (size : ℕ) (swappiness : Option ℕ) (line : List ℕ) → IsReclaim size swappiness line → IsRawLine line
-reclaim_raw size None line h = size_raw size line h
-reclaim_raw size (Some n) line h = raw_parts h.front (codes " swappiness=") h.back line h.text_is (size_raw size h.front h.front_is) (tested_raw (codes " swappiness=") refl) (numeral_raw n h.back h.back_is.2)
+swappiness_raw : (max : Bool) (l : Limit) (text : List ℕ) → IsSwappiness max l text → IsRawLine text
+swappiness_raw max Max text h = rw h.1 (tested_raw (codes "max") refl)
+swappiness_raw max (At n) text h = numeral_raw n text h.2
+
+reclaim_raw : (max : Bool) (size : ℕ) (swappiness : Option Limit) (line : List ℕ) → IsReclaim max size swappiness line → IsRawLine line
+reclaim_raw max size None line h = size_raw size line h
+reclaim_raw max size (Some l) line h = raw_parts h.front (codes " swappiness=") h.back line h.text_is (size_raw size h.front h.front_is) (tested_raw (codes " swappiness=") refl) (swappiness_raw max l h.back h.back_is)
 
 limits_raw : (x : Device × LimitPairs) (line : List ℕ) → IsLimitWrite x line → IsRawLine line
 limits_raw x line h = raw_parts h.front (codes " ") h.back line h.text_is (device_raw (x.0) h.front h.front_is) (tested_raw (codes " ") refl) (pairs_raw h.back_is.pairs h.back h.back_is.spelled)
@@ -215,9 +220,10 @@ written_raw (form.Limit lo hi) s line h = limit_raw lo hi h.x line h.spelled
 written_raw form.SizeLimit s line h = size_limit_raw h.x line h.spelled
 written_raw form.Clamp s line h = clamp_raw h.x line h.spelled
 written_raw form.Mode s line h = rw h.1 (tested_raw (codes "threaded") refl)
+written_raw form.Class s line h = rw h.spelled (class_raw h.x)
 written_raw form.Controllers s line h = rw h.spelled.line_is (toggles_raw h.x h.spelled.each)
 written_raw form.CpuMax s line h = quota_raw (h.x.0) (h.x.1) line h.spelled
-written_raw form.Reclaim s line h = reclaim_raw (h.x.0) (h.x.1) line h.spelled
+written_raw (form.Reclaim max) s line h = reclaim_raw max (h.x.0) (h.x.1) line h.spelled
 written_raw form.DeviceLimits s line h = limits_raw h.x line h.spelled
 written_raw (form.DeviceWeight most) s line h = weight_raw most s line h
 written_raw form.DeviceTarget s line h = target_raw h.x line h.spelled

@@ -4,6 +4,7 @@ use Rattle.std.proofs.lemmas.Int.{ints}
 use Rattle.std.proofs.lemmas.List.Elements.{All-nil}
 use Rattle.std.specs.Fmt.{decimal, signed_decimal}
 use Rattle.std.specs.List.{AllZip}
+use Rattle.cg_text.specs.Class.{class_text, IsClass}
 use Rattle.cg_text.specs.Clamp.{IsClamp}
 use Rattle.cg_text.specs.Decimal.{IsDecimal}
 use Rattle.cg_text.specs.Limit.{IsLimit}
@@ -16,13 +17,14 @@ use Rattle.cg_value.specs.Files.{IsMadeOf, ReadLines, KindText, Fits}
 use Rattle.cg_value.specs.Kind.{any_u64, IsListEnd, IsReadForm}
 use Rattle.cg_value.specs.Laws.{HasNoLine, HasNoByte}
 use Rattle.cg_value.specs.Lines.{unlines, IsOneLine, AreLinesOf}
-use Rattle.cg_value.specs.Print.{print_limit, print_clamp, print_set, print_flat_line, print_stat_line, print_limit_line, print_weight_line, print_target_line, print_partition, print_pressure_line, print_nested_line, print_lines, print_of}
-use Rattle.cg_value.specs.PrintLineLaws.{decimal_text_is, limit_text_is, clamp_text_is, signed_text_is, set_text_is, cpu_max_line_is, flat_line_is, stat_line_is, limit_line_is, default_line_is}
-use Rattle.cg_value.specs.PrintLineLaws.{weight_line_is, target_line_is, partition_line_is, pressure_line_is, nested_line_is}
-use Rattle.cg_value.specs.ReadLine.{mode_text, words_line, IsMode, IsCpuMax, IsFlatLine, AreFlatLines, IsStatLine, IsLimitLine, IsWeightLine, AreWeightLines, IsTargetLine, IsPartition, ArePressureLines, IsNestedLine, AreNestedLines, IsRaw}
+use Rattle.cg_value.specs.Print.{print_limit, print_clamp, print_set, print_flat_line, print_stat_line, print_limit_line, print_weight_line, print_target_line, print_partition, print_pressure_line, print_nested_line, print_node_stats, print_lines, print_of, print_flat_limit, print_param_line}
+use Rattle.cg_value.specs.PrintLineLaws.{decimal_text_is, limit_text_is, clamp_text_is, signed_text_is, set_text_is, cpu_max_line_is, flat_line_is, stat_line_is, limit_line_is, default_line_is, flat_limit_is, param_line_is}
+use Rattle.cg_value.specs.PrintLineLaws.{weight_line_is, target_line_is, partition_line_is, pressure_line_is, nested_line_is, node_stats_line_is}
+use Rattle.cg_value.specs.ReadLine.{mode_text, words_line, IsMode, IsCpuMax, IsFlatLine, AreFlatLines, IsStatLine, IsLimitLine, IsWeightLine, AreWeightLines, IsTargetLine, IsPartition, ArePressureLines, IsNestedLine, AreNestedLines, IsNodeStats, IsRaw, IsFlatLimit, AreFlatLimits, IsParamLine}
 use Rattle.cg_value.specs.declared.kind.ReadForm.{ReadForm}
 use Rattle.cg_value.specs.declared.kind.ReadForm.TheVariants as form
 use Rattle.cg_value.specs.declared.value.Averages.{Averages}
+use Rattle.cg_value.specs.declared.value.NestedPair.{NestedPair}
 use Rattle.cg_value.specs.declared.value.Role.{Role}
 use Rattle.cg_value.specs.declared.value.Value.{Value}
 use Rattle.cg_value.specs.declared.value.Value.TheVariants as value
@@ -59,10 +61,10 @@ made_lines_are : {X : Type 0} (P : X → List (List ℕ) → Type 0) (make : X �
     (v : Value) (lines : List (List ℕ)) → IsMadeOf P make v lines → lines ≡ print_lines v
 made_lines_are P make is v lines h = is h.x lines h.spelled ∙ ap print_lines (sym h.value)
 
-weight_lines_are : (most : ℕ) (v : Value) (lines : List (List ℕ)) → most ≤ any_u64 → AreWeightLines most v lines → lines ≡ print_lines v
-weight_lines_are most v lines b h =
+weight_lines_are : (most : ℕ) (kernel : Bool) (v : Value) (lines : List (List ℕ)) → most ≤ any_u64 → AreWeightLines most kernel v lines → lines ≡ print_lines v
+weight_lines_are most kernel v lines b h =
     let first = default_line_is most h.default h.first b h.first_is in
-    let others = lines_are (IsWeightLine most) print_weight_line (λ w line. weight_line_is most w line b) h.devices h.others h.others_are in
+    let others = lines_are (IsWeightLine most kernel) print_weight_line (λ w line. weight_line_is most kernel w line b) h.devices h.others h.others_are in
     h.lines_are ∙ rw (first, others) (ap print_lines (sym h.value))
 
 pressure_lines_are : (some full : Option Averages) (lines : List (List ℕ)) → ArePressureLines some full lines → lines ≡ print_pressure_line (codes "some") some ++ print_pressure_line (codes "full") full
@@ -95,15 +97,18 @@ one_text (form.Number lo hi) v lines b h = inl (one_line_is (IsDecimal lo hi) va
 one_text (form.Signed lo hi) v lines b h = inl (one_line_is (IsSigned lo hi) value.Signed signed_decimal (λ x. refl) (λ x line. signed_line_is lo hi x line b.0 b.1) v lines h)
 one_text form.Limit v lines b h = inl (one_line_is (IsLimit 0 any_u64) value.Limit print_limit (λ x. refl) (λ x line. limit_text_is any_u64 x line (omega arith)) v lines h)
 one_text form.Mode v lines b h = inl (one_line_is IsMode value.Mode mode_text (λ x. refl) (λ x line k. k) v lines h)
+one_text form.Class v lines b h = inl (one_line_is IsClass value.Class class_text (λ x. refl) (λ x line k. k) v lines h)
 one_text form.CpuMax v lines b h = inl (one_line_is IsCpuMax (λ (x : Limit × ℕ). value.CpuMax (x.0) (x.1)) (λ (x : Limit × ℕ). print_limit (x.0) ++ 32 ∷ decimal (x.1)) (λ x. refl) cpu_max_line_is v lines h)
 one_text form.Clamp v lines b h = inl (one_line_is (IsClamp Read) value.Clamp print_clamp (λ x. refl) clamp_text_is v lines h)
 one_text (form.Numbers lo hi) v lines b h = inl (many_lines_are (IsDecimal lo hi) value.Numbers decimal (λ xs. refl) (λ x line. decimal_text_is lo hi x line b.1) v lines h)
 one_text form.Words v lines b h = words_are h.x v lines h.value h.spelled.lines_are
 one_text form.Flat v lines b h = inl (made_lines_are AreFlatLines value.Flat (λ x ls k. lines_are IsFlatLine print_flat_line flat_line_is x ls k.each) v lines h)
-one_text form.DeviceStats v lines b h = inl (many_lines_are IsStatLine value.DeviceStats print_stat_line (λ xs. refl) stat_line_is v lines h)
-one_text form.DeviceLimits v lines b h = inl (many_lines_are IsLimitLine value.DeviceLimits print_limit_line (λ xs. refl) limit_line_is v lines h)
-one_text (form.DeviceWeights most) v lines b h = inl (weight_lines_are most v lines b.1 h)
-one_text form.DeviceTargets v lines b h = inl (many_lines_are IsTargetLine value.DeviceTargets print_target_line (λ xs. refl) target_line_is v lines h)
+one_text form.FlatLimits v lines b h = inl (made_lines_are AreFlatLimits value.FlatLimits (λ x ls k. lines_are IsFlatLimit print_flat_limit flat_limit_is x ls k.each) v lines h)
+one_text (form.DeviceStats kernel) v lines b h = inl (many_lines_are (IsStatLine kernel) value.DeviceStats print_stat_line (λ xs. refl) (stat_line_is kernel) v lines h)
+one_text (form.DeviceLimits kernel) v lines b h = inl (many_lines_are (IsLimitLine kernel) value.DeviceLimits print_limit_line (λ xs. refl) (limit_line_is kernel) v lines h)
+one_text (form.DeviceWeights most kernel) v lines b h = inl (weight_lines_are most kernel v lines b.1 h)
+one_text (form.DeviceTargets kernel) v lines b h = inl (many_lines_are (IsTargetLine kernel) value.DeviceTargets print_target_line (λ xs. refl) (target_line_is kernel) v lines h)
+one_text form.DeviceParams v lines b h = inl (many_lines_are IsParamLine value.DeviceParams print_param_line (λ xs. refl) param_line_is v lines h)
 one_text (form.Set most) v lines b h = inl (one_line_is (IsStrictList most) value.Set print_set (λ x. refl) (λ x line k. set_text_is most x line (end_small most b) k.1) v lines h)
 one_text form.Partition v lines b h =
     inl (one_line_is (λ (x : Role × Bool × Option (List ℕ)) line. IsPartition (x.0) (x.1) (x.2) line) (λ x. value.Partition (x.0) (x.1) (x.2)) (λ (x : Role × Bool × Option (List ℕ)). print_partition (x.0) (x.1) (x.2))
@@ -111,6 +116,8 @@ one_text form.Partition v lines b h =
 one_text form.Pressure v lines b h =
     inl (made_lines_are (λ (x : Option Averages × Option Averages) ls. ArePressureLines (x.0) (x.1) ls) (λ x. value.Pressure (x.0) (x.1)) (λ x ls. pressure_lines_are (x.0) (x.1) ls) v lines h)
 one_text form.Nested v lines b h = inl (made_lines_are AreNestedLines value.Nested (λ x ls k. lines_are IsNestedLine print_nested_line nested_line_is x ls k.each) v lines h)
+one_text form.NodeStats v lines b h =
+    inl (one_line_is IsNodeStats (λ (x : ℕ × List NestedPair). value.NodeStats (x.0) (x.1)) (λ (x : ℕ × List NestedPair). print_node_stats (x.0) (x.1)) (λ x. refl) node_stats_line_is v lines h)
 one_text form.Raw v lines b h = inl (many_lines_are IsRaw value.Raw (λ x. x) (λ xs. sym (map_same xs)) raw_line_is v lines h)
 
 -- The canonical lines of a value that fits spell it.

@@ -6,11 +6,12 @@ use Rattle.std.specs.Fmt.{decimal, signed_decimal}
 use Rattle.cg_text.specs.Amount.{IsAmount}
 use Rattle.cg_text.specs.Clamp.{IsClamp}
 use Rattle.cg_text.specs.Decimal.{IsDecimal}
-use Rattle.cg_text.specs.Device.{IsDevice}
+use Rattle.cg_text.specs.Device.{IsDevice, IsDeviceName}
 use Rattle.cg_text.specs.Hundredths.{IsHundredths}
 use Rattle.cg_text.specs.Limit.{IsLimit}
 use Rattle.cg_text.specs.List.{IsRangeText, AreRangeTexts}
 use Rattle.cg_text.specs.NumeralLaws.{numeral_is_decimal}
+use Rattle.cg_text.specs.Param.{IsParam}
 use Rattle.cg_text.specs.Signed.{IsSignedNumeral}
 use Rattle.cg_text.specs.declared.hundredths.Spelling.TheVariants.{Read}
 use Rattle.cg_text.specs.declared.values.Amount.{Amount}
@@ -21,16 +22,21 @@ use Rattle.cg_text.specs.declared.values.Device.{Device}
 use Rattle.cg_text.specs.declared.values.Hundredths.{Hundredths}
 use Rattle.cg_text.specs.declared.values.Limit.{Limit}
 use Rattle.cg_text.specs.declared.values.Limit.TheVariants as limit
+use Rattle.cg_text.specs.declared.values.ParamValue.{ParamValue}
+use Rattle.cg_text.specs.declared.values.ParamValue.TheVariants as param
 use Rattle.cg_value.specs.Kind.{any_u64}
 use Rattle.cg_value.specs.Lines.{HasParts, IsKey, AreLed}
-use Rattle.cg_value.specs.Print.{print_limit, print_hundredths, print_clamp, print_amount, print_device, print_range, print_set, print_led, print_flat_line, print_stat_pair, print_stat_line}
-use Rattle.cg_value.specs.Print.{print_limit_line, print_default_line, print_weight_line, print_target_line, print_partition, print_averages, print_nested_pair, print_nested_line}
-use Rattle.cg_value.specs.ReadLine.{role_text, IsCpuMax, IsFlatLine, IsStatPair, IsStatLine, IsLimitLine, IsDefaultLine, IsWeightLine, IsTargetLine, IsPartition, AreAverages, IsPressureLine, IsNestedPair, IsNestedLine}
+use Rattle.cg_value.specs.Print.{print_limit, print_hundredths, print_clamp, print_amount, print_device, print_device_name, print_range, print_set, print_led, print_flat_line, print_stat_pair, print_stat_line}
+use Rattle.cg_value.specs.Print.{print_limit_line, print_default_line, print_weight_line, print_target_line, print_partition, print_averages, print_nested_pair, print_nested_line, print_node_stats, print_param, print_param_pair, print_param_line, print_flat_limit}
+use Rattle.cg_value.specs.ReadLine.{role_text, IsCpuMax, IsFlatLine, IsStatPair, IsStatLine, IsLimitLine, IsDefaultLine, IsWeightLine, IsTargetLine, IsPartition, AreAverages, IsPressureLine, IsNestedPair, IsNestedLine, IsNodeStats, IsFlatLimit, IsParamPair, IsParamLine}
 use Rattle.cg_value.specs.declared.flat.FlatPair.{FlatPair}
 use Rattle.cg_value.specs.declared.value.Averages.{Averages}
+use Rattle.cg_value.specs.declared.value.FlatLimit.{FlatLimit}
 use Rattle.cg_value.specs.declared.value.LimitLine.{LimitLine}
 use Rattle.cg_value.specs.declared.value.NestedLine.{NestedLine}
 use Rattle.cg_value.specs.declared.value.NestedPair.{NestedPair}
+use Rattle.cg_value.specs.declared.value.ParamLine.{ParamLine}
+use Rattle.cg_value.specs.declared.value.ParamPair.{ParamPair}
 use Rattle.cg_value.specs.declared.value.Role.{Role}
 use Rattle.cg_value.specs.declared.value.StatLine.{StatLine}
 use Rattle.cg_value.specs.declared.value.StatPair.{StatPair}
@@ -69,6 +75,10 @@ device_text_is d text h =
     let major = decimal_text_is 0 4095 d.major h.major (omega arith) h.major_is in
     let minor = decimal_text_is 0 1048575 d.minor h.minor (omega arith) h.minor_is in
     h.text_is ∙ rw (major, minor)
+
+device_name_is : (kernel : Bool) (d : Option Device) (text : List ℕ) → IsDeviceName kernel d text → text ≡ print_device_name d
+device_name_is kernel (Some d) text h = device_text_is d text h
+device_name_is kernel None text h = h.1
 
 -- A signed number of 64 bits.
 pub signed_text_is : (z : ℤ) (text : List ℕ) → negsuc 9223372036854775807 ≤ℤ z → z ≤ℤ pos 9223372036854775807 → IsSignedNumeral z text → text ≡ signed_decimal z
@@ -120,18 +130,21 @@ cpu_max_line_is x line h = parts_are (IsLimit 0 any_u64) 32 (IsDecimal 0 any_u64
 pub flat_line_is : (p : FlatPair) (line : List ℕ) → IsFlatLine p line → line ≡ print_flat_line p
 flat_line_is p line h = parts_are IsKey 32 (IsDecimal 0 any_u64) p.key p.number line p.key (decimal p.number) (λ t k. k.0) (any_decimal p.number) h
 
-pub stat_pair_is : (p : StatPair) (text : List ℕ) → IsStatPair p text → text ≡ print_stat_pair p
-stat_pair_is p text h = parts_are IsKey 61 (IsAmount false) p.key p.amount text p.key (print_amount p.amount) (λ t k. k.0) (amount_text_is false p.amount) h
+pub flat_limit_is : (p : FlatLimit) (line : List ℕ) → IsFlatLimit p line → line ≡ print_flat_limit p
+flat_limit_is p line h = parts_are IsKey 32 (IsLimit 0 any_u64) p.key p.limit line p.key (print_limit p.limit) (λ t k. k.0) (any_limit p.limit) h
 
-pub stat_line_is : (s : StatLine) (line : List ℕ) → IsStatLine s line → line ≡ print_stat_line s
-stat_line_is s line h =
-    let device = device_text_is s.device h.device h.device_is in
-    let pairs = led_texts_are IsStatPair print_stat_pair stat_pair_is s.pairs h.pairs h.pairs_are in
+pub stat_pair_is : (kernel : Bool) (p : StatPair) (text : List ℕ) → IsStatPair kernel p text → text ≡ print_stat_pair p
+stat_pair_is kernel p text h = parts_are IsKey 61 (IsAmount kernel) p.key p.amount text p.key (print_amount p.amount) (λ t k. k.0) (amount_text_is kernel p.amount) h
+
+pub stat_line_is : (kernel : Bool) (s : StatLine) (line : List ℕ) → IsStatLine kernel s line → line ≡ print_stat_line s
+stat_line_is kernel s line h =
+    let device = device_name_is kernel s.device h.device h.device_is in
+    let pairs = led_texts_are (IsStatPair kernel) print_stat_pair (stat_pair_is kernel) s.pairs h.pairs h.pairs_are in
     h.line_is ∙ rw (device, pairs)
 
-pub limit_line_is : (l : LimitLine) (line : List ℕ) → IsLimitLine l line → line ≡ print_limit_line l
-limit_line_is l line h =
-    let device = device_text_is l.device h.device h.device_is in
+pub limit_line_is : (kernel : Bool) (l : LimitLine) (line : List ℕ) → IsLimitLine kernel l line → line ≡ print_limit_line l
+limit_line_is kernel l line h =
+    let device = device_name_is kernel l.device h.device h.device_is in
     let rbps = any_limit l.rbps h.rbps h.rbps_is in
     let wbps = any_limit l.wbps h.wbps h.wbps_is in
     let riops = any_limit l.riops h.riops h.riops_is in
@@ -141,14 +154,28 @@ limit_line_is l line h =
 pub default_line_is : (most weight : ℕ) (line : List ℕ) → most ≤ any_u64 → IsDefaultLine most weight line → line ≡ print_default_line weight
 default_line_is most weight line b h = h.1 ∙ ap (λ t. codes "default " ++ t) (decimal_text_is 1 most weight h.0 b h.2)
 
-pub weight_line_is : (most : ℕ) (w : WeightLine) (line : List ℕ) → most ≤ any_u64 → IsWeightLine most w line → line ≡ print_weight_line w
-weight_line_is most w line b h = parts_are IsDevice 32 (IsDecimal 1 most) w.device w.weight line (print_device w.device) (decimal w.weight) (device_text_is w.device) (λ t k. decimal_text_is 1 most w.weight t b k) h
+pub weight_line_is : (most : ℕ) (kernel : Bool) (w : WeightLine) (line : List ℕ) → most ≤ any_u64 → IsWeightLine most kernel w line → line ≡ print_weight_line w
+weight_line_is most kernel w line b h = parts_are (IsDeviceName kernel) 32 (IsDecimal 1 most) w.device w.weight line (print_device_name w.device) (decimal w.weight) (device_name_is kernel w.device) (λ t k. decimal_text_is 1 most w.weight t b k) h
 
-pub target_line_is : (t : TargetLine) (line : List ℕ) → IsTargetLine t line → line ≡ print_target_line t
-target_line_is t line h =
-    let device = device_text_is t.device h.front h.front_is in
+pub target_line_is : (kernel : Bool) (t : TargetLine) (line : List ℕ) → IsTargetLine kernel t line → line ≡ print_target_line t
+target_line_is kernel t line h =
+    let device = device_name_is kernel t.device h.front h.front_is in
     let target = any_decimal t.target h.back h.back_is in
     h.text_is ∙ rw (device, target)
+
+param_is : (v : ParamValue) (text : List ℕ) → IsParam v text → text ≡ print_param v
+param_is (param.Whole n) text h = any_decimal n text h
+param_is (param.Decimal v) text h = hundredths_text_is 99999999999 v text (omega arith) h
+param_is (param.Name name) text h = sym h.0
+
+param_pair_is : (p : ParamPair) (text : List ℕ) → IsParamPair p text → text ≡ print_param_pair p
+param_pair_is p text h = parts_are IsKey 61 IsParam p.key p.value text p.key (print_param p.value) (λ t k. k.0) (param_is p.value) h
+
+pub param_line_is : (l : ParamLine) (line : List ℕ) → IsParamLine l line → line ≡ print_param_line l
+param_line_is l line h =
+    let device = device_name_is true l.device h.device h.device_is in
+    let params = led_texts_are IsParamPair print_param_pair param_pair_is l.params h.params h.params_are in
+    h.line_is ∙ rw (device, params)
 
 pub partition_line_is : (role : Role) (valid : Bool) (reason : Option (List ℕ)) (line : List ℕ) → IsPartition role valid reason line → line ≡ print_partition role valid reason
 partition_line_is role true None line h = h
@@ -174,3 +201,9 @@ nested_pair_is p text h = parts_are IsKey 61 (IsDecimal 0 any_u64) p.key p.numbe
 
 pub nested_line_is : (l : NestedLine) (line : List ℕ) → IsNestedLine l line → line ≡ print_nested_line l
 nested_line_is l line h = h.line_is ∙ ap (λ t. l.key ++ t) (led_texts_are IsNestedPair print_nested_pair nested_pair_is l.pairs h.pairs h.pairs_are)
+
+pub node_stats_line_is : (x : ℕ × List NestedPair) (line : List ℕ) → IsNodeStats x line → line ≡ print_node_stats (x.0) (x.1)
+node_stats_line_is x line h =
+    let total = any_decimal (x.0) h.total h.total_is in
+    let nodes = led_texts_are IsNestedPair print_nested_pair nested_pair_is (x.1) h.nodes h.nodes_are in
+    h.line_is ∙ rw (total, nodes)

@@ -2,6 +2,7 @@
 use Rattle.std.proofs.Common.{◌≡◌, ℕ, ◌≤◌, ℤ, pos, negsuc, ◌≤ℤ◌, FitsSigned, inl, inr, Bool, Option, List, refl, sym, ap, subst, arith, w64}
 use Rattle.std.proofs.lemmas.Int.{ints}
 use Rattle.std.specs.Fmt.{decimal, signed_decimal}
+use Rattle.cg_text.specs.Class.{IsClass}
 use Rattle.cg_text.specs.Clamp.{IsClamp}
 use Rattle.cg_text.specs.Decimal.{IsDecimal}
 use Rattle.cg_text.specs.Limit.{IsLimit}
@@ -51,9 +52,11 @@ line_prints (form.Limit lo hi) s line k h = reprinted (IsLimit lo hi) setting.Li
 line_prints form.SizeLimit s line k h = reprinted IsSizeLimit setting.Limit s line (λ x t p. size_limit_prints x (size_limit_within x t p)) h
 line_prints form.Clamp s line k h = reprinted (IsClamp Written) setting.Clamp s line (λ x t p. clamp_prints Written x (clamp_within x t p)) h
 line_prints form.Mode s line k h = (h.0, ap print_setting_line h.0)
+line_prints form.Class s line k h = reprinted IsClass setting.Class s line (λ x t p. refl) h
 line_prints form.Controllers s line k h = reprinted AreToggles setting.Controllers s line (λ x t p. record { some = p.some; each = p.each; line_is = refl }) h
 line_prints form.CpuMax s line k h = reprinted (λ (x : Limit × Option ℕ) l. IsQuota (x.0) (x.1) l) (λ x. setting.CpuMax (x.0) (x.1)) s line (λ x t p. quota_prints (x.0) (x.1) (quota_within (x.0) (x.1) t p)) h
-line_prints form.Reclaim s line k h = reprinted (λ (x : ℕ × Option ℕ) l. IsReclaim (x.0) (x.1) l) (λ x. setting.Reclaim (x.0) (x.1)) s line (λ x t p. reclaim_prints (x.0) (x.1) (reclaim_within (x.0) (x.1) t p)) h
+line_prints (form.Reclaim max) s line k h =
+    reprinted (λ (x : ℕ × Option Limit) l. IsReclaim max (x.0) (x.1) l) (λ x. setting.Reclaim (x.0) (x.1)) s line (λ x t p. reclaim_prints max (x.0) (x.1) (reclaim_within max (x.0) (x.1) t p)) h
 line_prints form.DeviceLimits s line k h = reprinted IsLimitWrite limits_setting s line (λ x t p. limit_write_prints x (limit_write_within x t p)) h
 line_prints (form.DeviceWeight most) s line k h = weight_setting_prints most s line k.1 h
 line_prints form.DeviceTarget s line k h = reprinted IsTargetWrite (λ (x : Device × ℕ). setting.DeviceTarget (x.0) (x.1)) s line (λ x t p. target_prints (x.0) (x.1) (target_within (x.0) (x.1) t p)) h

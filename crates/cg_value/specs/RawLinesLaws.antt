@@ -3,16 +3,19 @@ use Rattle.std.proofs.Common.{◌≡◌, ℕ, suc, ◌⊎◌, inl, inr, Bool, tr
 use Rattle.std.proofs.lemmas.Bool.{and_parts}
 use Rattle.std.proofs.lemmas.List.Elements.{recursion_from_All}
 use Rattle.std.specs.List.{AllZip, AllByRecursion, list_all}
+use Rattle.cg_text.specs.Class.{class_text}
 use Rattle.cg_text.specs.AboveSpace.{AreAboveSpace}
 use Rattle.cg_text.specs.AboveSpaceLaws.{numeral_above}
 use Rattle.cg_text.specs.Amount.{IsAmount, IsBelow}
 use Rattle.cg_text.specs.Clamp.{IsClamp}
 use Rattle.cg_text.specs.Decimal.{IsNumeral, IsDecimal}
-use Rattle.cg_text.specs.Device.{IsDevice}
+use Rattle.cg_text.specs.Device.{IsDevice, IsDeviceName}
 use Rattle.cg_text.specs.Hundredths.{IsHundredths}
 use Rattle.cg_text.specs.Limit.{IsLimit}
 use Rattle.cg_text.specs.List.{IsRangeText, AreRangeTexts}
+use Rattle.cg_text.specs.Name.{IsNameValue}
 use Rattle.cg_text.specs.NumeralLaws.{numeral_bytes}
+use Rattle.cg_text.specs.Param.{IsParam}
 use Rattle.cg_text.specs.Raw.{IsRawLine}
 use Rattle.cg_text.specs.RawLaws.{raw_append}
 use Rattle.cg_text.specs.Signed.{IsSignedNumeral}
@@ -27,20 +30,27 @@ use Rattle.cg_text.specs.declared.values.Device.{Device}
 use Rattle.cg_text.specs.declared.values.Hundredths.{Hundredths}
 use Rattle.cg_text.specs.declared.values.Limit.{Limit}
 use Rattle.cg_text.specs.declared.values.Limit.TheVariants as limit
+use Rattle.cg_text.specs.declared.values.ParamValue.{ParamValue}
+use Rattle.cg_text.specs.declared.values.ParamValue.TheVariants as param
 use Rattle.cg_value.specs.Files.{ReadLines}
 use Rattle.cg_value.specs.Kind.{any_u64}
 use Rattle.cg_value.specs.Lines.{HasParts, IsKey, AreLed}
 use Rattle.cg_value.specs.ReadLine.{mode_text, words_line, pad_text, role_text, IsCpuMax, AreWords, IsFlatLine, IsStatPair, IsStatLine, IsLimitLine, IsDefaultLine, IsWeightLine, AreWeightLines}
-use Rattle.cg_value.specs.ReadLine.{IsTargetLine, IsPartition, AreAverages, IsPressureLine, ArePressureLines, IsNestedPair, IsNestedLine, IsRaw}
+use Rattle.cg_value.specs.ReadLine.{IsTargetLine, IsPartition, AreAverages, IsPressureLine, ArePressureLines, IsNestedPair, IsNestedLine, IsNodeStats, IsRaw, IsFlatLimit, IsParamPair, IsParamLine}
 use Rattle.cg_value.specs.declared.flat.FlatPair.{FlatPair}
 use Rattle.cg_value.specs.declared.kind.ReadForm.{ReadForm}
 use Rattle.cg_value.specs.declared.kind.ReadForm.TheVariants as form
 use Rattle.cg_value.specs.declared.value.Averages.{Averages}
+use Rattle.cg_value.specs.declared.value.FlatLimit.{FlatLimit}
 use Rattle.cg_value.specs.declared.value.GroupMode.{GroupMode}
 use Rattle.cg_value.specs.declared.value.GroupMode.TheVariants.{Domain, DomainThreaded, DomainInvalid, Threaded}
+use Rattle.cg_text.specs.declared.values.IoClass.{IoClass}
+use Rattle.cg_text.specs.declared.values.IoClass.TheVariants.{NoChange, PromoteToRt, RestrictToBe, Idle, NoneToRt}
 use Rattle.cg_value.specs.declared.value.LimitLine.{LimitLine}
 use Rattle.cg_value.specs.declared.value.NestedLine.{NestedLine}
 use Rattle.cg_value.specs.declared.value.NestedPair.{NestedPair}
+use Rattle.cg_value.specs.declared.value.ParamLine.{ParamLine}
+use Rattle.cg_value.specs.declared.value.ParamPair.{ParamPair}
 use Rattle.cg_value.specs.declared.value.Role.{Role}
 use Rattle.cg_value.specs.declared.value.Role.TheVariants.{Member, Root, Isolated}
 use Rattle.cg_value.specs.declared.value.StatLine.{StatLine}
@@ -111,6 +121,10 @@ device_raw d text h =
     along (h.major ++ 58 ∷ h.minor) text h.text_is (raw_append h.major (58 ∷ h.minor) (decimal_raw 0 4095 d.major h.major h.major_is)
     (omega arith, omega arith, (λ e. omega (arith, e)), decimal_raw 0 1048575 d.minor h.minor h.minor_is))
 
+device_name_raw : (kernel : Bool) (d : Option Device) (text : List ℕ) → IsDeviceName kernel d text → IsRawLine text
+device_name_raw kernel (Some d) text h = device_raw d text h
+device_name_raw kernel None text h = rw h.1 (printable (codes "(unknown)") refl)
+
 word_bytes_raw : (xs : List ℕ) → AreWordBytes xs → IsRawLine xs
 word_bytes_raw [] h = tt
 word_bytes_raw (x ∷ xs) h = let byte = h.0 in (omega (arith, byte.0), omega (arith, byte.1), (λ e. omega (arith, byte.0, e)), word_bytes_raw xs h.1)
@@ -156,33 +170,43 @@ mode_raw DomainThreaded = printable (mode_text DomainThreaded) refl
 mode_raw DomainInvalid = printable (mode_text DomainInvalid) refl
 mode_raw Threaded = printable (mode_text Threaded) refl
 
+pub class_raw : (c : IoClass) → IsRawLine (class_text c)
+class_raw NoChange = printable (class_text NoChange) refl
+class_raw PromoteToRt = printable (class_text PromoteToRt) refl
+class_raw RestrictToBe = printable (class_text RestrictToBe) refl
+class_raw Idle = printable (class_text Idle) refl
+class_raw NoneToRt = printable (class_text NoneToRt) refl
+
 cpu_max_raw : (x : Limit × ℕ) (line : List ℕ) → IsCpuMax x line → IsRawLine line
 cpu_max_raw x line h = parts_raw (IsLimit 0 any_u64) (codes " ") (IsDecimal 0 any_u64) (x.0) (x.1) line (any_limit (x.0)) (printable (codes " ") refl) (any_decimal (x.1)) h
 
 flat_raw : (p : FlatPair) (line : List ℕ) → IsFlatLine p line → IsRawLine line
 flat_raw p line h = parts_raw IsKey (codes " ") (IsDecimal 0 any_u64) p.key p.number line (key_raw p.key) (printable (codes " ") refl) (any_decimal p.number) h
 
-stat_pair_raw : (p : StatPair) (text : List ℕ) → IsStatPair p text → IsRawLine text
-stat_pair_raw p text h = parts_raw IsKey (codes "=") (IsAmount false) p.key p.amount text (key_raw p.key) (printable (codes "=") refl) (amount_raw false p.amount) h
+flat_limit_raw : (p : FlatLimit) (line : List ℕ) → IsFlatLimit p line → IsRawLine line
+flat_limit_raw p line h = parts_raw IsKey (codes " ") (IsLimit 0 any_u64) p.key p.limit line (key_raw p.key) (printable (codes " ") refl) (any_limit p.limit) h
+
+stat_pair_raw : (kernel : Bool) (p : StatPair) (text : List ℕ) → IsStatPair kernel p text → IsRawLine text
+stat_pair_raw kernel p text h = parts_raw IsKey (codes "=") (IsAmount kernel) p.key p.amount text (key_raw p.key) (printable (codes "=") refl) (amount_raw kernel p.amount) h
 
 pad_raw : (pad : Bool) → IsRawLine (pad_text pad)
 pad_raw true = printable (codes " ") refl
 pad_raw false = tt
 
-stat_raw : (s : StatLine) (line : List ℕ) → IsStatLine s line → IsRawLine line
-stat_raw s line h =
+stat_raw : (kernel : Bool) (s : StatLine) (line : List ℕ) → IsStatLine kernel s line → IsRawLine line
+stat_raw kernel s line h =
     along (h.device ++ pad_text s.pad ++ h.pairs) line h.line_is
     (raw_append (h.device ++ pad_text s.pad) h.pairs
-    (raw_append h.device (pad_text s.pad) (device_raw s.device h.device h.device_is) (pad_raw s.pad))
-    (led_raw IsStatPair stat_pair_raw s.pairs h.pairs h.pairs_are))
+    (raw_append h.device (pad_text s.pad) (device_name_raw kernel s.device h.device h.device_is) (pad_raw s.pad))
+    (led_raw (IsStatPair kernel) (stat_pair_raw kernel) s.pairs h.pairs h.pairs_are))
 
 -- What comes before, a text, and what comes after.
 then_raw : (front mark back : List ℕ) → list_all (λ b. nat_lt 31 b && nat_lt b 127) mark ≡ true → IsRawLine front → IsRawLine back → IsRawLine (front ++ mark ++ back)
 then_raw front mark back e h k = raw_append (front ++ mark) back (raw_append front mark h (printable mark e)) k
 
-limits_raw : (l : LimitLine) (line : List ℕ) → IsLimitLine l line → IsRawLine line
-limits_raw l line h =
-    let one = then_raw h.device (codes " rbps=") h.rbps refl (device_raw l.device h.device h.device_is) (any_limit l.rbps h.rbps h.rbps_is) in
+limits_raw : (kernel : Bool) (l : LimitLine) (line : List ℕ) → IsLimitLine kernel l line → IsRawLine line
+limits_raw kernel l line h =
+    let one = then_raw h.device (codes " rbps=") h.rbps refl (device_name_raw kernel l.device h.device h.device_is) (any_limit l.rbps h.rbps h.rbps_is) in
     let two = then_raw (h.device ++ codes " rbps=" ++ h.rbps) (codes " wbps=") h.wbps refl one (any_limit l.wbps h.wbps h.wbps_is) in
     let three = then_raw (h.device ++ codes " rbps=" ++ h.rbps ++ codes " wbps=" ++ h.wbps) (codes " riops=") h.riops refl two (any_limit l.riops h.riops h.riops_is) in
     let four = then_raw (h.device ++ codes " rbps=" ++ h.rbps ++ codes " wbps=" ++ h.wbps ++ codes " riops=" ++ h.riops) (codes " wiops=") h.wiops refl three (any_limit l.wiops h.wiops h.wiops_is) in
@@ -191,16 +215,33 @@ limits_raw l line h =
 default_raw : (most weight : ℕ) (line : List ℕ) → IsDefaultLine most weight line → IsRawLine line
 default_raw most weight line h = along (codes "default " ++ h.0) line h.1 (raw_append (codes "default ") h.0 (printable (codes "default ") refl) (decimal_raw 1 most weight h.0 h.2))
 
-weight_raw : (most : ℕ) (w : WeightLine) (line : List ℕ) → IsWeightLine most w line → IsRawLine line
-weight_raw most w line h = parts_raw IsDevice (codes " ") (IsDecimal 1 most) w.device w.weight line (device_raw w.device) (printable (codes " ") refl) (decimal_raw 1 most w.weight) h
+weight_raw : (most : ℕ) (kernel : Bool) (w : WeightLine) (line : List ℕ) → IsWeightLine most kernel w line → IsRawLine line
+weight_raw most kernel w line h = parts_raw (IsDeviceName kernel) (codes " ") (IsDecimal 1 most) w.device w.weight line (device_name_raw kernel w.device) (printable (codes " ") refl) (decimal_raw 1 most w.weight) h
 
-target_raw : (t : TargetLine) (line : List ℕ) → IsTargetLine t line → IsRawLine line
-target_raw t line h = parts_raw IsDevice (codes " target=") (IsDecimal 0 any_u64) t.device t.target line (device_raw t.device) (printable (codes " target=") refl) (any_decimal t.target) h
+target_raw : (kernel : Bool) (t : TargetLine) (line : List ℕ) → IsTargetLine kernel t line → IsRawLine line
+target_raw kernel t line h = parts_raw (IsDeviceName kernel) (codes " target=") (IsDecimal 0 any_u64) t.device t.target line (device_name_raw kernel t.device) (printable (codes " target=") refl) (any_decimal t.target) h
 
 role_raw : (role : Role) → IsRawLine (role_text role)
 role_raw Member = printable (role_text Member) refl
 role_raw Root = printable (role_text Root) refl
 role_raw Isolated = printable (role_text Isolated) refl
+
+name_raw : (text : List ℕ) → IsNameValue text → IsRawLine text
+name_raw [] h = absurd h
+name_raw (c ∷ cs) h = word_raw (c ∷ cs) h.1
+
+param_raw : (v : ParamValue) (text : List ℕ) → IsParam v text → IsRawLine text
+param_raw (param.Whole n) text h = any_decimal n text h
+param_raw (param.Decimal v) text h = hundredths_raw 99999999999 v text h
+param_raw (param.Name name) text h = name_raw text h.1
+
+param_pair_raw : (p : ParamPair) (text : List ℕ) → IsParamPair p text → IsRawLine text
+param_pair_raw p text h = parts_raw IsKey (codes "=") IsParam p.key p.value text (key_raw p.key) (printable (codes "=") refl) (param_raw p.value) h
+
+params_raw : (l : ParamLine) (line : List ℕ) → IsParamLine l line → IsRawLine line
+params_raw l line h =
+    along (h.device ++ h.params) line h.line_is
+    (raw_append h.device h.params (device_name_raw true l.device h.device h.device_is) (led_raw IsParamPair param_pair_raw l.params h.params h.params_are))
 
 partition_raw : (role : Role) (valid : Bool) (reason : Option (List ℕ)) (line : List ℕ) → IsPartition role valid reason line → IsRawLine line
 partition_raw role true None line h = along (role_text role) line h (role_raw role)
@@ -226,6 +267,13 @@ nested_pair_raw p text h = parts_raw IsKey (codes "=") (IsDecimal 0 any_u64) p.k
 
 nested_raw : (l : NestedLine) (line : List ℕ) → IsNestedLine l line → IsRawLine line
 nested_raw l line h = along (l.key ++ h.pairs) line h.line_is (raw_append l.key h.pairs (word_raw l.key h.key_is) (led_raw IsNestedPair nested_pair_raw l.pairs h.pairs h.pairs_are))
+
+node_stats_raw : (x : ℕ × List NestedPair) (line : List ℕ) → IsNodeStats x line → IsRawLine line
+node_stats_raw x line h =
+    along (codes "total=" ++ h.total ++ h.nodes) line h.line_is
+    (raw_append (codes "total=" ++ h.total) h.nodes
+    (raw_append (codes "total=") h.total (printable (codes "total=") refl) (any_decimal (x.0) h.total h.total_is))
+    (led_raw IsNestedPair nested_pair_raw (x.1) h.nodes h.nodes_are))
 
 controller_raw : (w : List ℕ) → IsControllerWord w → IsRawLine w
 controller_raw [] h = absurd h
@@ -253,8 +301,8 @@ words_lines_raw ws lines h = of_lines h.lines_are
     of_lines (inl e) = one_raw (words_line ws) lines e (words_raw ws (recursion_from_All IsControllerWord ws h.each))
     of_lines (inr e) = rw e.1 tt
 
-weights_raw : (most : ℕ) (v : Value) (lines : List (List ℕ)) → AreWeightLines most v lines → AllByRecursion IsRawLine lines
-weights_raw most v lines h = rw h.lines_are (default_raw most h.default h.first h.first_is, each_raw (IsWeightLine most) (weight_raw most) h.devices h.others h.others_are)
+weights_raw : (most : ℕ) (kernel : Bool) (v : Value) (lines : List (List ℕ)) → AreWeightLines most kernel v lines → AllByRecursion IsRawLine lines
+weights_raw most kernel v lines h = rw h.lines_are (default_raw most h.default h.first h.first_is, each_raw (IsWeightLine most kernel) (weight_raw most kernel) h.devices h.others h.others_are)
 
 pressures_raw : (some full : Option Averages) (lines : List (List ℕ)) → ArePressureLines some full lines → AllByRecursion IsRawLine lines
 pressures_raw None None lines h = absurd h
@@ -268,17 +316,21 @@ raw_lines (form.Number lo hi) v lines h = one_raw h.line lines h.lines_are (deci
 raw_lines (form.Signed lo hi) v lines h = one_raw h.line lines h.lines_are (signed_raw h.x h.line h.spelled.2)
 raw_lines form.Limit v lines h = one_raw h.line lines h.lines_are (any_limit h.x h.line h.spelled)
 raw_lines form.Mode v lines h = one_raw h.line lines h.lines_are (along (mode_text h.x) h.line h.spelled (mode_raw h.x))
+raw_lines form.Class v lines h = one_raw h.line lines h.lines_are (along (class_text h.x) h.line h.spelled (class_raw h.x))
 raw_lines form.CpuMax v lines h = one_raw h.line lines h.lines_are (cpu_max_raw h.x h.line h.spelled)
 raw_lines form.Clamp v lines h = one_raw h.line lines h.lines_are (clamp_raw h.x h.line h.spelled)
 raw_lines (form.Numbers lo hi) v lines h = each_raw (IsDecimal lo hi) (decimal_raw lo hi) h.xs lines h.spelled
 raw_lines form.Words v lines h = words_lines_raw h.x lines h.spelled
 raw_lines form.Flat v lines h = each_raw IsFlatLine flat_raw h.x lines h.spelled.each
-raw_lines form.DeviceStats v lines h = each_raw IsStatLine stat_raw h.xs lines h.spelled
-raw_lines form.DeviceLimits v lines h = each_raw IsLimitLine limits_raw h.xs lines h.spelled
-raw_lines (form.DeviceWeights most) v lines h = weights_raw most v lines h
-raw_lines form.DeviceTargets v lines h = each_raw IsTargetLine target_raw h.xs lines h.spelled
+raw_lines form.FlatLimits v lines h = each_raw IsFlatLimit flat_limit_raw h.x lines h.spelled.each
+raw_lines (form.DeviceStats kernel) v lines h = each_raw (IsStatLine kernel) (stat_raw kernel) h.xs lines h.spelled
+raw_lines (form.DeviceLimits kernel) v lines h = each_raw (IsLimitLine kernel) (limits_raw kernel) h.xs lines h.spelled
+raw_lines (form.DeviceWeights most kernel) v lines h = weights_raw most kernel v lines h
+raw_lines (form.DeviceTargets kernel) v lines h = each_raw (IsTargetLine kernel) (target_raw kernel) h.xs lines h.spelled
+raw_lines form.DeviceParams v lines h = each_raw IsParamLine params_raw h.xs lines h.spelled
 raw_lines (form.Set most) v lines h = one_raw h.line lines h.lines_are (ranges_raw most h.x h.line h.spelled.1)
 raw_lines form.Partition v lines h = one_raw h.line lines h.lines_are (partition_raw (h.x.0) (h.x.1) (h.x.2) h.line h.spelled)
 raw_lines form.Pressure v lines h = pressures_raw (h.x.0) (h.x.1) lines h.spelled
 raw_lines form.Nested v lines h = each_raw IsNestedLine nested_raw h.x lines h.spelled.each
+raw_lines form.NodeStats v lines h = one_raw h.line lines h.lines_are (node_stats_raw h.x h.line h.spelled)
 raw_lines form.Raw v lines h = each_raw IsRaw (λ x line k. along x line k.0 k.1) h.xs lines h.spelled

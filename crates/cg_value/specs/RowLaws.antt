@@ -159,7 +159,7 @@ quoted_key = file form.Flat (codes "a\"b 1" ∷ []) refl (record {
 
 -- ---- Devices
 
-stats_first : IsStatLine (stat_line (device 8 0) false (stat_pair (codes "rbytes") (amount.Whole 1) ∷ stat_pair (codes "cost.vrate") (amount.Decimal (hundredths 10000)) ∷ [])) (codes "8:0 rbytes=1 cost.vrate=100.00")
+stats_first : IsStatLine false (stat_line (device 8 0) false (stat_pair (codes "rbytes") (amount.Whole 1) ∷ stat_pair (codes "cost.vrate") (amount.Decimal (hundredths 10000)) ∷ [])) (codes "8:0 rbytes=1 cost.vrate=100.00")
 stats_first = record {
   device = codes "8:0";
   pairs = codes " rbytes=1 cost.vrate=100.00";
@@ -181,21 +181,21 @@ stats_first = record {
   distinct = ((λ e. cc, tt), (tt, tt));
 }
 
-stats_second : IsStatLine (stat_line (device 7 0) false []) (codes "7:0")
+stats_second : IsStatLine false (stat_line (device 7 0) false []) (codes "7:0")
 stats_second = record { device = codes "7:0"; pairs = []; line_is = refl; device_is = device_tested 7 0 (codes "7") (codes "0") refl refl; pairs_are = refl; distinct = tt }
 
 pub device_stats_rows : DeviceStats
 unfolding read_form_of
-device_stats_rows = file form.DeviceStats (codes "8:0 rbytes=1 cost.vrate=100.00" ∷ codes "7:0" ∷ []) refl
+device_stats_rows = file (form.DeviceStats false) (codes "8:0 rbytes=1 cost.vrate=100.00" ∷ codes "7:0" ∷ []) refl
     (many_lines _ (codes "8:0 rbytes=1 cost.vrate=100.00" ∷ codes "7:0" ∷ []) (stats_first, (stats_second, tt))) refl
 
 pub rate_is : RateIs
 rate_is = refl
 
-pads_first : IsStatLine (stat_line (device 7 0) true []) (codes "7:0 ")
+pads_first : IsStatLine false (stat_line (device 7 0) true []) (codes "7:0 ")
 pads_first = record { device = codes "7:0"; pairs = []; line_is = refl; device_is = device_tested 7 0 (codes "7") (codes "0") refl refl; pairs_are = refl; distinct = tt }
 
-pads_second : IsStatLine (stat_line (device 8 0) true (stat_pair (codes "cost.usage") (amount.Whole 5) ∷ [])) (codes "8:0  cost.usage=5")
+pads_second : IsStatLine false (stat_line (device 8 0) true (stat_pair (codes "cost.usage") (amount.Whole 5) ∷ [])) (codes "8:0  cost.usage=5")
 pads_second = record {
   device = codes "8:0";
   pairs = codes " cost.usage=5";
@@ -213,9 +213,9 @@ pads_second = record {
 
 pub device_pads : DevicePads
 unfolding read_form_of
-device_pads = file form.DeviceStats (codes "7:0 " ∷ codes "8:0  cost.usage=5" ∷ []) refl (many_lines _ (codes "7:0 " ∷ codes "8:0  cost.usage=5" ∷ []) (pads_first, (pads_second, tt))) refl
+device_pads = file (form.DeviceStats false) (codes "7:0 " ∷ codes "8:0  cost.usage=5" ∷ []) refl (many_lines _ (codes "7:0 " ∷ codes "8:0  cost.usage=5" ∷ []) (pads_first, (pads_second, tt))) refl
 
-limits_line : IsLimitLine (limit_line (device 8 16) (At 2097152) Max Max (At 120)) (codes "8:16 rbps=2097152 wbps=max riops=max wiops=120")
+limits_line : IsLimitLine false (limit_line (device 8 16) (At 2097152) Max Max (At 120)) (codes "8:16 rbps=2097152 wbps=max riops=max wiops=120")
 limits_line = record {
   device = codes "8:16";
   rbps = codes "2097152";
@@ -232,11 +232,11 @@ limits_line = record {
 
 pub device_limits : DeviceLimits
 unfolding read_form_of
-device_limits = file form.DeviceLimits (codes "8:16 rbps=2097152 wbps=max riops=max wiops=120" ∷ []) refl (many_lines _ (codes "8:16 rbps=2097152 wbps=max riops=max wiops=120" ∷ []) (limits_line, tt)) refl
+device_limits = file (form.DeviceLimits false) (codes "8:16 rbps=2097152 wbps=max riops=max wiops=120" ∷ []) refl (many_lines _ (codes "8:16 rbps=2097152 wbps=max riops=max wiops=120" ∷ []) (limits_line, tt)) refl
 
 pub device_weight_rows : DeviceWeights
 unfolding read_form_of
-device_weight_rows = file (form.DeviceWeights 10000) (codes "default 100" ∷ codes "8:16 200" ∷ []) refl (record {
+device_weight_rows = file (form.DeviceWeights 10000 false) (codes "default 100" ∷ codes "8:16 200" ∷ []) refl (record {
   default = 100;
   devices = weight_line (device 8 16) 200 ∷ [];
   first = codes "default 100";

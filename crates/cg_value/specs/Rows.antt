@@ -37,13 +37,13 @@ abbrev pub stat_pair : List ℕ → Amount → StatPair
 stat_pair key amount = record { key = key; amount = amount }
 
 abbrev pub stat_line : Device → Bool → List StatPair → StatLine
-stat_line device pad pairs = record { device = device; pad = pad; pairs = pairs }
+stat_line device pad pairs = record { device = Some device; pad = pad; pairs = pairs }
 
 abbrev pub limit_line : Device → Limit → Limit → Limit → Limit → LimitLine
-limit_line device rbps wbps riops wiops = record { device = device; rbps = rbps; wbps = wbps; riops = riops; wiops = wiops }
+limit_line device rbps wbps riops wiops = record { device = Some device; rbps = rbps; wbps = wbps; riops = riops; wiops = wiops }
 
 abbrev pub weight_line : Device → ℕ → WeightLine
-weight_line device weight = record { device = device; weight = weight }
+weight_line device weight = record { device = Some device; weight = weight }
 
 abbrev pub averages : ℕ → ℕ → ℕ → ℕ → Averages
 averages avg10 avg60 avg300 total = record { avg10 = hundredths avg10; avg60 = hundredths avg60; avg300 = hundredths avg300; total = total }

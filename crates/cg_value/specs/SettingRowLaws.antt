@@ -82,7 +82,7 @@ gibibyte_size = record { count = 1; factor = 1073741824; product = refl; fits = 
 
 pub reclaim : Reclaim
 unfolding write_form_of
-reclaim = write form.Reclaim (codes "1G swappiness=60") refl (line_of (1073741824, Some 60) (record {
+reclaim = write (form.Reclaim false) (codes "1G swappiness=60") refl (line_of (1073741824, Some (At 60)) (record {
   front = codes "1G";
   back = codes "60";
   text_is = refl;

@@ -46,7 +46,7 @@ abbrev pub OnlyQuotaPrints : Type 0
 OnlyQuotaPrints = print_setting_of (setting.CpuMax Max None) ≡ codes "max\n"
 
 abbrev pub gibibyte : Setting
-gibibyte = setting.Reclaim 1073741824 (Some 60)
+gibibyte = setting.Reclaim 1073741824 (Some (At 60))
 
 abbrev pub Reclaim : Type 0
 Reclaim = SettingText One (codes "memory.reclaim") gibibyte (codes "1G swappiness=60\n")

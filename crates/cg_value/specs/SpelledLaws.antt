@@ -1,6 +1,6 @@
 -- Which parts of values some text spells.
-use Rattle.std.proofs.Common.{◌≡◌, ℕ, ◌+◌, ◌/◌, ◌%◌, ◌≤◌, ◌<◌, ◌≢◌, ◌↔◌, inl, inr, Bool, true, false, cond, ℤ, ◌≤ℤ◌, pos, negsuc, suc, List, [], ◌∷◌, ◌++◌, Option, Some, None, All, map}
-use Rattle.std.proofs.Common.{get_or, codes, refl, sym, ap, arith}
+use Rattle.std.proofs.Common.{◌≡◌, ℕ, ◌+◌, ◌/◌, ◌%◌, ◌≤◌, ◌<◌, ◌≢◌, ◌↔◌, inl, inr, Bool, true, false, cond, ℤ, ◌≤ℤ◌, pos, negsuc, suc, List, [], ◌∷◌, ◌++◌, Option, Some, None, All, map, length}
+use Rattle.std.proofs.Common.{IsTrue, get_or, codes, refl, sym, ap, arith}
 use Rattle.std.proofs.lemmas.List.Elements.{All-nil, All-cons, All-head, All-tail, All-map}
 use Rattle.std.proofs.lemmas.Bool.{cases_lt}
 use Rattle.std.proofs.lemmas.Slice.Eq.{bytes_eq-Decides}
@@ -10,12 +10,14 @@ use Rattle.cg_text.specs.Amount.{IsAmount}
 use Rattle.cg_text.specs.Clamp.{IsClamp}
 use Rattle.cg_text.specs.Decimal.{IsDecimal}
 use Rattle.cg_text.specs.DecimalLaws.{numeral}
-use Rattle.cg_text.specs.Device.{IsDevice}
+use Rattle.cg_text.specs.Device.{IsDevice, IsDeviceName}
 use Rattle.cg_text.specs.Distinct.{AreDistinct, LacksValue}
 use Rattle.cg_text.specs.Hundredths.{IsHundredths}
 use Rattle.cg_text.specs.Limit.{IsLimit}
 use Rattle.cg_text.specs.List.{IsRangeText, AreRangeTexts, IsStrictList}
 use Rattle.cg_text.specs.Numbers.{IsSet, IsSetFrom}
+use Rattle.cg_text.specs.Name.{IsNameValue}
+use Rattle.cg_text.specs.Param.{IsParam}
 use Rattle.cg_text.specs.Raw.{IsRawLine}
 use Rattle.cg_text.specs.Signed.{IsSignedNumeral, IsSigned}
 use Rattle.cg_text.specs.Word.{IsControllerWord}
@@ -28,18 +30,22 @@ use Rattle.cg_text.specs.declared.values.Clamp.{Clamp}
 use Rattle.cg_text.specs.declared.values.Clamp.TheVariants as clamp
 use Rattle.cg_text.specs.declared.values.Limit.{Limit}
 use Rattle.cg_text.specs.declared.values.Limit.TheVariants as limit
+use Rattle.cg_text.specs.declared.values.ParamValue.TheVariants as param
 use Rattle.cg_index.specs.Cells.{item_of}
 use Rattle.cg_index.specs.declared.cell.Cell.{Cell}
 use Rattle.cg_value.specs.Flat.{number_of, HasDistinctKeys}
 use Rattle.cg_value.specs.Kind.{any_u64}
 use Rattle.cg_value.specs.Lines.{HasParts, IsKey, AreLed}
 use Rattle.cg_value.specs.ReadLine.{AreWords, words_line, IsFlatLine, IsStatPair, pad_text, IsStatLine, IsLimitLine, IsWeightLine, IsTargetLine, role_text, CanBeInvalid, IsPartition, AreAverages}
-use Rattle.cg_value.specs.ReadLine.{IsPressureLine, ArePressureLines, IsNestedPair, IsNestedLine, IsRaw}
+use Rattle.cg_value.specs.ReadLine.{IsPressureLine, ArePressureLines, IsNestedPair, IsNestedLine, IsNodeStats, IsRaw, IsFlatLimit, IsParamPair, IsParamLine}
 use Rattle.cg_value.specs.declared.flat.FlatPair.{FlatPair}
 use Rattle.cg_value.specs.declared.value.Averages.{Averages}
 use Rattle.cg_value.specs.declared.value.LimitLine.{LimitLine}
+use Rattle.cg_value.specs.declared.value.FlatLimit.{FlatLimit}
 use Rattle.cg_value.specs.declared.value.NestedLine.{NestedLine}
 use Rattle.cg_value.specs.declared.value.NestedPair.{NestedPair}
+use Rattle.cg_value.specs.declared.value.ParamLine.{ParamLine}
+use Rattle.cg_value.specs.declared.value.ParamPair.{ParamPair}
 use Rattle.cg_value.specs.declared.value.Role.{Role}
 use Rattle.cg_value.specs.declared.value.StatLine.{StatLine}
 use Rattle.cg_value.specs.declared.value.StatPair.{StatPair}
@@ -108,8 +114,14 @@ pub max_clamp : (c : Clamp) → c ≡ clamp.Max → HasText (IsClamp Read c)
 max_clamp clamp.Max e = record { text = codes "max"; spelled = refl }
 max_clamp (clamp.At h) e = absurd (cc)
 
-pub max_amount : (a : Amount) → a ≡ amount.Max → HasText (IsAmount false a)
-max_amount a e = rw e (record { text = codes "max"; spelled = refl })
+pub max_amount : (signed : Bool) (a : Amount) → a ≡ amount.Max → HasText (IsAmount signed a)
+max_amount signed a e = rw e (record { text = codes "max"; spelled = refl })
+
+pub below_amount : (signed : Bool) (n : ℕ) → (IsTrue signed × HasText (IsDecimal 1 2147483648 n)) ↔ HasText (IsAmount signed (amount.Below n))
+below_amount signed n = (
+  λ h. record { text = 45 ∷ h.1.text; spelled = (h.0, record { digits = h.1.text; text_is = refl; digits_are = h.1.spelled }) },
+  λ h. (h.spelled.0, record { text = h.spelled.1.digits; spelled = h.spelled.1.digits_are }),
+)
 
 pub parts_text : {V W : Type 0} (P : V → List ℕ → Type 0) (mark : List ℕ) (Q : W → List ℕ → Type 0) (v : V) (w : W) → (HasText (P v) × HasText (Q w)) ↔ HasText (HasParts P mark Q v w)
 parts_text P mark Q v w = (
@@ -169,21 +181,28 @@ device_text d = (
   λ h. (record { text = h.spelled.major; spelled = h.spelled.major_is }, record { text = h.spelled.minor; spelled = h.spelled.minor_is }),
 )
 
+-- A device that is gone has a text where such are allowed.
+pub gone_text : (unknown : Bool) → IsTrue unknown ↔ HasText (IsDeviceName unknown None)
+gone_text unknown = (λ e. record { text = codes "(unknown)"; spelled = (e, refl) }, λ h. h.spelled.0)
+
 -- ---- Lines
 
 pub flat_text : (p : FlatPair) → (HasText (IsKey p.key) × HasText (IsDecimal 0 any_u64 p.number)) ↔ HasText (IsFlatLine p)
 flat_text p = parts_text IsKey (codes " ") (IsDecimal 0 any_u64) p.key p.number
 
-pub stat_pair_text : (p : StatPair) → (HasText (IsKey p.key) × HasText (IsAmount false p.amount)) ↔ HasText (IsStatPair p)
-stat_pair_text p = parts_text IsKey (codes "=") (IsAmount false) p.key p.amount
+pub flat_limit_text : (p : FlatLimit) → (HasText (IsKey p.key) × HasText (IsLimit 0 any_u64 p.limit)) ↔ HasText (IsFlatLimit p)
+flat_limit_text p = parts_text IsKey (codes " ") (IsLimit 0 any_u64) p.key p.limit
 
-pub stat_text : (s : StatLine) → (HasText (IsDevice s.device) × (HasLines (AllZip IsStatPair s.pairs) × AreDistinct (map (λ p. p.key) s.pairs))) ↔ HasText (IsStatLine s)
-stat_text s = (
-  λ h. (let led = led_on IsStatPair s.pairs h.1.0.lines h.1.0.spelled in record {
+pub stat_pair_text : (kernel : Bool) (p : StatPair) → (HasText (IsKey p.key) × HasText (IsAmount kernel p.amount)) ↔ HasText (IsStatPair kernel p)
+stat_pair_text kernel p = parts_text IsKey (codes "=") (IsAmount kernel) p.key p.amount
+
+pub stat_text : (kernel : Bool) (s : StatLine) → (HasText (IsDeviceName kernel s.device) × (HasLines (AllZip (IsStatPair kernel) s.pairs) × AreDistinct (map (λ p. p.key) s.pairs))) ↔ HasText (IsStatLine kernel s)
+stat_text kernel s = (
+  λ h. (let led = led_on (IsStatPair kernel) s.pairs h.1.0.lines h.1.0.spelled in record {
     text = h.0.text ++ pad_text s.pad ++ led.text;
     spelled = record { device = h.0.text; pairs = led.text; line_is = refl; device_is = h.0.spelled; pairs_are = led.spelled; distinct = h.1.1 };
   }),
-  λ h. (record { text = h.spelled.device; spelled = h.spelled.device_is }, (led_back IsStatPair s.pairs h.spelled.pairs h.spelled.pairs_are, h.spelled.distinct)),
+  λ h. (record { text = h.spelled.device; spelled = h.spelled.device_is }, (led_back (IsStatPair kernel) s.pairs h.spelled.pairs h.spelled.pairs_are, h.spelled.distinct)),
 )
 
 three : {X : Type 0} (P : X → Type 0) (a b c : X) → All P (a ∷ b ∷ c ∷ []) ↔ (P a × P b × P c)
@@ -200,8 +219,8 @@ four P a b c d = (
   λ h. All-cons P a (b ∷ c ∷ d ∷ []) h.0 ((three P b c d).1 (h.1, h.2, h.3)),
 )
 
-limits_on : (l : LimitLine) → (HasText (IsDevice l.device) × HasText (IsLimit 0 any_u64 l.rbps) × HasText (IsLimit 0 any_u64 l.wbps) × HasText (IsLimit 0 any_u64 l.riops) × HasText (IsLimit 0 any_u64 l.wiops)) ↔ HasText (IsLimitLine l)
-limits_on l = (
+limits_on : (kernel : Bool) (l : LimitLine) → (HasText (IsDeviceName kernel l.device) × HasText (IsLimit 0 any_u64 l.rbps) × HasText (IsLimit 0 any_u64 l.wbps) × HasText (IsLimit 0 any_u64 l.riops) × HasText (IsLimit 0 any_u64 l.wiops)) ↔ HasText (IsLimitLine kernel l)
+limits_on kernel l = (
   λ h. record {
     text = h.0.text ++ codes " rbps=" ++ h.1.text ++ codes " wbps=" ++ h.2.text ++ codes " riops=" ++ h.3.text ++ codes " wiops=" ++ h.4.text;
     spelled = record {
@@ -227,20 +246,35 @@ limits_on l = (
   ),
 )
 
-pub limits_text : (l : LimitLine) → (HasText (IsDevice l.device) × HasLines (AllZip (IsLimit 0 any_u64) (l.rbps ∷ l.wbps ∷ l.riops ∷ l.wiops ∷ []))) ↔ HasText (IsLimitLine l)
-limits_text l =
+pub limits_text : (kernel : Bool) (l : LimitLine) → (HasText (IsDeviceName kernel l.device) × HasLines (AllZip (IsLimit 0 any_u64) (l.rbps ∷ l.wbps ∷ l.riops ∷ l.wiops ∷ []))) ↔ HasText (IsLimitLine kernel l)
+limits_text kernel l =
     let P = λ (x : Limit). HasText (IsLimit 0 any_u64 x) in
     let all = lines_text (IsLimit 0 any_u64) (l.rbps ∷ l.wbps ∷ l.riops ∷ l.wiops ∷ []) in
     let each = four P l.rbps l.wbps l.riops l.wiops in (
-      λ h. (let f = each.0 (all.1 h.1) in (limits_on l).0 (h.0, f.0, f.1, f.2, f.3)),
-      λ h. (let f = (limits_on l).1 h in (f.0, all.0 (each.1 (f.1, f.2, f.3, f.4)))),
+      λ h. (let f = each.0 (all.1 h.1) in (limits_on kernel l).0 (h.0, f.0, f.1, f.2, f.3)),
+      λ h. (let f = (limits_on kernel l).1 h in (f.0, all.0 (each.1 (f.1, f.2, f.3, f.4)))),
     )
 
-pub weight_text : (most : ℕ) (w : WeightLine) → (HasText (IsDevice w.device) × HasText (IsDecimal 1 most w.weight)) ↔ HasText (IsWeightLine most w)
-weight_text most w = parts_text IsDevice (codes " ") (IsDecimal 1 most) w.device w.weight
+pub weight_text : (most : ℕ) (kernel : Bool) (w : WeightLine) → (HasText (IsDeviceName kernel w.device) × HasText (IsDecimal 1 most w.weight)) ↔ HasText (IsWeightLine most kernel w)
+weight_text most kernel w = parts_text (IsDeviceName kernel) (codes " ") (IsDecimal 1 most) w.device w.weight
 
-pub target_text : (t : TargetLine) → (HasText (IsDevice t.device) × HasText (IsDecimal 0 any_u64 t.target)) ↔ HasText (IsTargetLine t)
-target_text t = parts_text IsDevice (codes " target=") (IsDecimal 0 any_u64) t.device t.target
+pub target_text : (kernel : Bool) (t : TargetLine) → (HasText (IsDeviceName kernel t.device) × HasText (IsDecimal 0 any_u64 t.target)) ↔ HasText (IsTargetLine kernel t)
+target_text kernel t = parts_text (IsDeviceName kernel) (codes " target=") (IsDecimal 0 any_u64) t.device t.target
+
+pub name_text : (name : List ℕ) → IsNameValue name ↔ HasText (IsParam (param.Name name))
+name_text name = (λ h. record { text = name; spelled = (refl, h) }, λ h. rw h.spelled.0 h.spelled.1)
+
+pub param_pair_text : (p : ParamPair) → (HasText (IsKey p.key) × HasText (IsParam p.value)) ↔ HasText (IsParamPair p)
+param_pair_text p = parts_text IsKey (codes "=") IsParam p.key p.value
+
+pub params_text : (l : ParamLine) → (HasText (IsDeviceName true l.device) × ((0 < length l.params) × (HasLines (AllZip IsParamPair l.params) × AreDistinct (map (λ p. p.key) l.params)))) ↔ HasText (IsParamLine l)
+params_text l = (
+  λ h. (let led = led_on IsParamPair l.params h.1.1.0.lines h.1.1.0.spelled in record {
+    text = h.0.text ++ led.text;
+    spelled = record { device = h.0.text; params = led.text; line_is = refl; device_is = h.0.spelled; some = h.1.0; params_are = led.spelled; distinct = h.1.1.1 };
+  }),
+  λ h. (record { text = h.spelled.device; spelled = h.spelled.device_is }, (h.spelled.some, (led_back IsParamPair l.params h.spelled.params h.spelled.params_are, h.spelled.distinct))),
+)
 
 averages_on : (a : Averages) → (HasText (IsHundredths Read 99999 a.avg10) × HasText (IsHundredths Read 99999 a.avg60) × HasText (IsHundredths Read 99999 a.avg300) × HasText (IsDecimal 0 any_u64 a.total)) ↔ HasText (AreAverages a)
 averages_on a = (
@@ -285,6 +319,15 @@ nested_text l = (
     spelled = record { pairs = led.text; line_is = refl; key_is = h.0.spelled.1; pairs_are = led.spelled; distinct = h.1.1 };
   }),
   λ h. (record { text = l.key; spelled = (refl, h.spelled.key_is) }, (led_back IsNestedPair l.pairs h.spelled.pairs h.spelled.pairs_are, h.spelled.distinct)),
+)
+
+pub node_stats_text : (total : ℕ) (nodes : List NestedPair) → (HasText (IsDecimal 0 any_u64 total) × (HasLines (AllZip IsNestedPair nodes) × AreDistinct (map (λ p. p.key) nodes))) ↔ HasText (IsNodeStats (total, nodes))
+node_stats_text total nodes = (
+  λ h. (let led = led_on IsNestedPair nodes h.1.0.lines h.1.0.spelled in record {
+    text = codes "total=" ++ h.0.text ++ led.text;
+    spelled = record { total = h.0.text; nodes = led.text; line_is = refl; total_is = h.0.spelled; nodes_are = led.spelled; distinct = h.1.1 };
+  }),
+  λ h. (record { text = h.spelled.total; spelled = h.spelled.total_is }, (led_back IsNestedPair nodes h.spelled.nodes h.spelled.nodes_are, h.spelled.distinct)),
 )
 
 pub raw_text : (bytes : List ℕ) → IsRawLine bytes ↔ HasText (IsRaw bytes)

@@ -3,7 +3,7 @@
 -- kernels print where a group is idle. The document is that of Linux 6.1.192:
 -- https://www.kernel.org/doc/html/v6.1/admin-guide/cgroup-v2.html. The rows of the kernel profile alone are what kernels up to
 -- 7.3 print (cgroup-v2.rst of 7.3, also "HugeTLB", "Misc" and "DMEM"; block/bfq-iosched.rst, "BFQ group scheduling").
-use Rattle.std.specs.Prelude.{ℕ, Bool, false, pos, negsuc, List, [], ◌∷◌, Option, Some, None, codes, if◌then◌else◌}
+use Rattle.std.specs.Prelude.{ℕ, Bool, true, false, pos, negsuc, List, [], ◌∷◌, Option, Some, None, codes, if◌then◌else◌}
 use Rattle.std.specs.List.{list_any}
 use Rattle.std.specs.Str.{bytes_eq}
 use Rattle.cg_value.specs.Kind.{any_u64}
@@ -24,7 +24,8 @@ pub record Row : Type 0 where
 abbrev pub row : List ℕ → Option ReadForm → Option WriteForm → Row
 row name reads writes = record { name = name; reads = reads; writes = writes }
 
--- Where the profiles differ: the greatest list number, how memory.numa_stat is read, and which rows come after the others.
+-- Where the profiles differ: the greatest list number, how memory.numa_stat is read, whether devices may be gone and amounts
+-- of theirs be below 0, what a write of memory.reclaim holds, and which rows come after the others.
 abbrev pub list_end : Profile → ℕ
 list_end One = 65535
 list_end Two = 1048575
@@ -34,6 +35,11 @@ abbrev pub numa_stat : Profile → ReadForm
 numa_stat One = read.Raw
 numa_stat Two = read.Nested
 numa_stat Kernel = read.Nested
+
+abbrev pub is_kernel : Profile → Bool
+is_kernel One = false
+is_kernel Two = false
+is_kernel Kernel = true
 
 abbrev pub more_rows : Profile → List Row
 more_rows One = []
@@ -47,15 +53,23 @@ more_rows Kernel = row (codes "cgroup.stat.local") (Some read.Flat) (None)
     ∷ row (codes "hugetlb.*.rsvd.max") (Some read.Limit) (Some write.SizeLimit)
     ∷ row (codes "hugetlb.*.events") (Some read.Flat) (None)
     ∷ row (codes "hugetlb.*.events.local") (Some read.Flat) (None)
+    ∷ row (codes "hugetlb.*.numa_stat") (Some read.NodeStats) (None)
     ∷ row (codes "misc.capacity") (Some read.Flat) (None)
     ∷ row (codes "misc.current") (Some read.Flat) (None)
     ∷ row (codes "misc.peak") (Some read.Flat) (None)
     ∷ row (codes "misc.events") (Some read.Flat) (None)
     ∷ row (codes "misc.events.local") (Some read.Flat) (None)
+    ∷ row (codes "misc.max") (Some read.FlatLimits) (Some write.Raw)
     ∷ row (codes "dmem.capacity") (Some read.Flat) (None)
     ∷ row (codes "dmem.current") (Some read.Flat) (None)
     ∷ row (codes "dmem.peak") (Some read.Flat) (None)
-    ∷ row (codes "io.bfq.weight") (Some (read.DeviceWeights 1000)) (Some (write.DeviceWeight 1000))
+    ∷ row (codes "dmem.min") (Some read.FlatLimits) (Some write.Raw)
+    ∷ row (codes "dmem.low") (Some read.FlatLimits) (Some write.Raw)
+    ∷ row (codes "dmem.max") (Some read.FlatLimits) (Some write.Raw)
+    ∷ row (codes "io.bfq.weight") (Some (read.DeviceWeights 1000 true)) (Some (write.DeviceWeight 1000))
+    ∷ row (codes "io.cost.qos") (Some read.DeviceParams) (Some write.Raw)
+    ∷ row (codes "io.cost.model") (Some read.DeviceParams) (Some write.Raw)
+    ∷ row (codes "io.prio.class") (Some read.Class) (Some write.Class)
     ∷ []
 
 abbrev pub rows : Profile → List Row
@@ -98,13 +112,13 @@ rows profile = row (codes "cgroup.type") (Some read.Mode) (Some write.Mode)
     ∷ row (codes "memory.events") (Some read.Flat) (None)
     ∷ row (codes "memory.events.local") (Some read.Flat) (None)
     ∷ row (codes "memory.swap.events") (Some read.Flat) (None)
-    ∷ row (codes "memory.reclaim") (None) (Some write.Reclaim)
+    ∷ row (codes "memory.reclaim") (None) (Some (write.Reclaim (is_kernel profile)))
     ∷ row (codes "memory.numa_stat") (Some (numa_stat profile)) (None)
     ∷ row (codes "memory.pressure") (Some read.Pressure) (Some write.Trigger)
-    ∷ row (codes "io.stat") (Some read.DeviceStats) (None)
-    ∷ row (codes "io.max") (Some read.DeviceLimits) (Some write.DeviceLimits)
-    ∷ row (codes "io.weight") (Some (read.DeviceWeights 10000)) (Some (write.DeviceWeight 10000))
-    ∷ row (codes "io.latency") (Some read.DeviceTargets) (Some write.DeviceTarget)
+    ∷ row (codes "io.stat") (Some (read.DeviceStats (is_kernel profile))) (None)
+    ∷ row (codes "io.max") (Some (read.DeviceLimits (is_kernel profile))) (Some write.DeviceLimits)
+    ∷ row (codes "io.weight") (Some (read.DeviceWeights 10000 (is_kernel profile))) (Some (write.DeviceWeight 10000))
+    ∷ row (codes "io.latency") (Some (read.DeviceTargets (is_kernel profile))) (Some write.DeviceTarget)
     ∷ row (codes "io.pressure") (Some read.Pressure) (Some write.Trigger)
     ∷ row (codes "irq.pressure") (Some read.Pressure) (Some write.Trigger)
     ∷ row (codes "pids.max") (Some read.Limit) (Some (write.Limit 0 4194304))

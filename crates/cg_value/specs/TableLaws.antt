@@ -260,8 +260,8 @@ more_ok : (profile : Profile) → AllOk (more_rows profile)
 more_ok One = tt
 more_ok Two = tt
 more_ok Kernel =
-    let from_9 : AllOk (drop 9 (more_rows Kernel)) = (tt, tt, (tt, tt, (tt, tt, (tt, tt, (tt, tt, (tt, tt, (tt, tt, (tt, tt, ((omega arith, omega arith), (omega arith, omega arith), tt))))))))) in
-    let from_5 : AllOk (drop 5 (more_rows Kernel)) = (tt, tt, (tt, tt, (tt, tt, (tt, tt, from_9)))) in
+    let from_10 : AllOk (drop 10 (more_rows Kernel)) = (tt, tt, (tt, tt, (tt, tt, (tt, tt, (tt, tt, (tt, tt, (tt, tt, (tt, tt, (tt, tt, (tt, tt, (tt, tt, (tt, tt, ((omega arith, omega arith), (omega arith, omega arith), (tt, tt, (tt, tt, (tt, tt, tt)))))))))))))))) in
+    let from_5 : AllOk (drop 5 (more_rows Kernel)) = (tt, tt, (tt, tt, (tt, tt, (tt, tt, (tt, tt, from_10))))) in
     (tt, tt, (tt, tt, (tt, tt, ((omega arith, omega arith), tt, ((omega arith, omega arith), tt, from_5)))))
 
 all_ok : (profile : Profile) → AllOk (rows profile)

@@ -1,5 +1,5 @@
 -- The rows of the code's table.
-use Rattle.std.specs.Prelude.{◌≡◌, ℕ, Bool, true, ◌&&◌, List, [], ◌∷◌, Option, Some, None, is_none, if◌then◌else◌, slice_index_or, map, max, length, take}
+use Rattle.std.specs.Prelude.{◌≡◌, ℕ, Bool, true, false, ◌&&◌, List, [], ◌∷◌, Option, Some, None, is_none, if◌then◌else◌, slice_index_or, map, max, length, take}
 use Rattle.std.specs.Str.{bytes_eq}
 use Rattle.cg_value.specs.Table.{Row as DefinedRow, row, rows}
 use Rattle.cg_value.specs.declared.kind.ReadForm.{ReadForm}
@@ -37,17 +37,27 @@ rows_in One rs = take 60 rs
 rows_in Two rs = take 60 rs
 rows_in Kernel rs = rs
 
+-- What stands in profile 2 for a form of the kernel profile.
+abbrev pub read_before : ReadForm → ReadForm
+read_before (read.DeviceStats kernel) = read.DeviceStats false
+read_before (read.DeviceLimits kernel) = read.DeviceLimits false
+read_before (read.DeviceWeights most kernel) = read.DeviceWeights most false
+read_before (read.DeviceTargets kernel) = read.DeviceTargets false
+read_before form = form
+
 -- What stands in a profile for a form of the kernel profile.
 abbrev pub read_in : Profile → ReadForm → ReadForm
 read_in One (read.Set most) = read.Set 65535
 read_in One read.Nested = read.Raw
-read_in One form = form
-read_in Two form = form
+read_in One form = read_before form
+read_in Two form = read_before form
 read_in Kernel form = form
 
 abbrev pub write_in : Profile → WriteForm → WriteForm
 write_in One (write.Set most) = write.Set 65535
+write_in One (write.Reclaim max) = write.Reclaim false
 write_in One form = form
+write_in Two (write.Reclaim max) = write.Reclaim false
 write_in Two form = form
 write_in Kernel form = form
 

@@ -1,6 +1,7 @@
 -- A file of any kind can end after each of its lines.
 use Rattle.std.proofs.Common.{◌≡◌, ℕ, ◌⊎◌, inl, inr, Bool, List, [], ◌∷◌, ◌++◌, Option, Some, None, map, refl, sym, ◌∙◌, ap, append_assoc}
 use Rattle.std.specs.List.{AllZip}
+use Rattle.cg_text.specs.Class.{IsClass}
 use Rattle.cg_text.specs.Clamp.{IsClamp}
 use Rattle.cg_text.specs.Decimal.{IsDecimal}
 use Rattle.cg_text.specs.Distinct.{LacksValue, AreDistinct}
@@ -14,12 +15,14 @@ use Rattle.cg_value.specs.Files.{ReadLines, KindFile}
 use Rattle.cg_value.specs.Kind.{any_u64}
 use Rattle.cg_value.specs.LineLaws.{plain_lines, split_lines}
 use Rattle.cg_value.specs.Lines.{IsOneLine, AreLinesOf}
-use Rattle.cg_value.specs.ReadLine.{words_line, IsMode, IsCpuMax, AreWords, IsFlatLine, AreFlatLines, IsStatLine, IsLimitLine, IsWeightLine, AreWeightLines, IsTargetLine, IsPartition, ArePressureLines, IsNestedLine, AreNestedLines, IsRaw}
+use Rattle.cg_value.specs.ReadLine.{words_line, IsMode, IsCpuMax, AreWords, IsFlatLine, AreFlatLines, IsStatLine, IsLimitLine, IsWeightLine, AreWeightLines, IsTargetLine, IsPartition, ArePressureLines, IsNestedLine, AreNestedLines, IsNodeStats, IsRaw, IsFlatLimit, AreFlatLimits, IsParamLine}
 use Rattle.cg_value.specs.declared.flat.FlatPair.{FlatPair}
 use Rattle.cg_value.specs.declared.kind.ReadForm.{ReadForm}
 use Rattle.cg_value.specs.declared.kind.ReadForm.TheVariants as form
 use Rattle.cg_value.specs.declared.value.Averages.{Averages}
+use Rattle.cg_value.specs.declared.value.FlatLimit.{FlatLimit}
 use Rattle.cg_value.specs.declared.value.NestedLine.{NestedLine}
+use Rattle.cg_value.specs.declared.value.NestedPair.{NestedPair}
 use Rattle.cg_value.specs.declared.value.Role.{Role}
 use Rattle.cg_value.specs.declared.value.Value.{Value}
 use Rattle.cg_value.specs.declared.value.Value.TheVariants as value
@@ -80,17 +83,22 @@ flat_end ps before after h =
     let front = values_in_front IsFlatLine ps before after h.each in
     (front.front, record { each = front.spelled; distinct = distinct_front (λ p. p.key) front.front front.back (rw front.values_are at h.distinct) })
 
+flat_limits_end : (ps : List FlatLimit) (before after : List (List ℕ)) → AreFlatLimits ps (before ++ after) → (qs : List FlatLimit) × AreFlatLimits qs before
+flat_limits_end ps before after h =
+    let front = values_in_front IsFlatLimit ps before after h.each in
+    (front.front, record { each = front.spelled; distinct = distinct_front (λ p. p.key) front.front front.back (rw front.values_are at h.distinct) })
+
 nested_end : (ls : List NestedLine) (before after : List (List ℕ)) → AreNestedLines ls (before ++ after) → (ms : List NestedLine) × AreNestedLines ms before
 nested_end ls before after h =
     let front = values_in_front IsNestedLine ls before after h.each in
     (front.front, record { each = front.spelled; distinct = distinct_front (λ l. l.key) front.front front.back (rw front.values_are at h.distinct) })
 
-weights_end : (most : ℕ) (v : Value) (first : List ℕ) (before after : List (List ℕ)) → AreWeightLines most v (first ∷ (before ++ after)) → (w : Value) × AreWeightLines most w (first ∷ before)
-weights_end most v first before after h =
+weights_end : (most : ℕ) (kernel : Bool) (v : Value) (first : List ℕ) (before after : List (List ℕ)) → AreWeightLines most kernel v (first ∷ (before ++ after)) → (w : Value) × AreWeightLines most kernel w (first ∷ before)
+weights_end most kernel v first before after h =
     let e = h.lines_are in
     let same : first ≡ h.first = cc in
     let others : h.others ≡ before ++ after = cc in
-    let front = values_in_front (IsWeightLine most) h.devices before after (rw others at h.others_are) in (
+    let front = values_in_front (IsWeightLine most kernel) h.devices before after (rw others at h.others_are) in (
       value.DeviceWeights h.default front.front,
       record {
         default = h.default;
@@ -127,15 +135,18 @@ lines_can_end (form.Number lo hi) v first before after h = (v, one_line_ends (Is
 lines_can_end (form.Signed lo hi) v first before after h = (v, one_line_ends (IsSigned lo hi) value.Signed v first before after h)
 lines_can_end form.Limit v first before after h = (v, one_line_ends (IsLimit 0 any_u64) value.Limit v first before after h)
 lines_can_end form.Mode v first before after h = (v, one_line_ends IsMode value.Mode v first before after h)
+lines_can_end form.Class v first before after h = (v, one_line_ends IsClass value.Class v first before after h)
 lines_can_end form.CpuMax v first before after h = (v, one_line_ends IsCpuMax (λ (x : Limit × ℕ). value.CpuMax (x.0) (x.1)) v first before after h)
 lines_can_end form.Clamp v first before after h = (v, one_line_ends (IsClamp Read) value.Clamp v first before after h)
 lines_can_end (form.Numbers lo hi) v first before after h = many_lines_end (IsDecimal lo hi) value.Numbers v (first ∷ before) after h
 lines_can_end form.Words v first before after h = (v, record { x = h.x; value = h.value; spelled = words_end h.x first before after h.spelled })
 lines_can_end form.Flat v first before after h = let front = flat_end h.x (first ∷ before) after h.spelled in (value.Flat front.0, record { x = front.0; value = refl; spelled = front.1 })
-lines_can_end form.DeviceStats v first before after h = many_lines_end IsStatLine value.DeviceStats v (first ∷ before) after h
-lines_can_end form.DeviceLimits v first before after h = many_lines_end IsLimitLine value.DeviceLimits v (first ∷ before) after h
-lines_can_end (form.DeviceWeights most) v first before after h = weights_end most v first before after h
-lines_can_end form.DeviceTargets v first before after h = many_lines_end IsTargetLine value.DeviceTargets v (first ∷ before) after h
+lines_can_end form.FlatLimits v first before after h = let front = flat_limits_end h.x (first ∷ before) after h.spelled in (value.FlatLimits front.0, record { x = front.0; value = refl; spelled = front.1 })
+lines_can_end (form.DeviceStats kernel) v first before after h = many_lines_end (IsStatLine kernel) value.DeviceStats v (first ∷ before) after h
+lines_can_end (form.DeviceLimits kernel) v first before after h = many_lines_end (IsLimitLine kernel) value.DeviceLimits v (first ∷ before) after h
+lines_can_end (form.DeviceWeights most kernel) v first before after h = weights_end most kernel v first before after h
+lines_can_end (form.DeviceTargets kernel) v first before after h = many_lines_end (IsTargetLine kernel) value.DeviceTargets v (first ∷ before) after h
+lines_can_end form.DeviceParams v first before after h = many_lines_end IsParamLine value.DeviceParams v (first ∷ before) after h
 lines_can_end (form.Set most) v first before after h = (v, one_line_ends (IsStrictList most) value.Set v first before after h)
 lines_can_end form.Partition v first before after h =
     (v, one_line_ends (λ (x : Role × Bool × Option (List ℕ)) line. IsPartition (x.0) (x.1) (x.2) line) (λ x. value.Partition (x.0) (x.1) (x.2)) v first before after h)
@@ -143,6 +154,7 @@ lines_can_end form.Pressure v first before after h =
     let front = pressure_end (h.x.0) (h.x.1) first before after h.spelled in
     (value.Pressure front.0 front.1, record { x = (front.0, front.1); value = refl; spelled = front.2 })
 lines_can_end form.Nested v first before after h = let front = nested_end h.x (first ∷ before) after h.spelled in (value.Nested front.0, record { x = front.0; value = refl; spelled = front.1 })
+lines_can_end form.NodeStats v first before after h = (v, one_line_ends IsNodeStats (λ (x : ℕ × List NestedPair). value.NodeStats (x.0) (x.1)) v first before after h)
 lines_can_end form.Raw v first before after h = many_lines_end IsRaw value.Raw v (first ∷ before) after h
 
 -- Where some file of the kind goes on after a newline, one also ends there.

@@ -1,5 +1,5 @@
 -- Which numbers a write can hold.
-use Rattle.std.specs.Prelude.{◌≡◌, ℕ, ◌≤◌, List, [], ◌∷◌, Option, Some, None}
+use Rattle.std.specs.Prelude.{◌≡◌, ℕ, ◌≤◌, Bool, IsTrue, List, [], ◌∷◌, Option, Some, None}
 use Rattle.cg_text.specs.declared.pairs.LimitPairs.{LimitPairs}
 use Rattle.cg_text.specs.declared.values.Clamp.{Clamp}
 use Rattle.cg_text.specs.declared.values.Clamp.TheVariants as clamp
@@ -33,6 +33,12 @@ IsDeviceWithin d = (d.major ≤ 4095) × (d.minor ≤ 1048575)
 -- A quota with its period.
 abbrev pub IsQuotaWithin : Limit → Option ℕ → Type 0
 IsQuotaWithin quota period = IsLimitWithin 1000 any_u64 quota × IsGivenWithin 1000 1000000 period
+
+-- A swappiness is at most 200 or, where it may be, max, where it is given.
+abbrev pub IsSwappinessWithin : Bool → Option Limit → Type 0
+IsSwappinessWithin max None = Unit {0}
+IsSwappinessWithin max (Some Max) = IsTrue max
+IsSwappinessWithin max (Some (At n)) = IsWithin 0 200 n
 
 -- A limit of a device is at least 1, where it is given.
 abbrev pub IsGivenLimitWithin : Option Limit → Type 0

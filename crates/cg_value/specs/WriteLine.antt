@@ -1,7 +1,8 @@
 -- The lines that are written, kind by kind (cgroup-v2.rst, "Interface Files", at the names given here; psi.rst).
 -- The documents are those of Linux 6.1.192: https://www.kernel.org/doc/html/v6.1/admin-guide/cgroup-v2.html and
 -- https://www.kernel.org/doc/html/v6.1/accounting/psi.html.
-use Rattle.std.specs.Prelude.{◌≡◌, ◌≢◌, ℕ, Bool, true, false, List, [], ◌∷◌, ◌++◌, Option, Some, None, All, codes, ◌⊎◌}
+use Rattle.std.specs.Prelude.{◌≡◌, ◌≢◌, ℕ, Bool, true, false, List, [], ◌∷◌, ◌++◌, Option, Some, None, All, codes, ◌⊎◌, IsTrue}
+use Rattle.cg_text.specs.Class.{IsClass}
 use Rattle.cg_text.specs.Clamp.{IsClamp}
 use Rattle.cg_text.specs.Decimal.{IsDecimal}
 use Rattle.cg_text.specs.Device.{IsDevice}
@@ -53,10 +54,14 @@ abbrev pub IsQuota : Limit → Option ℕ → List ℕ → Type 0
 IsQuota quota None line = IsLimit 1000 any_u64 quota line
 IsQuota quota (Some period) line = HasParts (IsLimit 1000 any_u64) (codes " ") (IsDecimal 1000 1000000) quota period line
 
--- reclaim: memory.reclaim. A size, or a size and a swappiness.
-abbrev pub IsReclaim : ℕ → Option ℕ → List ℕ → Type 0
-IsReclaim size None line = IsSize size line
-IsReclaim size (Some swappiness) line = HasParts IsSize (codes " swappiness=") (IsDecimal 0 200) size swappiness line
+-- reclaim: memory.reclaim. A size, or a size and a swappiness: a number of at most 200 or, where it may be, max.
+abbrev pub IsSwappiness : Bool → Limit → List ℕ → Type 0
+IsSwappiness max Max text = IsTrue max × (text ≡ codes "max")
+IsSwappiness max (At n) text = IsDecimal 0 200 n text
+
+abbrev pub IsReclaim : Bool → ℕ → Option Limit → List ℕ → Type 0
+IsReclaim max size None line = IsSize size line
+IsReclaim max size (Some swappiness) line = HasParts IsSize (codes " swappiness=") (IsSwappiness max) size swappiness line
 
 -- device_limits: io.max. A device and one to four of its limits, in any order, no key twice.
 abbrev pub IsLimitWrite : Device × LimitPairs → List ℕ → Type 0
@@ -103,9 +108,10 @@ WriteLine (form.Limit lo hi) s line = IsLineOf (IsLimit lo hi) setting.Limit s l
 WriteLine form.SizeLimit s line = IsLineOf IsSizeLimit setting.Limit s line
 WriteLine form.Clamp s line = IsLineOf (IsClamp Written) setting.Clamp s line
 WriteLine form.Mode s line = (s ≡ setting.Threaded) × (line ≡ codes "threaded")
+WriteLine form.Class s line = IsLineOf IsClass setting.Class s line
 WriteLine form.Controllers s line = IsLineOf AreToggles setting.Controllers s line
 WriteLine form.CpuMax s line = IsLineOf (λ (x : Limit × Option ℕ) l. IsQuota (x.0) (x.1) l) (λ x. setting.CpuMax (x.0) (x.1)) s line
-WriteLine form.Reclaim s line = IsLineOf (λ (x : ℕ × Option ℕ) l. IsReclaim (x.0) (x.1) l) (λ x. setting.Reclaim (x.0) (x.1)) s line
+WriteLine (form.Reclaim max) s line = IsLineOf (λ (x : ℕ × Option Limit) l. IsReclaim max (x.0) (x.1) l) (λ x. setting.Reclaim (x.0) (x.1)) s line
 WriteLine form.DeviceLimits s line = IsLineOf IsLimitWrite limits_setting s line
 WriteLine (form.DeviceWeight most) s line = IsWeightSetting most s line
 WriteLine form.DeviceTarget s line = IsLineOf IsTargetWrite (λ (x : Device × ℕ). setting.DeviceTarget (x.0) (x.1)) s line

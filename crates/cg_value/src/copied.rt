@@ -6,10 +6,11 @@ ghost use Rattle.cg_index.specs.Cells.{item_of};
 use crate::flat::Flat;
 use crate::raw_lines::RawLines;
 use crate::value::{
-    LimitLine, NestedLine, NestedPair, StatLine, StatPair, TargetLine, Value, WeightLine,
+    FlatLimit, LimitLine, NestedLine, NestedPair, ParamLine, ParamPair, StatLine, StatPair,
+    TargetLine, Value, WeightLine,
 };
 use cg_index::{Cell, HasKey, KeyedBuilder, KeyedItems};
-use cg_text::{Items, Key, KeyFault, NumberSet, OutOfMemory};
+use cg_text::{Items, Key, KeyFault, NumberSet, OutOfMemory, ParamValue};
 use std::alloc::Global;
 
 /// A value that can be copied where memory is left.
@@ -102,6 +103,15 @@ impl Copied for RawLines {
     }
 }
 
+impl Copied for FlatLimit {
+    fn copy(&self, alloc: Global) -> Result<FlatLimit, OutOfMemory> {
+        Ok(FlatLimit {
+            key: self.key.copy(alloc)?,
+            limit: self.limit,
+        })
+    }
+}
+
 impl Copied for StatPair {
     fn copy(&self, alloc: Global) -> Result<StatPair, OutOfMemory> {
         Ok(StatPair {
@@ -139,6 +149,34 @@ impl Copied for TargetLine {
     }
 }
 
+impl Copied for ParamValue {
+    fn copy(&self, alloc: Global) -> Result<ParamValue, OutOfMemory> {
+        Ok(match self {
+            ParamValue::Whole(number) => ParamValue::Whole(*number),
+            ParamValue::Decimal(number) => ParamValue::Decimal(*number),
+            ParamValue::Name(name) => ParamValue::Name(name.copy(alloc)?),
+        })
+    }
+}
+
+impl Copied for ParamPair {
+    fn copy(&self, alloc: Global) -> Result<ParamPair, OutOfMemory> {
+        Ok(ParamPair {
+            key: self.key.copy(alloc)?,
+            value: self.value.copy(alloc)?,
+        })
+    }
+}
+
+impl Copied for ParamLine {
+    fn copy(&self, alloc: Global) -> Result<ParamLine, OutOfMemory> {
+        Ok(ParamLine {
+            device: self.device,
+            params: self.params.copy(alloc)?,
+        })
+    }
+}
+
 impl Copied for NestedPair {
     fn copy(&self, alloc: Global) -> Result<NestedPair, OutOfMemory> {
         Ok(NestedPair {
@@ -164,6 +202,7 @@ impl Copied for Value {
             Value::Signed(number) => Value::Signed(*number),
             Value::Limit(limit) => Value::Limit(*limit),
             Value::Mode(mode) => Value::Mode(*mode),
+            Value::Class(class) => Value::Class(*class),
             Value::CpuMax { quota, period } => Value::CpuMax {
                 quota: *quota,
                 period: *period,
@@ -172,6 +211,7 @@ impl Copied for Value {
             Value::Numbers(numbers) => Value::Numbers(numbers.copy(alloc)?),
             Value::Words(words) => Value::Words(words.copy(alloc)?),
             Value::Flat(flat) => Value::Flat(flat.copy(alloc)?),
+            Value::FlatLimits(pairs) => Value::FlatLimits(pairs.copy(alloc)?),
             Value::DeviceStats(lines) => Value::DeviceStats(lines.copy(alloc)?),
             Value::DeviceLimits(lines) => Value::DeviceLimits(lines.copy(alloc)?),
             Value::DeviceWeights { default, lines } => Value::DeviceWeights {
@@ -179,6 +219,7 @@ impl Copied for Value {
                 lines: lines.copy(alloc)?,
             },
             Value::DeviceTargets(lines) => Value::DeviceTargets(lines.copy(alloc)?),
+            Value::DeviceParams(lines) => Value::DeviceParams(lines.copy(alloc)?),
             Value::Set(set) => Value::Set(set.copy(alloc)?),
             Value::Partition {
                 role,
@@ -194,6 +235,10 @@ impl Copied for Value {
                 full: *full,
             },
             Value::Nested(lines) => Value::Nested(lines.copy(alloc)?),
+            Value::NodeStats { total, nodes } => Value::NodeStats {
+                total: *total,
+                nodes: nodes.copy(alloc)?,
+            },
             Value::Raw(lines) => Value::Raw(lines.copy(alloc)?),
         })
     }

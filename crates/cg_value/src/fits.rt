@@ -3,14 +3,15 @@ ghost use Rattle.std.specs.Prelude.{◌↔◌, IsTrue};
 ghost use Rattle.cg_text.specs.List.{IsStrictList};
 ghost use Rattle.cg_text.specs.Word.{IsControllerWord};
 ghost use Rattle.cg_value.specs.Files.{Fits};
-ghost use Rattle.cg_value.specs.ReadLine.{ArePressureLines, AreWords, CanBeInvalid, IsPartition};
+ghost use Rattle.cg_value.specs.ReadLine.{ArePressureLines, AreWords, CanBeInvalid, IsNodeStats, IsPartition};
 ghost use Rattle.cg_value.specs.SpelledLaws.{HasText, HasLines};
 
 use crate::kind::{ReadForm, ReadKind};
 use crate::spelled::{
-    Spelled, are_keyed, are_spelled, are_weights, are_within, is_between, is_raw, is_within,
+    Spelled, are_keyed, are_limits, are_spelled, are_stats, are_targets, are_weights, are_within,
+    is_between, is_raw, is_within,
 };
-use crate::value::{Averages, Role, Value};
+use crate::value::{Averages, NestedPair, Role, Value};
 use cg_index::KeyedItems;
 use cg_text::{Items, Key, NumberSet};
 
@@ -70,6 +71,14 @@ fn are_pressure(some: &Option<Averages>, full: &Option<Averages>) -> bool
     }
 }
 
+/// Whether some line spells a total and these pairs.
+#[tactic(auto, using(crate::specs::SpelledLaws::node_stats_text))]
+fn are_node_stats(total: u64, nodes: &KeyedItems<NestedPair>) -> bool
+    ensures { IsTrue result ↔ HasText (IsNodeStats (total, nodes.now)) }
+{
+    total.is_spelled() && are_keyed(nodes)
+}
+
 impl Value {
     /// Whether a file of this kind can hold the value: it has the kind's variant, and some lines spell it. It takes no
     /// memory.
@@ -82,6 +91,7 @@ impl Value {
             (ReadForm::Signed { lo, hi }, Value::Signed(number)) => is_between(lo, hi, *number),
             (ReadForm::Limit, Value::Limit(limit)) => limit.is_spelled(),
             (ReadForm::Mode, Value::Mode(_)) => true,
+            (ReadForm::Class, Value::Class(_)) => true,
             (ReadForm::CpuMax, Value::CpuMax { quota, period }) => {
                 quota.is_spelled() && period.is_spelled()
             }
@@ -91,12 +101,20 @@ impl Value {
             }
             (ReadForm::Words, Value::Words(words)) => are_words(words),
             (ReadForm::Flat, Value::Flat(flat)) => are_spelled(flat.pairs()),
-            (ReadForm::DeviceStats, Value::DeviceStats(lines)) => are_spelled(lines.as_slice()),
-            (ReadForm::DeviceLimits, Value::DeviceLimits(lines)) => are_spelled(lines.as_slice()),
-            (ReadForm::DeviceWeights { most }, Value::DeviceWeights { default, lines }) => {
-                is_within(1, most, *default) && are_weights(most, lines.as_slice())
+            (ReadForm::FlatLimits, Value::FlatLimits(pairs)) => are_keyed(pairs),
+            (ReadForm::DeviceStats { kernel }, Value::DeviceStats(lines)) => {
+                are_stats(kernel, lines.as_slice())
             }
-            (ReadForm::DeviceTargets, Value::DeviceTargets(lines)) => are_spelled(lines.as_slice()),
+            (ReadForm::DeviceLimits { kernel }, Value::DeviceLimits(lines)) => {
+                are_limits(kernel, lines.as_slice())
+            }
+            (ReadForm::DeviceWeights { most, kernel }, Value::DeviceWeights { default, lines }) => {
+                is_within(1, most, *default) && are_weights(most, kernel, lines.as_slice())
+            }
+            (ReadForm::DeviceTargets { kernel }, Value::DeviceTargets(lines)) => {
+                are_targets(kernel, lines.as_slice())
+            }
+            (ReadForm::DeviceParams, Value::DeviceParams(lines)) => are_spelled(lines.as_slice()),
             (ReadForm::Set { most }, Value::Set(set)) => is_set_within(most, set),
             (
                 ReadForm::Partition,
@@ -108,6 +126,9 @@ impl Value {
             ) => is_partition(*role, *valid, reason),
             (ReadForm::Pressure, Value::Pressure { some, full }) => are_pressure(some, full),
             (ReadForm::Nested, Value::Nested(lines)) => are_keyed(lines),
+            (ReadForm::NodeStats, Value::NodeStats { total, nodes }) => {
+                are_node_stats(*total, nodes)
+            }
             (ReadForm::Raw, Value::Raw(lines)) => lines.can_stand(),
             _ => false,
         }

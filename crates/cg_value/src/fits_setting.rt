@@ -6,7 +6,7 @@ ghost use Rattle.cg_text.specs.Raw.{IsRawLine};
 ghost use Rattle.cg_text.specs.Word.{IsControllerWord};
 ghost use Rattle.cg_value.specs.Kind.{any_u64};
 ghost use Rattle.cg_value.specs.Settings.{FitsWrite};
-ghost use Rattle.cg_value.specs.Within.{IsWithin, IsLimitWithin, IsGivenWithin, IsClampWithin, IsDeviceWithin, IsQuotaWithin, IsGivenLimitWithin, NoneGiven, AreLimitsWithin, AreTimesWithin, AreRangesWithin};
+ghost use Rattle.cg_value.specs.Within.{IsWithin, IsLimitWithin, IsGivenWithin, IsClampWithin, IsDeviceWithin, IsQuotaWithin, IsGivenLimitWithin, NoneGiven, AreLimitsWithin, AreTimesWithin, AreRangesWithin, IsSwappinessWithin};
 
 use crate::fits::is_controller;
 use crate::kind::{WriteForm as Form, WriteKind};
@@ -77,11 +77,22 @@ fn quota_fits(quota: Limit, period: Option<u64>) -> bool
     limit_is_within(1000, u64::MAX, quota) && is_given_within(1000, 1000000, period)
 }
 
-/// Whether the size is any of 64 bits, and the swappiness isn't given or at most 200.
-fn reclaim_fits(size: u64, swappiness: Option<u64>) -> bool
-    ensures { IsTrue result ↔ (IsWithin 0 any_u64 size × IsGivenWithin 0 200 swappiness) }
+/// Whether the swappiness isn't given, is at most 200, or, where `max`, is `max`.
+fn swappiness_fits(max: bool, swappiness: Option<Limit>) -> bool
+    ensures { IsTrue result ↔ IsSwappinessWithin max swappiness }
 {
-    is_within(0, u64::MAX, size) && is_given_within(0, 200, swappiness)
+    match swappiness {
+        None => true,
+        Some(Limit::Max) => max,
+        Some(Limit::At(number)) => is_within(0, 200, number),
+    }
+}
+
+/// Whether the size is any of 64 bits, and the swappiness fits.
+fn reclaim_fits(max: bool, size: u64, swappiness: Option<Limit>) -> bool
+    ensures { IsTrue result ↔ (IsWithin 0 any_u64 size × IsSwappinessWithin max swappiness) }
+{
+    is_within(0, u64::MAX, size) && swappiness_fits(max, swappiness)
 }
 
 /// Whether the limit isn't given, is `max`, or at least 1.
@@ -173,9 +184,11 @@ impl Setting {
             (Form::SizeLimit, Setting::Limit(limit)) => limit_is_within(0, u64::MAX, *limit),
             (Form::Clamp, Setting::Clamp(clamp)) => clamp_fits(*clamp),
             (Form::Mode, Setting::Threaded) => true,
+            (Form::Class, Setting::Class(_)) => true,
             (Form::Controllers, Setting::Controllers(toggles)) => toggles_fit(toggles.as_slice()),
             (Form::CpuMax, Setting::CpuMax { quota, period }) => quota_fits(*quota, *period),
-            (Form::Reclaim, Setting::Reclaim { size, swappiness }) => reclaim_fits(
+            (Form::Reclaim { max }, Setting::Reclaim { size, swappiness }) => reclaim_fits(
+                max,
                 *size,
                 *swappiness,
             ),

@@ -104,8 +104,8 @@ impl FlatBuilder {
         }
     }
 
-    /// Looks for the pair that has the key, by the hashes of the keys or by their tree: it compares at most one key, and
-    /// never more than the number of pairs has binary digits.
+    /// Looks for the pair that has the key, by the hashes of the keys or by their tree: it compares at most one key,
+    /// and never more than the number of pairs has binary digits.
     pub fn find(&self, key: &[u8]) -> Found
         ensures place { result.place ≡ place_of key.now self.now.pairs }
         ensures compares { IsWithinDigits result.compares (length self.now.pairs) }
@@ -192,8 +192,8 @@ impl Flat {
         self.built.push(key, number)
     }
 
-    /// Looks for the pair that has the key, by the hashes of the keys or by their tree: it compares at most one key, and
-    /// never more than the number of pairs has binary digits.
+    /// Looks for the pair that has the key, by the hashes of the keys or by their tree: it compares at most one key,
+    /// and never more than the number of pairs has binary digits.
     pub fn find(&self, key: &[u8]) -> Found
         ensures place { result.place ≡ place_of key.now self.now }
         ensures compares { IsWithinDigits result.compares (length self.now) }

@@ -15,6 +15,8 @@ pub enum ReadForm {
     Limit,
     /// The mode of a group.
     Mode,
+    /// The class of the priorities of a group's requests.
+    Class,
     /// A quota and a period of processor time, in microseconds.
     CpuMax,
     /// A utilization clamp: `max` or a percentage.
@@ -25,14 +27,20 @@ pub enum ReadForm {
     Words,
     /// Flat keyed: a key and a number a line.
     Flat,
-    /// A device a line, with pairs of a sub-key and an amount.
-    DeviceStats,
-    /// A device a line, with its four limits.
-    DeviceLimits,
-    /// A default weight, and then a device a line with its weight, each from 1 to `most`.
-    DeviceWeights { most: u64 },
-    /// A device a line, with its target latency in microseconds.
-    DeviceTargets,
+    /// Flat keyed: a key and a limit a line.
+    FlatLimits,
+    /// A device a line, with pairs of a sub-key and an amount. Where `kernel`, a device may be gone, and an amount be
+    /// below 0.
+    DeviceStats { kernel: bool },
+    /// A device a line, with its four limits. Where `kernel`, a device may be gone.
+    DeviceLimits { kernel: bool },
+    /// A default weight, and then a device a line with its weight, each from 1 to `most`. Where `kernel`, a device
+    /// may be gone.
+    DeviceWeights { most: u64, kernel: bool },
+    /// A device a line, with its target latency in microseconds. Where `kernel`, a device may be gone.
+    DeviceTargets { kernel: bool },
+    /// A device a line, which may be gone, with one or more pairs of a word and a parameter.
+    DeviceParams,
     /// A set of numbers of at most `most`, as a list of ranges.
     Set { most: u32 },
     /// The role of a cpuset partition, and whether it is valid.
@@ -41,6 +49,8 @@ pub enum ReadForm {
     Pressure,
     /// Nested keyed: a key a line, with pairs of a sub-key and a number.
     Nested,
+    /// A total, and pairs of a word and a number.
+    NodeStats,
     /// Lines of any bytes but NUL.
     Raw,
 }
@@ -60,12 +70,14 @@ pub enum WriteForm {
     Clamp,
     /// The word `threaded`.
     Mode,
+    /// The class of the priorities of a group's requests.
+    Class,
     /// Names of controllers, each with `+` or `-` before it.
     Controllers,
     /// A quota, which a period may follow, in microseconds.
     CpuMax,
-    /// A size in bytes, which a swappiness may follow.
-    Reclaim,
+    /// A size in bytes, which a swappiness may follow: a number, or, where `max`, also `max`.
+    Reclaim { max: bool },
     /// A device, with some of its four limits.
     DeviceLimits,
     /// A default weight, or a device with its weight or with `default`; a weight is from 1 to `most`.
@@ -129,19 +141,23 @@ impl ReadKind {
             ReadForm::Signed { .. } => "signed",
             ReadForm::Limit => "limit",
             ReadForm::Mode => "mode",
+            ReadForm::Class => "class",
             ReadForm::CpuMax => "cpu_max",
             ReadForm::Clamp => "clamp",
             ReadForm::Numbers { .. } => "numbers",
             ReadForm::Words => "words",
             ReadForm::Flat => "flat",
-            ReadForm::DeviceStats => "device_stats",
-            ReadForm::DeviceLimits => "device_limits",
+            ReadForm::FlatLimits => "flat_limits",
+            ReadForm::DeviceStats { .. } => "device_stats",
+            ReadForm::DeviceLimits { .. } => "device_limits",
             ReadForm::DeviceWeights { .. } => "device_weights",
-            ReadForm::DeviceTargets => "device_targets",
+            ReadForm::DeviceTargets { .. } => "device_targets",
+            ReadForm::DeviceParams => "device_params",
             ReadForm::Set { .. } => "set",
             ReadForm::Partition => "partition",
             ReadForm::Pressure => "pressure",
             ReadForm::Nested => "nested",
+            ReadForm::NodeStats => "node_stats",
             ReadForm::Raw => "raw",
         }
     }
@@ -196,9 +212,10 @@ impl WriteKind {
             WriteForm::SizeLimit => "size_limit",
             WriteForm::Clamp => "clamp",
             WriteForm::Mode => "mode",
+            WriteForm::Class => "class",
             WriteForm::Controllers => "controllers",
             WriteForm::CpuMax => "cpu_max",
-            WriteForm::Reclaim => "reclaim",
+            WriteForm::Reclaim { .. } => "reclaim",
             WriteForm::DeviceLimits => "device_limits",
             WriteForm::DeviceWeight { .. } => "device_weight",
             WriteForm::DeviceTarget => "device_target",

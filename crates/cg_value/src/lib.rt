@@ -33,6 +33,6 @@ pub use raw_lines::{LinesIn, RawLines, are_whole_lines};
 pub use setting::{Setting, Toggle};
 pub use table::{NotReadable, NotWritable, TableRow, has_row, read_kind, table_row, write_kind};
 pub use value::{
-    Averages, GroupMode, LimitLine, NestedLine, NestedPair, Role, StatLine, StatPair, TargetLine,
-    Value, WeightLine,
+    Averages, FlatLimit, GroupMode, LimitLine, NestedLine, NestedPair, ParamLine, ParamPair, Role,
+    StatLine, StatPair, TargetLine, Value, WeightLine,
 };

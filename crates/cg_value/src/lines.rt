@@ -12,10 +12,12 @@ impl Value {
         let count = match self {
             Value::Numbers(numbers) => numbers.as_slice().len(),
             Value::Flat(flat) => flat.pairs().len(),
+            Value::FlatLimits(pairs) => pairs.len(),
             Value::DeviceStats(lines) => lines.as_slice().len(),
             Value::DeviceLimits(lines) => lines.as_slice().len(),
             Value::DeviceWeights { lines, .. } => 1 + lines.as_slice().len(),
             Value::DeviceTargets(lines) => lines.as_slice().len(),
+            Value::DeviceParams(lines) => lines.as_slice().len(),
             Value::Pressure { some, full } => {
                 usize::from(some.is_some()) + usize::from(full.is_some())
             }
@@ -25,10 +27,12 @@ impl Value {
             | Value::Signed(_)
             | Value::Limit(_)
             | Value::Mode(_)
+            | Value::Class(_)
             | Value::CpuMax { .. }
             | Value::Clamp(_)
             | Value::Words(_)
             | Value::Set(_)
+            | Value::NodeStats { .. }
             | Value::Partition { .. } => 1,
         };
         count as u64

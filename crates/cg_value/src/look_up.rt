@@ -1,6 +1,6 @@
 //! Look-ups in values.
 ghost use Rattle.std.specs.Prelude.{◌≡◌};
-ghost use Rattle.cg_value.specs.LookUp.{number_in, pair_amount, line_amount, amount_in, line_weight, weight_in};
+ghost use Rattle.cg_value.specs.LookUp.{is_of, number_in, pair_amount, line_amount, amount_in, line_weight, weight_in};
 
 use crate::value::{StatLine, StatPair, Value, WeightLine};
 use cg_index::KeyedItems;
@@ -14,12 +14,22 @@ fn pair_amount(pairs: &KeyedItems<StatPair>, key: &[u8]) -> Option<Amount>
     Some(pair.amount)
 }
 
+/// Whether a line's device is this one.
+fn is_of(own: Option<Device>, device: Device) -> bool
+    ensures { result ≡ is_of own device }
+{
+    match own {
+        Some(own) => own == device,
+        None => false,
+    }
+}
+
 /// The amount of the sub-key in the first line of the device that has it.
 fn line_amount(lines: &[StatLine], device: Device, key: &[u8]) -> Option<Amount>
     ensures { result ≡ line_amount device key.now lines.now }
 {
     for line in lines {
-        if line.device == device {
+        if is_of(line.device, device) {
             if let Some(amount) = pair_amount(&line.pairs, key) {
                 return Some(amount);
             }
@@ -33,7 +43,7 @@ fn line_weight(lines: &[WeightLine], device: Device, default: u64) -> u64
     ensures { result ≡ line_weight device default lines.now }
 {
     for line in lines {
-        if line.device == device {
+        if is_of(line.device, device) {
             return line.weight;
         }
     }
@@ -51,8 +61,8 @@ impl Value {
         }
     }
 
-    /// What the device did, from its first line that has the sub-key (cgroup-v2.rst, io.stat). A value of another kind
-    /// has none. It takes no memory.
+    /// What the device did, from its first line that has the sub-key (cgroup-v2.rst, io.stat). No line of a device
+    /// that is gone is looked at. A value of another kind has none. It takes no memory.
     pub fn amount_of(&self, device: Device, key: &[u8]) -> Option<Amount>
         ensures { result ≡ amount_in self.now device key.now }
     {
@@ -62,8 +72,8 @@ impl Value {
         }
     }
 
-    /// The weight of the device: of its first line, else the default (cgroup-v2.rst, io.weight). A value of another
-    /// kind has none. It takes no memory.
+    /// The weight of the device: of its first line, else the default (cgroup-v2.rst, io.weight). No line of a device
+    /// that is gone is looked at. A value of another kind has none. It takes no memory.
     pub fn weight_of(&self, device: Device) -> Option<u64>
         ensures { result ≡ weight_in self.now device }
     {

@@ -1,7 +1,7 @@
 //! The settings of files: what one write holds.
 
 use crate::value::Role;
-use cg_text::{Clamp, Device, Items, Key, Limit, NumberSet};
+use cg_text::{Clamp, Device, IoClass, Items, Key, Limit, NumberSet};
 
 /// What one write of a file holds.
 #[derive(Debug, Drop, PartialEq)]
@@ -16,6 +16,8 @@ pub enum Setting {
     Clamp(Clamp),
     /// The group becomes threaded.
     Threaded,
+    /// The class of the priorities of the group's requests.
+    Class(IoClass),
     /// Controllers that are enabled and disabled for the groups below, in order; the last toggle of a name is
     /// effective.
     Controllers(Items<Toggle>),
@@ -24,10 +26,11 @@ pub enum Setting {
         quota: Limit,
         period: Option<u64>,
     },
-    /// How many bytes are to be reclaimed, and how eagerly anonymous memory is swapped for it.
+    /// How many bytes are to be reclaimed, and how eagerly anonymous memory is swapped for it; `max` reclaims that
+    /// memory alone.
     Reclaim {
         size: u64,
-        swappiness: Option<u64>,
+        swappiness: Option<Limit>,
     },
     /// Some of a device's limits, in bytes and operations a second. Those that aren't given stay.
     DeviceLimits {

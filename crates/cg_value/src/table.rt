@@ -3,7 +3,7 @@ ghost use Rattle.std.specs.Prelude.{◌≡◌, ◌<◌, ◌≤◌, ◌++◌, Som
 ghost use Rattle.cg_value.specs.Kind.{IsReadForm, IsWriteForm};
 ghost use Rattle.cg_value.specs.RowName.{row_name};
 ghost use Rattle.cg_value.specs.Table.{has_row, read_form_of, rows, write_form_of};
-ghost use Rattle.cg_value.specs.TableRows.{forms_of, found_by, found_in, longest, read_in, row_at, row_told, rows_in, stand_once, write_in, IsTable};
+ghost use Rattle.cg_value.specs.TableRows.{forms_of, found_by, found_in, longest, read_before, read_in, row_at, row_told, rows_in, stand_once, write_in, IsTable};
 
 use crate::kind::{ReadForm, ReadKind, WriteForm, WriteKind};
 use crate::profile::Profile;
@@ -39,8 +39,9 @@ impl Row {
     }
 }
 
-/// The names with what they hold, in the order of the kernel's document; those that only the kernel profile has come last.
-static ROWS: [Row; 78] = [
+/// The names with what they hold, in the order of the kernel's document; those that only the kernel profile has come
+/// last.
+static ROWS: [Row; 86] = [
     Row {
         name: b"cgroup.type",
         reads: Some(ReadForm::Mode),
@@ -278,7 +279,7 @@ static ROWS: [Row; 78] = [
     Row {
         name: b"memory.reclaim",
         reads: None,
-        writes: Some(WriteForm::Reclaim),
+        writes: Some(WriteForm::Reclaim { max: true }),
     },
     Row {
         name: b"memory.numa_stat",
@@ -292,22 +293,25 @@ static ROWS: [Row; 78] = [
     },
     Row {
         name: b"io.stat",
-        reads: Some(ReadForm::DeviceStats),
+        reads: Some(ReadForm::DeviceStats { kernel: true }),
         writes: None,
     },
     Row {
         name: b"io.max",
-        reads: Some(ReadForm::DeviceLimits),
+        reads: Some(ReadForm::DeviceLimits { kernel: true }),
         writes: Some(WriteForm::DeviceLimits),
     },
     Row {
         name: b"io.weight",
-        reads: Some(ReadForm::DeviceWeights { most: 10000 }),
+        reads: Some(ReadForm::DeviceWeights {
+            most: 10000,
+            kernel: true,
+        }),
         writes: Some(WriteForm::DeviceWeight { most: 10000 }),
     },
     Row {
         name: b"io.latency",
-        reads: Some(ReadForm::DeviceTargets),
+        reads: Some(ReadForm::DeviceTargets { kernel: true }),
         writes: Some(WriteForm::DeviceTarget),
     },
     Row {
@@ -438,6 +442,11 @@ static ROWS: [Row; 78] = [
         writes: None,
     },
     Row {
+        name: b"hugetlb.*.numa_stat",
+        reads: Some(ReadForm::NodeStats),
+        writes: None,
+    },
+    Row {
         name: b"misc.capacity",
         reads: Some(ReadForm::Flat),
         writes: None,
@@ -463,6 +472,11 @@ static ROWS: [Row; 78] = [
         writes: None,
     },
     Row {
+        name: b"misc.max",
+        reads: Some(ReadForm::FlatLimits),
+        writes: Some(WriteForm::Raw),
+    },
+    Row {
         name: b"dmem.capacity",
         reads: Some(ReadForm::Flat),
         writes: None,
@@ -478,9 +492,42 @@ static ROWS: [Row; 78] = [
         writes: None,
     },
     Row {
+        name: b"dmem.min",
+        reads: Some(ReadForm::FlatLimits),
+        writes: Some(WriteForm::Raw),
+    },
+    Row {
+        name: b"dmem.low",
+        reads: Some(ReadForm::FlatLimits),
+        writes: Some(WriteForm::Raw),
+    },
+    Row {
+        name: b"dmem.max",
+        reads: Some(ReadForm::FlatLimits),
+        writes: Some(WriteForm::Raw),
+    },
+    Row {
         name: b"io.bfq.weight",
-        reads: Some(ReadForm::DeviceWeights { most: 1000 }),
+        reads: Some(ReadForm::DeviceWeights {
+            most: 1000,
+            kernel: true,
+        }),
         writes: Some(WriteForm::DeviceWeight { most: 1000 }),
+    },
+    Row {
+        name: b"io.cost.qos",
+        reads: Some(ReadForm::DeviceParams),
+        writes: Some(WriteForm::Raw),
+    },
+    Row {
+        name: b"io.cost.model",
+        reads: Some(ReadForm::DeviceParams),
+        writes: Some(WriteForm::Raw),
+    },
+    Row {
+        name: b"io.prio.class",
+        reads: Some(ReadForm::Class),
+        writes: Some(WriteForm::Class),
     },
 ];
 
@@ -505,18 +552,18 @@ fn search_rows(rows: &[Row], name: &[u8]) -> Option<Forms>
 
 /// For each number that `guess` makes of names, the place of a row of such a name, or 255 where there is none.
 static PLACES: [u8; 256] = [
-    255, 20, 255, 255, 255, 255, 255, 44, 255, 255, 255, 0, 255, 255, 5, 57, 255, 255, 255, 255,
+    255, 20, 255, 255, 255, 255, 255, 44, 255, 255, 255, 0, 255, 84, 5, 57, 255, 255, 255, 255,
     255, 255, 255, 255, 255, 255, 62, 2, 255, 255, 255, 63, 255, 255, 255, 255, 255, 255, 12, 7,
-    10, 255, 72, 45, 1, 255, 255, 255, 255, 255, 255, 255, 255, 255, 255, 255, 8, 255, 255, 4, 255,
-    255, 76, 255, 255, 255, 16, 255, 36, 255, 255, 255, 255, 255, 255, 255, 255, 6, 255, 255, 255,
-    33, 255, 255, 255, 71, 255, 255, 255, 255, 13, 255, 59, 255, 41, 255, 61, 255, 75, 68, 255,
-    255, 255, 255, 39, 255, 255, 255, 66, 255, 255, 22, 255, 255, 28, 255, 255, 255, 56, 255, 255,
-    70, 255, 255, 255, 255, 255, 255, 255, 255, 255, 35, 255, 38, 255, 51, 27, 74, 255, 255, 255,
-    54, 255, 255, 255, 255, 255, 21, 255, 17, 255, 255, 255, 255, 255, 255, 255, 19, 255, 29, 69,
-    255, 255, 255, 255, 255, 255, 255, 255, 255, 255, 255, 53, 255, 46, 255, 24, 255, 50, 30, 58,
-    14, 255, 18, 255, 26, 255, 47, 34, 73, 255, 255, 255, 255, 255, 255, 40, 255, 52, 255, 255,
-    255, 255, 255, 9, 255, 255, 255, 67, 255, 255, 42, 23, 255, 49, 37, 255, 255, 255, 255, 255,
-    11, 255, 255, 31, 25, 48, 255, 255, 255, 255, 15, 255, 255, 255, 255, 255, 32, 255, 43, 3, 255,
+    10, 255, 73, 45, 1, 255, 255, 255, 255, 255, 255, 255, 255, 255, 255, 255, 8, 255, 255, 4, 255,
+    255, 78, 255, 255, 255, 16, 255, 36, 255, 255, 255, 255, 255, 255, 255, 255, 6, 255, 255, 69,
+    33, 255, 255, 255, 72, 255, 80, 255, 255, 13, 255, 59, 255, 41, 255, 61, 255, 77, 68, 255, 255,
+    255, 255, 39, 85, 255, 255, 66, 255, 81, 22, 255, 255, 28, 255, 255, 255, 56, 255, 255, 71,
+    255, 255, 255, 255, 255, 255, 255, 255, 255, 35, 255, 38, 255, 51, 27, 76, 255, 255, 255, 54,
+    255, 255, 255, 255, 255, 21, 255, 17, 255, 255, 255, 255, 255, 255, 255, 19, 255, 29, 70, 255,
+    255, 255, 255, 255, 255, 255, 255, 255, 255, 255, 53, 255, 46, 255, 24, 255, 50, 30, 58, 14,
+    255, 18, 255, 26, 255, 47, 34, 74, 255, 255, 255, 255, 255, 255, 40, 255, 52, 255, 255, 255,
+    255, 255, 9, 255, 255, 255, 67, 255, 255, 42, 23, 255, 49, 37, 255, 255, 255, 255, 255, 11,
+    255, 255, 31, 25, 48, 255, 255, 255, 255, 15, 255, 255, 255, 255, 255, 32, 255, 43, 3, 255,
     255, 255, 255, 255, 255, 255, 255, 255, 255, 255, 255, 255, 255, 255,
 ];
 
@@ -600,6 +647,22 @@ fn find(profile: Profile, rows: &[Row], name: &[u8]) -> Option<Forms>
     }
 }
 
+/// What stands in the second profile for a read form of the kernel profile.
+fn read_before(form: ReadForm) -> ReadForm
+    ensures { result ≡ read_before form }
+{
+    match form {
+        ReadForm::DeviceStats { .. } => ReadForm::DeviceStats { kernel: false },
+        ReadForm::DeviceLimits { .. } => ReadForm::DeviceLimits { kernel: false },
+        ReadForm::DeviceWeights { most, .. } => ReadForm::DeviceWeights {
+            most,
+            kernel: false,
+        },
+        ReadForm::DeviceTargets { .. } => ReadForm::DeviceTargets { kernel: false },
+        _ => form,
+    }
+}
+
 /// What stands in the profile for a read form of the kernel profile.
 fn read_form(profile: Profile, form: ReadForm) -> ReadForm
     ensures { result ≡ read_in profile form }
@@ -607,7 +670,8 @@ fn read_form(profile: Profile, form: ReadForm) -> ReadForm
     match (profile, form) {
         (Profile::One, ReadForm::Set { .. }) => ReadForm::Set { most: 65535 },
         (Profile::One, ReadForm::Nested) => ReadForm::Raw,
-        _ => form,
+        (Profile::Kernel, _) => form,
+        _ => read_before(form),
     }
 }
 
@@ -617,6 +681,9 @@ fn write_form(profile: Profile, form: WriteForm) -> WriteForm
 {
     match (profile, form) {
         (Profile::One, WriteForm::Set { .. }) => WriteForm::Set { most: 65535 },
+        (Profile::One | Profile::Two, WriteForm::Reclaim { .. }) => WriteForm::Reclaim {
+            max: false,
+        },
         _ => form,
     }
 }

@@ -3,7 +3,9 @@
 use crate::flat::Flat;
 use crate::raw_lines::RawLines;
 use cg_index::{HasKey, KeyedItems};
-use cg_text::{Amount, Clamp, Device, Hundredths, Items, Key, Limit, NumberSet};
+use cg_text::{
+    Amount, Clamp, Device, Hundredths, IoClass, Items, Key, Limit, NumberSet, ParamValue,
+};
 
 /// What a file holds.
 #[derive(Debug, Drop, PartialEq)]
@@ -16,6 +18,8 @@ pub enum Value {
     Limit(Limit),
     /// The mode of a group.
     Mode(GroupMode),
+    /// The class of the priorities of a group's requests.
+    Class(IoClass),
     /// How much processor time a group may use in each period, in microseconds.
     CpuMax {
         quota: Limit,
@@ -29,6 +33,8 @@ pub enum Value {
     Words(KeyedItems<Key>),
     /// Pairs of a key and a number, the keys all different.
     Flat(Flat),
+    /// Pairs of a key and a limit, the keys all different.
+    FlatLimits(KeyedItems<FlatLimit>),
     /// What devices did, a line for each.
     DeviceStats(Items<StatLine>),
     /// The limits of devices.
@@ -40,6 +46,8 @@ pub enum Value {
     },
     /// The target latencies of devices.
     DeviceTargets(Items<TargetLine>),
+    /// The parameters of devices, a line for each.
+    DeviceParams(Items<ParamLine>),
     /// A set of numbers, as of processors or of memory nodes.
     Set(NumberSet),
     /// A cpuset partition: its role, whether it is valid, and why it is not.
@@ -55,6 +63,12 @@ pub enum Value {
     },
     /// Lines of a key with pairs of a sub-key and a number, the keys all different.
     Nested(KeyedItems<NestedLine>),
+    /// How many bytes of huge pages are charged to the group, and on each memory node, the words of the nodes all
+    /// different.
+    NodeStats {
+        total: u64,
+        nodes: KeyedItems<NestedPair>,
+    },
     /// Lines of bytes.
     Raw(RawLines),
 }
@@ -80,6 +94,21 @@ pub enum Role {
     Isolated,
 }
 
+/// A key with its limit, which is a line of a flat keyed file of limits (cgroup-v2.rst, misc.max and dmem.max).
+#[derive(Debug, Drop, PartialEq)]
+pub struct FlatLimit {
+    pub key: Key,
+    pub limit: Limit,
+}
+
+impl HasKey for FlatLimit {
+    ghost key_of = { λ pair. pair.key };
+
+    fn key(&self) -> &Key {
+        &self.key
+    }
+}
+
 /// A sub-key of a device with its amount.
 #[derive(Debug, Drop, PartialEq)]
 pub struct StatPair {
@@ -98,7 +127,8 @@ impl HasKey for StatPair {
 /// What a device did (cgroup-v2.rst, io.stat). Where `pad` is true, a space of its own follows the device.
 #[derive(Debug, Drop, PartialEq)]
 pub struct StatLine {
-    pub device: Device,
+    /// None for one that is gone, which only the kernel profile has.
+    pub device: Option<Device>,
     pub pad: bool,
     pub pairs: KeyedItems<StatPair>,
 }
@@ -106,7 +136,8 @@ pub struct StatLine {
 /// The limits of a device, in bytes and operations a second (cgroup-v2.rst, io.max).
 #[derive(Clone, Copy, Debug, Drop, PartialEq, Eq)]
 pub struct LimitLine {
-    pub device: Device,
+    /// None for one that is gone, which only the kernel profile has.
+    pub device: Option<Device>,
     pub rbps: Limit,
     pub wbps: Limit,
     pub riops: Limit,
@@ -116,15 +147,40 @@ pub struct LimitLine {
 /// The weight of a device (cgroup-v2.rst, io.weight).
 #[derive(Clone, Copy, Debug, Drop, PartialEq, Eq)]
 pub struct WeightLine {
-    pub device: Device,
+    /// None for one that is gone, which only the kernel profile has.
+    pub device: Option<Device>,
     pub weight: u64,
 }
 
 /// The target latency of a device, in microseconds (cgroup-v2.rst, io.latency).
 #[derive(Clone, Copy, Debug, Drop, PartialEq, Eq)]
 pub struct TargetLine {
-    pub device: Device,
+    /// None for one that is gone, which only the kernel profile has.
+    pub device: Option<Device>,
     pub target: u64,
+}
+
+/// A word with its parameter.
+#[derive(Debug, Drop, PartialEq)]
+pub struct ParamPair {
+    pub key: Key,
+    pub value: ParamValue,
+}
+
+impl HasKey for ParamPair {
+    ghost key_of = { λ pair. pair.key };
+
+    fn key(&self) -> &Key {
+        &self.key
+    }
+}
+
+/// The parameters of a device, at least one (cgroup-v2.rst, io.cost.qos and io.cost.model). A device that is gone is
+/// none.
+#[derive(Debug, Drop, PartialEq)]
+pub struct ParamLine {
+    pub device: Option<Device>,
+    pub params: KeyedItems<ParamPair>,
 }
 
 /// The shares of time lost over 10, 60 and 300 seconds, as percentages, and the total in microseconds (psi.rst).

@@ -2,6 +2,7 @@
 use Rattle.std.specs.Prelude.{ℕ, Bool, List}
 use Rattle.cg_value.specs.declared.setting.Setting.{Setting}
 use Rattle.cg_write.specs.contracts.clamp.ClampWriteToken.TheImpl as clamp
+use Rattle.cg_write.specs.contracts.class.ClassWriteToken.TheImpl as class
 use Rattle.cg_write.specs.contracts.controllers.ControllersWriteToken.TheImpl as controllers
 use Rattle.cg_write.specs.contracts.cpu_max.CpuMaxWriteToken.TheImpl as cpu_max
 use Rattle.cg_write.specs.contracts.device_limits.DeviceLimitsWriteToken.TheImpl as device_limits
@@ -35,6 +36,7 @@ write_rests (text.DeviceWeight t) = device_weight.ghosts.means t
 write_rests (text.DeviceTarget t) = device_target.ghosts.means t
 write_rests (text.Set t) = set.ghosts.means t
 write_rests (text.Role t) = role.ghosts.means t
+write_rests (text.Class t) = class.ghosts.means t
 write_rests (text.Trigger t) = trigger.ghosts.means t
 write_rests (text.Raw t) = raw.ghosts.means t
 
@@ -53,6 +55,7 @@ write_size (text.DeviceWeight t) = device_weight.ghosts.size t
 write_size (text.DeviceTarget t) = device_target.ghosts.size t
 write_size (text.Set t) = set.ghosts.size t
 write_size (text.Role t) = role.ghosts.size t
+write_size (text.Class t) = class.ghosts.size t
 write_size (text.Trigger t) = trigger.ghosts.size t
 write_size (text.Raw t) = raw.ghosts.size t
 
@@ -71,5 +74,6 @@ write_ends (text.DeviceWeight t) = device_weight.ghosts.ends t
 write_ends (text.DeviceTarget t) = device_target.ghosts.ends t
 write_ends (text.Set t) = set.ghosts.ends t
 write_ends (text.Role t) = role.ghosts.ends t
+write_ends (text.Class t) = class.ghosts.ends t
 write_ends (text.Trigger t) = trigger.ghosts.ends t
 write_ends (text.Raw t) = raw.ghosts.ends t

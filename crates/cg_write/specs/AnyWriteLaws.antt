@@ -3,6 +3,7 @@ use Rattle.std.proofs.Common.{◌↔◌, IsTrue}
 use Rattle.cg_text.specs.Token.{Completes, Ends, HasOneValue, HoldsBytes}
 use Rattle.cg_write.specs.AnyWrite.{write_ends, write_rests}
 use Rattle.cg_write.specs.contracts.clamp.ClampWriteToken.TheImpl as clamp
+use Rattle.cg_write.specs.contracts.class.ClassWriteToken.TheImpl as class
 use Rattle.cg_write.specs.contracts.controllers.ControllersWriteToken.TheImpl as controllers
 use Rattle.cg_write.specs.contracts.cpu_max.CpuMaxWriteToken.TheImpl as cpu_max
 use Rattle.cg_write.specs.contracts.device_limits.DeviceLimitsWriteToken.TheImpl as device_limits
@@ -36,6 +37,7 @@ write_completes (text.DeviceWeight t) = device_weight.ghosts.completes t
 write_completes (text.DeviceTarget t) = device_target.ghosts.completes t
 write_completes (text.Set t) = set.ghosts.completes t
 write_completes (text.Role t) = role.ghosts.completes t
+write_completes (text.Class t) = class.ghosts.completes t
 write_completes (text.Trigger t) = trigger.ghosts.completes t
 write_completes (text.Raw t) = raw.ghosts.completes t
 
@@ -54,6 +56,7 @@ write_ends_is (text.DeviceWeight t) = device_weight.ghosts.ends_is t
 write_ends_is (text.DeviceTarget t) = device_target.ghosts.ends_is t
 write_ends_is (text.Set t) = set.ghosts.ends_is t
 write_ends_is (text.Role t) = role.ghosts.ends_is t
+write_ends_is (text.Class t) = class.ghosts.ends_is t
 write_ends_is (text.Trigger t) = trigger.ghosts.ends_is t
 write_ends_is (text.Raw t) = raw.ghosts.ends_is t
 
@@ -72,6 +75,7 @@ write_one_value (text.DeviceWeight t) = device_weight.ghosts.one_value t
 write_one_value (text.DeviceTarget t) = device_target.ghosts.one_value t
 write_one_value (text.Set t) = set.ghosts.one_value t
 write_one_value (text.Role t) = role.ghosts.one_value t
+write_one_value (text.Class t) = class.ghosts.one_value t
 write_one_value (text.Trigger t) = trigger.ghosts.one_value t
 write_one_value (text.Raw t) = raw.ghosts.one_value t
 
@@ -90,5 +94,6 @@ write_holds_bytes (text.DeviceWeight t) = device_weight.ghosts.holds_bytes t
 write_holds_bytes (text.DeviceTarget t) = device_target.ghosts.holds_bytes t
 write_holds_bytes (text.Set t) = set.ghosts.holds_bytes t
 write_holds_bytes (text.Role t) = role.ghosts.holds_bytes t
+write_holds_bytes (text.Class t) = class.ghosts.holds_bytes t
 write_holds_bytes (text.Trigger t) = trigger.ghosts.holds_bytes t
 write_holds_bytes (text.Raw t) = raw.ghosts.holds_bytes t

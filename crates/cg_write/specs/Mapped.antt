@@ -4,6 +4,7 @@ use Rattle.cg_text.specs.declared.pairs.LimitPairs.{LimitPairs}
 use Rattle.cg_text.specs.declared.trigger.Times.{Times}
 use Rattle.cg_text.specs.declared.values.Clamp.{Clamp}
 use Rattle.cg_text.specs.declared.values.Device.{Device}
+use Rattle.cg_text.specs.declared.values.IoClass.{IoClass}
 use Rattle.cg_text.specs.declared.values.Limit.{Limit}
 use Rattle.cg_join.specs.LimitState.{limit_of}
 use Rattle.cg_join.specs.declared.choice.Either.{Either}
@@ -32,6 +33,9 @@ size_limit_setting v = setting.Limit (limit_of v.0)
 abbrev pub clamp_setting : Clamp × Unit {0} → Setting
 clamp_setting v = setting.Clamp v.0
 
+abbrev pub class_setting : IoClass × Unit {0} → Setting
+class_setting v = setting.Class v.0
+
 -- The one word says all.
 abbrev pub mode_setting : Unit {0} × Unit {0} → Setting
 mode_setting v = setting.Threaded
@@ -51,18 +55,18 @@ abbrev pub raw_setting : List ℕ × Unit {0} → Setting
 raw_setting v = setting.Raw v.0
 
 -- The second of two values, where there are two.
-abbrev pub second_of : Option (Unit {0} × ℕ) → Option ℕ
+abbrev pub second_of : {W : Type 0} → Option (Unit {0} × W) → Option W
 second_of None = None
 second_of (Some v) = Some v.1
 
 -- A value and perhaps another, without what stands between.
-abbrev pub perhaps_both : {V : Type 0} → V × Option (Unit {0} × ℕ) → V × Option ℕ
+abbrev pub perhaps_both : {V W : Type 0} → V × Option (Unit {0} × W) → V × Option W
 perhaps_both v = (v.0, second_of v.1)
 
 abbrev pub cpu_max_setting : (Limit × Option (Unit {0} × ℕ)) × Unit {0} → Setting
 cpu_max_setting v = setting.CpuMax v.0.0 (second_of v.0.1)
 
-abbrev pub reclaim_setting : (ℕ × Option (Unit {0} × ℕ)) × Unit {0} → Setting
+abbrev pub reclaim_setting : (ℕ × Option (Unit {0} × Limit)) × Unit {0} → Setting
 reclaim_setting v = setting.Reclaim v.0.0 (second_of v.0.1)
 
 -- Two values, without what stands between.

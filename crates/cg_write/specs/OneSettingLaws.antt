@@ -1,5 +1,6 @@
 -- A text has one setting, kind by kind.
 use Rattle.std.proofs.Common.{◌≡◌, ℕ, ◌≤◌, inl, inr, Bool, false, ℤ, pos, negsuc, List, [], ◌∷◌, ◌+◌, Option, None, refl, sym, ◌∙◌, ap, arith}
+use Rattle.cg_text.specs.Class.{IsClass}
 use Rattle.cg_text.specs.Clamp.{IsClamp}
 use Rattle.cg_text.specs.Decimal.{IsDecimal, IsNumeral}
 use Rattle.cg_text.specs.DecimalLaws.{IsNumeral_one, number_digits}
@@ -36,6 +37,7 @@ use Rattle.cg_text.specs.declared.values.Limit.{Limit}
 use Rattle.cg_text.specs.declared.values.Limit.TheVariants.{Max, At}
 use Rattle.cg_join.specs.ApartLaws.{fixed_apart, lacking_apart}
 use Rattle.cg_join.specs.BeginsLaws.{label_begins, maybe_begins_by}
+use Rattle.cg_join.specs.ClassLaws.{class_one}
 use Rattle.cg_join.specs.Composites.{IsNumberIn, IsSpaced, IsWrittenQuota}
 use Rattle.cg_join.specs.FilledLaws.{first_filled, fixed_filled}
 use Rattle.cg_join.specs.KeyedLaws.{some_one}
@@ -65,10 +67,10 @@ use Rattle.cg_write.specs.DeviceLimitsLaws.{limits_apart, limits_are}
 use Rattle.cg_write.specs.DeviceTargetLaws.{target_is}
 use Rattle.cg_write.specs.DeviceWeightLaws.{default_no_device, device_apart, weight_is}
 use Rattle.cg_write.specs.Laws.{OneSetting, OneSettingOfName, ReadBack, ReadBackOfName}
-use Rattle.cg_write.specs.ReclaimLaws.{reclaim_apart, reclaim_is}
+use Rattle.cg_write.specs.ReclaimLaws.{labelled_one, reclaim_apart, reclaim_is}
 use Rattle.cg_write.specs.RoleLaws.{member_no_root, role_is, root_not_isolated}
 use Rattle.cg_write.specs.SizeLimitLaws.{size_limit_is, size_no_max}
-use Rattle.cg_write.specs.Texts.{AreSomeLimits, AreSomeTimes, IsAnyWeight, IsASize, IsChosen, IsDefault, IsSwappiness, IsToggle, IsWeight}
+use Rattle.cg_write.specs.Texts.{AreSomeLimits, AreSomeTimes, IsAnyWeight, IsASize, IsChosen, IsDefault, IsToggle, IsWeight}
 use Rattle.cg_write.specs.ToggleLaws.{one_toggle}
 use Rattle.cg_write.specs.TriggerLaws.{some_not_full, tasks_apart, trigger_is}
 use Rattle.cg_write.specs.Mapped.{both_of, chosen_weight, default_weight, perhaps_both, role_of, threshold_of, weight_of}
@@ -136,11 +138,8 @@ written_quota_one = concat_one (lacking_apart (limit_lacking 32 1000 any_u64 (om
 quota_one : HasOneText (λ line (x : Limit × Option ℕ). IsQuota (x.0) (x.1) line)
 quota_one = one_as written_quota_is (mapped_text_one perhaps_both written_quota_one)
 
-swappiness_one : HasOneText IsSwappiness
-swappiness_one = concat_one (fixed_apart (text_of word.Swappiness) (IsNumberIn 0 200)) (fixed_one (text_of word.Swappiness)) (one_decimal 0 200)
-
-reclaim_one : HasOneText (λ line (x : ℕ × Option ℕ). IsReclaim (x.0) (x.1) line)
-reclaim_one = one_as reclaim_is (mapped_text_one perhaps_both (concat_one reclaim_apart size_one (maybe_one (first_filled (fixed_filled 32 _)) swappiness_one)))
+reclaim_one : (max : Bool) → HasOneText (λ line (x : ℕ × Option Limit). IsReclaim max (x.0) (x.1) line)
+reclaim_one max = one_as (reclaim_is max) (mapped_text_one perhaps_both (concat_one (reclaim_apart max) size_one (maybe_one (first_filled (fixed_filled 32 _)) (labelled_one max))))
 
 some_limits_one : HasOneText AreSomeLimits
 some_limits_one = one_as limits_new (limits_one no_limits (InKey Rbps 0))
@@ -196,12 +195,13 @@ line_setting form.Clamp s t line h k = line_one (IsClamp Written) setting.Clamp 
 line_setting form.Mode s t line h k = h.0 ∙ sym k.0
 line_setting form.Controllers s t line h k = line_one AreToggles setting.Controllers toggles_one s t line h k
 line_setting form.CpuMax s t line h k = line_one (λ (x : Limit × Option ℕ) l. IsQuota (x.0) (x.1) l) (λ x. setting.CpuMax (x.0) (x.1)) quota_one s t line h k
-line_setting form.Reclaim s t line h k = line_one (λ (x : ℕ × Option ℕ) l. IsReclaim (x.0) (x.1) l) (λ x. setting.Reclaim (x.0) (x.1)) reclaim_one s t line h k
+line_setting (form.Reclaim max) s t line h k = line_one (λ (x : ℕ × Option Limit) l. IsReclaim max (x.0) (x.1) l) (λ x. setting.Reclaim (x.0) (x.1)) (reclaim_one max) s t line h k
 line_setting form.DeviceLimits s t line h k = line_one IsLimitWrite limits_setting limit_write_one s t line h k
 line_setting (form.DeviceWeight most) s t line h k = line_one (λ v l. IsAnyWeight most l v) weight_of (any_weight_one most) s t line ((weight_is most s line).0 h) ((weight_is most t line).0 k)
 line_setting form.DeviceTarget s t line h k = line_one IsTargetWrite (λ (x : Device × ℕ). setting.DeviceTarget (x.0) (x.1)) target_one s t line h k
 line_setting (form.Set most) s t line h k = line_one (IsLooseList most) setting.Set (set_one most) s t line h k
 line_setting form.Role s t line h k = line_one IsRole setting.Role role_one s t line h k
+line_setting form.Class s t line h k = line_one IsClass setting.Class class_one s t line h k
 line_setting form.Trigger s t line h k = line_one IsTrigger (λ (x : Bool × Times). setting.Trigger (x.0) x.1.stall x.1.window) trigger_one s t line h k
 line_setting form.Raw s t line h k = line_one IsRaw setting.Raw raw_one s t line h k
 

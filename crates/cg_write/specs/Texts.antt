@@ -1,7 +1,7 @@
 -- The texts of lines and of their parts, each with what it spells, where tokens take them part by part (cgroup-v2.rst,
 -- memory.max, memory.reclaim, cpuset.cpus.partition, cgroup.subtree_control, io.max and io.weight; psi.rst, "Monitoring for
 -- pressure thresholds").
-use Rattle.std.specs.Prelude.{◌≡◌, ℕ, true, List, [], ◌∷◌, Option, Some, None, codes}
+use Rattle.std.specs.Prelude.{◌≡◌, ℕ, Bool, true, List, [], ◌∷◌, Option, Some, None, codes}
 use Rattle.cg_text.specs.Decimal.{IsDecimal}
 use Rattle.cg_text.specs.Keyword.{text_of}
 use Rattle.cg_text.specs.LimitPairs.{AreLimits}
@@ -13,14 +13,15 @@ use Rattle.cg_text.specs.declared.keyword.Keyword.TheVariants as word
 use Rattle.cg_text.specs.declared.pairs.LimitPairs.{LimitPairs}
 use Rattle.cg_text.specs.declared.trigger.Times.{Times}
 use Rattle.cg_text.specs.declared.values.Device.{Device}
+use Rattle.cg_text.specs.declared.values.Limit.{Limit}
 use Rattle.cg_join.specs.Composites.{IsADevice, IsLabelled, IsNumberIn, IsSpaced}
 use Rattle.cg_join.specs.Maybe.{IsMaybe}
 use Rattle.cg_join.specs.Repeat.{AreJoined}
-use Rattle.cg_join.specs.Spelling.{IsConcat, IsEither}
+use Rattle.cg_join.specs.Spelling.{IsAllowed, IsConcat, IsEither}
 use Rattle.cg_join.specs.TextBytes.{IsFixed}
 use Rattle.cg_join.specs.WordStartLaws.{SpellsWord}
 use Rattle.cg_join.specs.declared.choice.Either.{Either}
-use Rattle.cg_value.specs.WriteLine.{IsDefaultWrite, sign_of}
+use Rattle.cg_value.specs.WriteLine.{IsDefaultWrite, IsSwappiness, sign_of}
 use Rattle.cg_value.specs.declared.setting.Toggle.{Toggle}
 
 -- Which of two words.
@@ -40,12 +41,18 @@ IsASize text n = IsSize n text
 abbrev pub IsSizeOrMax : List ℕ → Either ℕ (Unit {0}) → Type 0
 IsSizeOrMax text v = IsEither IsASize (IsFixed (text_of word.Max)) text v
 
--- A size; or a size, its label and a swappiness.
-abbrev pub IsSwappiness : List ℕ → Unit {0} × ℕ → Type 0
-IsSwappiness text v = IsLabelled word.Swappiness (IsNumberIn 0 200) text v
+-- A swappiness, a number or, where it may be, max; after its label; and a size, alone or with it.
+abbrev pub IsASwappiness : Bool → List ℕ → Limit → Type 0
+IsASwappiness max text v = IsSwappiness max v text
 
-abbrev pub IsWrittenReclaim : List ℕ → ℕ × Option (Unit {0} × ℕ) → Type 0
-IsWrittenReclaim text v = IsConcat IsASize (IsMaybe IsSwappiness) text v
+abbrev pub IsNumberOrMax : Bool → List ℕ → Either ℕ (Unit {0}) → Type 0
+IsNumberOrMax max text v = IsEither (IsNumberIn 0 200) (IsAllowed max (IsFixed (text_of word.Max))) text v
+
+abbrev pub IsLabelledSwappiness : Bool → List ℕ → Unit {0} × Limit → Type 0
+IsLabelledSwappiness max text v = IsLabelled word.Swappiness (IsASwappiness max) text v
+
+abbrev pub IsWrittenReclaim : Bool → List ℕ → ℕ × Option (Unit {0} × Limit) → Type 0
+IsWrittenReclaim max text v = IsConcat IsASize (IsMaybe (IsLabelledSwappiness max)) text v
 
 -- ---- Words
 

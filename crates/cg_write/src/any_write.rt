@@ -7,6 +7,7 @@ ghost use Rattle.cg_value.specs.Kind.{IsWriteForm};
 ghost use Rattle.cg_value.specs.Settings.{WriteText};
 
 use crate::clamp::ClampWrite;
+use crate::class::ClassWrite;
 use crate::controllers::ControllersWrite;
 use crate::cpu_max::CpuMaxWrite;
 use crate::device_limits::DeviceLimitsWrite;
@@ -58,6 +59,8 @@ pub enum AnyWrite {
     Set(SetWrite),
     /// The role of a partition.
     Role(RoleWrite),
+    /// A class of requests.
+    Class(ClassWrite),
     /// A pressure trigger.
     Trigger(TriggerWrite),
     /// A line of any bytes but NUL.
@@ -82,6 +85,7 @@ macro_rules! with_text {
             AnyWrite::DeviceTarget($text) => $call,
             AnyWrite::Set($text) => $call,
             AnyWrite::Role($text) => $call,
+            AnyWrite::Class($text) => $call,
             AnyWrite::Trigger($text) => $call,
             AnyWrite::Raw($text) => $call,
         }
@@ -103,12 +107,13 @@ fn text_of(alloc: Global, form: WriteForm) -> AnyWrite
         WriteForm::Mode => AnyWrite::Mode(ModeWrite::new()),
         WriteForm::Controllers => AnyWrite::Controllers(ControllersWrite::new(alloc)),
         WriteForm::CpuMax => AnyWrite::CpuMax(CpuMaxWrite::new()),
-        WriteForm::Reclaim => AnyWrite::Reclaim(ReclaimWrite::new()),
+        WriteForm::Reclaim { max } => AnyWrite::Reclaim(ReclaimWrite::new(max)),
         WriteForm::DeviceLimits => AnyWrite::DeviceLimits(DeviceLimitsWrite::new()),
         WriteForm::DeviceWeight { most } => AnyWrite::DeviceWeight(DeviceWeightWrite::new(most)),
         WriteForm::DeviceTarget => AnyWrite::DeviceTarget(DeviceTargetWrite::new()),
         WriteForm::Set { most } => AnyWrite::Set(SetWrite::new(alloc, most)),
         WriteForm::Role => AnyWrite::Role(RoleWrite::new()),
+        WriteForm::Class => AnyWrite::Class(ClassWrite::new()),
         WriteForm::Trigger => AnyWrite::Trigger(TriggerWrite::new()),
         WriteForm::Raw => AnyWrite::Raw(RawWrite::new(alloc)),
     }
@@ -144,12 +149,13 @@ fn setting_of(alloc: Global, form: WriteForm, text: &[u8]) -> Option<Setting>
         WriteForm::Mode => value_of(ModeWrite::new(), text),
         WriteForm::Controllers => value_of(ControllersWrite::new(alloc), text),
         WriteForm::CpuMax => value_of(CpuMaxWrite::new(), text),
-        WriteForm::Reclaim => value_of(ReclaimWrite::new(), text),
+        WriteForm::Reclaim { max } => value_of(ReclaimWrite::new(max), text),
         WriteForm::DeviceLimits => value_of(DeviceLimitsWrite::new(), text),
         WriteForm::DeviceWeight { most } => value_of(DeviceWeightWrite::new(most), text),
         WriteForm::DeviceTarget => value_of(DeviceTargetWrite::new(), text),
         WriteForm::Set { most } => value_of(SetWrite::new(alloc, most), text),
         WriteForm::Role => value_of(RoleWrite::new(), text),
+        WriteForm::Class => value_of(ClassWrite::new(), text),
         WriteForm::Trigger => value_of(TriggerWrite::new(), text),
         WriteForm::Raw => value_of(RawWrite::new(alloc), text),
     }

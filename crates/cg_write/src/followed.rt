@@ -3,7 +3,7 @@ ghost use Rattle.std.specs.Prelude.{◌≡◌};
 ghost use Rattle.cg_write.specs.Mapped.{second_of};
 
 /// The second of two values, where there are two.
-pub(crate) fn second_of(pair: Option<((), u64)>) -> Option<u64>
+pub(crate) fn second_of<T>(pair: Option<((), T)>) -> Option<T>
     ensures { result ≡ second_of pair }
 {
     match pair {

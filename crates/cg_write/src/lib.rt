@@ -4,6 +4,7 @@
 pub mod any_write;
 pub mod chosen_weight;
 pub mod clamp;
+pub mod class;
 pub mod controllers;
 pub mod cpu_max;
 pub mod default_weight;

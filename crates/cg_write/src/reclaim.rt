@@ -3,23 +3,67 @@ ghost use Rattle.std.specs.Prelude.{◌≡◌};
 ghost use Rattle.cg_text.specs.Token.{Spells};
 ghost use Rattle.cg_value.specs.Settings.{WriteText};
 ghost use Rattle.cg_value.specs.declared.kind.WriteForm.TheVariants.{Reclaim as ReclaimForm};
-ghost use Rattle.cg_write.specs.Texts.{IsWrittenReclaim};
+ghost use Rattle.cg_write.specs.Texts.{IsASwappiness, IsWrittenReclaim};
 
 use crate::followed::second_of;
-use cg_join::{LabelText, Line, MapValue, Maybe, Sequence, decimal_in, labelled, one_line};
-use cg_text::{ByteText, DecimalText, Keyword, OutOfMemory, SizeText, Token};
+use cg_join::{
+    Choice, Either, LabelText, Line, MapValue, Mapped, Maybe, Sequence, decimal_in, labelled,
+    one_line,
+};
+use cg_text::{ByteText, DecimalText, Keyword, KeywordText, Limit, OutOfMemory, SizeText, Token};
 use cg_value::Setting;
 
-/// A size, and perhaps ` swappiness=` and a number.
-type ReclaimText = Sequence<SizeText, Maybe<LabelText<DecimalText>>>;
+/// The swappiness of a choice.
+#[derive(Clone, Copy)]
+struct ToSwappiness;
 
-/// A size, and perhaps ` swappiness=` and a number of at most 200.
-fn reclaim_text() -> ReclaimText
-    ensures spells { Spells ⟦<ReclaimText as Token>⟧.means result IsWrittenReclaim }
+impl MapValue<Choice<DecimalText, KeywordText>> for ToSwappiness {
+    type To = Limit;
+
+    ghost use Rattle.cg_join.specs.LimitState.{limit_of};
+    ghost use Rattle.std.proofs.Common.{arith};
+
+    ghost mapped = { limit_of };
+
+    ghost value_size = { λ _. 0 };
+
+    fn map_value(value: Either<u64, ()>) -> Limit {
+        match value {
+            Either::Left(number) => Limit::At(number),
+            Either::Right(_) => Limit::Max,
+        }
+    }
+
+    fn held_in(_value: &Limit) -> u64 {
+        0
+    }
+
+    ghost adds_no_memory = { λ v. Prim.omega arith };
+}
+
+/// A number, or `max`.
+type SwappinessText = Mapped<Choice<DecimalText, KeywordText>, ToSwappiness>;
+
+/// A number of at most 200, or, where `max`, also `max`.
+fn swappiness_text(max: bool) -> SwappinessText
+    ensures spells { Spells ⟦<SwappinessText as Token>⟧.means result (IsASwappiness max) }
+    ensures size { ⟦<SwappinessText as Token>⟧.size result ≡ 0 }
+{
+    let number = decimal_in(0, 200);
+    let word = KeywordText::new(Keyword::Max);
+    Mapped::new(Choice::conditional(number, word, max))
+}
+
+/// A size, and perhaps ` swappiness=` and a swappiness.
+type ReclaimText = Sequence<SizeText, Maybe<LabelText<SwappinessText>>>;
+
+/// A size, and perhaps ` swappiness=` and a swappiness.
+fn reclaim_text(max: bool) -> ReclaimText
+    ensures spells { Spells ⟦<ReclaimText as Token>⟧.means result (IsWrittenReclaim max) }
     ensures size { ⟦<ReclaimText as Token>⟧.size result ≡ 0 }
 {
     let size = SizeText::new();
-    let swappiness = labelled(Keyword::Swappiness, decimal_in(0, 200));
+    let swappiness = labelled(Keyword::Swappiness, swappiness_text(max));
     Sequence::new(size, Maybe::new(swappiness))
 }
 
@@ -37,7 +81,7 @@ impl MapValue<Sequence<ReclaimText, ByteText>> for ToReclaim {
 
     ghost value_size = { λ _. 0 };
 
-    fn map_value(value: ((u64, Option<((), u64)>), ())) -> Setting {
+    fn map_value(value: ((u64, Option<((), Limit)>), ())) -> Setting {
         let (size, swappiness) = value.0;
         Setting::Reclaim {
             size,
@@ -54,21 +98,21 @@ impl MapValue<Sequence<ReclaimText, ByteText>> for ToReclaim {
 
 type Text = Line<ReclaimText, ToReclaim>;
 
-/// The text of a write of a size to reclaim, and perhaps a swappiness of at most 200.
+/// The text of a write of a size to reclaim, and perhaps a swappiness.
 #[derive(Drop)]
 pub struct ReclaimWrite {
     text: Text,
 }
 
 impl ReclaimWrite {
-    /// The text of a write of a size to reclaim, and perhaps a swappiness of at most 200 (cgroup-v2.rst,
-    /// memory.reclaim).
-    pub fn new() -> ReclaimWrite
-        ensures spells { Spells ⟦<ReclaimWrite as Token>⟧.means result (λ text s. WriteText ReclaimForm s text) }
+    /// The text of a write of a size to reclaim, and perhaps a swappiness of at most 200 or, where `max`, `max`
+    /// (cgroup-v2.rst, memory.reclaim).
+    pub fn new(max: bool) -> ReclaimWrite
+        ensures spells { Spells ⟦<ReclaimWrite as Token>⟧.means result (λ text s. WriteText (ReclaimForm max) s text) }
         ensures size { ⟦<ReclaimWrite as Token>⟧.size result ≡ 0 }
     {
         ReclaimWrite {
-            text: one_line(reclaim_text()),
+            text: one_line(reclaim_text(max)),
         }
     }
 }

@@ -10,6 +10,9 @@ returns-in-Limit-clause-spells c = rw c.in-Limit.is (let whole = c.new-in-Limit.
 pub returns-in-Mode-clause-spells : goal.returns-in-Mode-clause-spells
 returns-in-Mode-clause-spells c = rw c.in-Mode.is (let whole = c.new-in-Mode.ensures.spells in record { is = whole.is })
 
+pub returns-in-Class-clause-spells : goal.returns-in-Class-clause-spells
+returns-in-Class-clause-spells c = rw c.in-Class.is (let whole = c.new-in-Class.ensures.spells in record { is = whole.is })
+
 pub returns-in-CpuMax-clause-spells : goal.returns-in-CpuMax-clause-spells
 returns-in-CpuMax-clause-spells c = rw c.in-CpuMax.is (let whole = c.new-in-CpuMax.ensures.spells in record { is = whole.is })
 
@@ -25,6 +28,9 @@ returns-in-Words-clause-spells c = rw c.in-Words.is (let whole = c.new-in-Words.
 pub returns-in-Flat-clause-spells : goal.returns-in-Flat-clause-spells
 returns-in-Flat-clause-spells c = rw c.in-Flat.is (let whole = c.new-in-Flat.ensures.spells in record { is = whole.is })
 
+pub returns-in-FlatLimits-clause-spells : goal.returns-in-FlatLimits-clause-spells
+returns-in-FlatLimits-clause-spells c = rw c.in-FlatLimits.is (let whole = c.new-in-FlatLimits.ensures.spells in record { is = whole.is })
+
 pub returns-in-DeviceStats-clause-spells : goal.returns-in-DeviceStats-clause-spells
 returns-in-DeviceStats-clause-spells c = rw c.in-DeviceStats.is (let whole = c.new-in-DeviceStats.ensures.spells in record { is = whole.is })
 
@@ -37,6 +43,9 @@ returns-in-DeviceWeights-clause-spells c = rw c.in-DeviceWeights.is (let whole =
 pub returns-in-DeviceTargets-clause-spells : goal.returns-in-DeviceTargets-clause-spells
 returns-in-DeviceTargets-clause-spells c = rw c.in-DeviceTargets.is (let whole = c.new-in-DeviceTargets.ensures.spells in record { is = whole.is })
 
+pub returns-in-DeviceParams-clause-spells : goal.returns-in-DeviceParams-clause-spells
+returns-in-DeviceParams-clause-spells c = rw c.in-DeviceParams.is (let whole = c.new-in-DeviceParams.ensures.spells in record { is = whole.is })
+
 pub returns-in-Set-clause-spells : goal.returns-in-Set-clause-spells
 returns-in-Set-clause-spells c = rw c.in-Set.is (let whole = c.new-in-Set.ensures.spells in record { is = whole.is })
 
@@ -48,6 +57,9 @@ returns-in-Pressure-clause-spells c = rw c.in-Pressure.is (let whole = c.new-in-
 
 pub returns-in-Nested-clause-spells : goal.returns-in-Nested-clause-spells
 returns-in-Nested-clause-spells c = rw c.in-Nested.is (let whole = c.new-in-Nested.ensures.spells in record { is = whole.is })
+
+pub returns-in-NodeStats-clause-spells : goal.returns-in-NodeStats-clause-spells
+returns-in-NodeStats-clause-spells c = rw c.in-NodeStats.is (let whole = c.new-in-NodeStats.ensures.spells in record { is = whole.is })
 
 pub returns-in-Raw-clause-spells : goal.returns-in-Raw-clause-spells
 returns-in-Raw-clause-spells c = rw c.in-Raw.is (let whole = c.new-in-Raw.ensures.spells in record { is = whole.is })

@@ -1,5 +1,5 @@
 use Rattle.std.proofs.Common.{refl}
-use Rattle.cg_file.specs.FileFrontLaws.{clamp_line, cpu_max_line, empty_set, empty_words, found_front, limit_line, mode_line, number_line}
+use Rattle.cg_file.specs.FileFrontLaws.{clamp_line, class_line, cpu_max_line, empty_set, empty_words, found_front, limit_line, mode_line, number_line}
 use Rattle.cg_file.proofs.file_front.value_in_front.Goals as goal
 
 pub returns-in-Number : goal.returns-in-Number
@@ -10,6 +10,9 @@ returns-in-Limit c = rw c.in-Limit.is (found_front _ _ _ limit_line _ _ c.new-in
 
 pub returns-in-Mode : goal.returns-in-Mode
 returns-in-Mode c = rw c.in-Mode.is (found_front _ _ _ mode_line _ _ c.new-in-Mode.ensures.spells c.whole-in-Mode.ensures.front)
+
+pub returns-in-Class : goal.returns-in-Class
+returns-in-Class c = rw c.in-Class.is (found_front _ _ _ class_line _ _ c.new-in-Class.ensures.spells c.whole-in-Class.ensures.front)
 
 pub returns-in-CpuMax : goal.returns-in-CpuMax
 returns-in-CpuMax c = rw c.in-CpuMax.is (found_front _ _ _ cpu_max_line _ _ c.new-in-CpuMax.ensures.spells c.whole-in-CpuMax.ensures.front)

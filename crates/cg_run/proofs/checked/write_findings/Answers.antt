@@ -1,9 +1,7 @@
 use Rattle.std.specs.Prelude.{is_some}
-use Rattle.std.proofs.Common.{◌≤◌, ◌++◌, ℕ, length, refl, subst, arith}
+use Rattle.std.proofs.Common.{◌≤◌, ◌++◌, length, refl, subst, arith}
 use Rattle.cg_run.specs.Check.{finding_lines}
-use Rattle.cg_snap.specs.declared.stop.Stop.{Stop}
-use Rattle.cg_run.specs.Outcome.{checked, last_line}
-use Rattle.cg_run.specs.Run.{Wrote, joined}
+use Rattle.cg_run.specs.Outcome.{checked}
 use Rattle.cg_run.specs.Spot.{more_words}
 use Rattle.cg_run.specs.Streaming.{IsEndFault}
 use Rattle.cg_run.specs.declared.outcome.Outcome.TheVariants as out

@@ -1,8 +1,8 @@
-use Rattle.std.proofs.Common.{[], ◌∷◌, ◌++◌, ◌+◌, List, ℕ, length, map, take, drop, ap, ◌∙◌, append_assoc}
+use Rattle.std.proofs.Common.{[], ◌∷◌, ◌++◌, ◌+◌, List, ℕ, map, take, drop, ap, ◌∙◌, append_assoc}
 use Rattle.cg_run.specs.Check.{finding_line}
 use Rattle.cg_run.specs.Outcome.{last_line}
 use Rattle.cg_run.specs.declared.outcome.Outcome.TheVariants as out
-use Rattle.cg_run.proofs.Checking.{all_written, left_behind, lines_after, lines_left}
+use Rattle.cg_run.proofs.Checking.{left_behind, lines_after, lines_left}
 use Rattle.cg_run.proofs.checked.write_lines.Goals as goal
 
 pub returns-in-Err-write_part-clause-told : goal.returns-in-Err-write_part-clause-told

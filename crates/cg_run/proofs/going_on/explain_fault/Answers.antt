@@ -1,4 +1,4 @@
-use Rattle.std.proofs.Common.{◌≤◌, ◌≡◌, ◌++◌, List, Bool, Some, length, subst, sym, arith}
+use Rattle.std.proofs.Common.{◌≤◌, ◌≡◌, ◌++◌, Some, length, subst, sym, arith}
 use Rattle.cg_snap.specs.Snap.{Snap}
 use Rattle.cg_snap.proofs.GoingOnPlaces.{place_behind}
 use Rattle.cg_run.specs.Explain.{AreNext, IsInRecord}

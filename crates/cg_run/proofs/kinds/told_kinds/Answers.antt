@@ -4,7 +4,7 @@ use Rattle.cg_print.proofs.Known.{Appends-trans}
 use Rattle.cg_value.specs.TableRows.{row_at}
 use Rattle.cg_run.specs.Kinds.{kinds_line, kinds_lines}
 use Rattle.cg_run.specs.Run.{joined}
-use Rattle.cg_run.proofs.KindsLemmas.{few_rows, longest_name, lines_more, lines_all, first_bytes, within_all}
+use Rattle.cg_run.proofs.KindsLemmas.{few_rows, lines_more, lines_all, first_bytes, within_all}
 use Rattle.cg_run.proofs.kinds.told_kinds.Goals as goal
 
 pub lines-preserved : goal.lines-preserved

@@ -1,5 +1,5 @@
 use Rattle.std.specs.Prelude.{Err, is_some}
-use Rattle.std.proofs.Common.{◌++◌, ◌≤◌, List, ℕ, length, refl, subst, arith}
+use Rattle.std.proofs.Common.{◌++◌, ◌≤◌, length, refl, subst, arith}
 use Rattle.cg_snap.specs.declared.decode.StreamFault.{StreamFault}
 use Rattle.cg_run.specs.Outcome.{last_line}
 use Rattle.cg_run.specs.Run.{Wrote, joined}

@@ -5,6 +5,6 @@ use Rattle.cg_value.proofs.spelled.are_weights.Goals as goal
 
 pub returns : goal.returns
 returns c =
-    let all : IsTrue c.all.result ↔ All (λ line. HasText (IsWeightLine c.args.most line)) c.args.lines.now = search rules in
-    let lines = lines_text (IsWeightLine c.args.most) c.args.lines.now in
+    let all : IsTrue c.all.result ↔ All (λ line. HasText (IsWeightLine c.args.most c.args.kernel line)) c.args.lines.now = search rules in
+    let lines = lines_text (IsWeightLine c.args.most c.args.kernel) c.args.lines.now in
     (λ e. lines.0 (all.0 e), λ h. all.1 (lines.1 h))

@@ -50,6 +50,9 @@ returns-in-Set c = rw c.in-Set.is (spelled_value _ _ _ _ _ c.new-in-Set.ensures.
 pub returns-in-Role : goal.returns-in-Role
 returns-in-Role c = rw c.in-Role.is (spelled_value _ _ _ _ _ c.new-in-Role.ensures.spells c.value_of-in-Role.ensures)
 
+pub returns-in-Class : goal.returns-in-Class
+returns-in-Class c = rw c.in-Class.is (spelled_value _ _ _ _ _ c.new-in-Class.ensures.spells c.value_of-in-Class.ensures)
+
 pub returns-in-Trigger : goal.returns-in-Trigger
 returns-in-Trigger c = rw c.in-Trigger.is (spelled_value _ _ _ _ _ c.new-in-Trigger.ensures.spells c.value_of-in-Trigger.ensures)
 

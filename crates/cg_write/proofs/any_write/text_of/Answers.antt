@@ -48,6 +48,9 @@ returns-in-Set-clause-spells c = rw c.in-Set.is (let whole = c.new-in-Set.ensure
 pub returns-in-Role-clause-spells : goal.returns-in-Role-clause-spells
 returns-in-Role-clause-spells c = rw c.in-Role.is (let whole = c.new-in-Role.ensures.spells in record { is = whole.is })
 
+pub returns-in-Class-clause-spells : goal.returns-in-Class-clause-spells
+returns-in-Class-clause-spells c = rw c.in-Class.is (let whole = c.new-in-Class.ensures.spells in record { is = whole.is })
+
 pub returns-in-Trigger-clause-spells : goal.returns-in-Trigger-clause-spells
 returns-in-Trigger-clause-spells c = rw c.in-Trigger.is (let whole = c.new-in-Trigger.ensures.spells in record { is = whole.is })
 

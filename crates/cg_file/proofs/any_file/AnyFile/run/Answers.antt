@@ -21,8 +21,14 @@ returns-in-Limit-clause-size c = rw c.in-Limit.is c.run_line-in-Limit.ensures.si
 pub returns-in-Mode-clause-follows : goal.returns-in-Mode-clause-follows
 returns-in-Mode-clause-follows c = rw c.in-Mode.is c.run_line-in-Mode.ensures.follows
 
+pub returns-in-Class-clause-follows : goal.returns-in-Class-clause-follows
+returns-in-Class-clause-follows c = rw c.in-Class.is c.run_line-in-Class.ensures.follows
+
 pub returns-in-Mode-clause-size : goal.returns-in-Mode-clause-size
 returns-in-Mode-clause-size c = rw c.in-Mode.is c.run_line-in-Mode.ensures.size
+
+pub returns-in-Class-clause-size : goal.returns-in-Class-clause-size
+returns-in-Class-clause-size c = rw c.in-Class.is c.run_line-in-Class.ensures.size
 
 pub returns-in-CpuMax-clause-follows : goal.returns-in-CpuMax-clause-follows
 returns-in-CpuMax-clause-follows c = rw c.in-CpuMax.is c.run_line-in-CpuMax.ensures.follows
@@ -54,6 +60,12 @@ returns-in-Flat-clause-follows c = rw c.in-Flat.is c.run_line-in-Flat.ensures.fo
 pub returns-in-Flat-clause-size : goal.returns-in-Flat-clause-size
 returns-in-Flat-clause-size c = rw c.in-Flat.is c.run_line-in-Flat.ensures.size
 
+pub returns-in-FlatLimits-clause-follows : goal.returns-in-FlatLimits-clause-follows
+returns-in-FlatLimits-clause-follows c = rw c.in-FlatLimits.is c.run_line-in-FlatLimits.ensures.follows
+
+pub returns-in-FlatLimits-clause-size : goal.returns-in-FlatLimits-clause-size
+returns-in-FlatLimits-clause-size c = rw c.in-FlatLimits.is c.run_line-in-FlatLimits.ensures.size
+
 pub returns-in-DeviceStats-clause-follows : goal.returns-in-DeviceStats-clause-follows
 returns-in-DeviceStats-clause-follows c = rw c.in-DeviceStats.is c.run_line-in-DeviceStats.ensures.follows
 
@@ -78,6 +90,12 @@ returns-in-DeviceTargets-clause-follows c = rw c.in-DeviceTargets.is c.run_line-
 pub returns-in-DeviceTargets-clause-size : goal.returns-in-DeviceTargets-clause-size
 returns-in-DeviceTargets-clause-size c = rw c.in-DeviceTargets.is c.run_line-in-DeviceTargets.ensures.size
 
+pub returns-in-DeviceParams-clause-follows : goal.returns-in-DeviceParams-clause-follows
+returns-in-DeviceParams-clause-follows c = rw c.in-DeviceParams.is c.run_line-in-DeviceParams.ensures.follows
+
+pub returns-in-DeviceParams-clause-size : goal.returns-in-DeviceParams-clause-size
+returns-in-DeviceParams-clause-size c = rw c.in-DeviceParams.is c.run_line-in-DeviceParams.ensures.size
+
 pub returns-in-Set-clause-follows : goal.returns-in-Set-clause-follows
 returns-in-Set-clause-follows c = rw c.in-Set.is c.run_line-in-Set.ensures.follows
 
@@ -99,8 +117,14 @@ returns-in-Pressure-clause-size c = rw c.in-Pressure.is c.run_line-in-Pressure.e
 pub returns-in-Nested-clause-follows : goal.returns-in-Nested-clause-follows
 returns-in-Nested-clause-follows c = rw c.in-Nested.is c.run_line-in-Nested.ensures.follows
 
+pub returns-in-NodeStats-clause-follows : goal.returns-in-NodeStats-clause-follows
+returns-in-NodeStats-clause-follows c = rw c.in-NodeStats.is c.run_line-in-NodeStats.ensures.follows
+
 pub returns-in-Nested-clause-size : goal.returns-in-Nested-clause-size
 returns-in-Nested-clause-size c = rw c.in-Nested.is c.run_line-in-Nested.ensures.size
+
+pub returns-in-NodeStats-clause-size : goal.returns-in-NodeStats-clause-size
+returns-in-NodeStats-clause-size c = rw c.in-NodeStats.is c.run_line-in-NodeStats.ensures.size
 
 pub returns-in-Raw-clause-follows : goal.returns-in-Raw-clause-follows
 returns-in-Raw-clause-follows c = rw c.in-Raw.is c.run_line-in-Raw.ensures.follows
@@ -120,6 +144,9 @@ returns-in-Limit-clause-same_size c = rw c.in-Limit.is c.run_line-in-Limit.ensur
 pub returns-in-Mode-clause-same_size : goal.returns-in-Mode-clause-same_size
 returns-in-Mode-clause-same_size c = rw c.in-Mode.is c.run_line-in-Mode.ensures.same_size
 
+pub returns-in-Class-clause-same_size : goal.returns-in-Class-clause-same_size
+returns-in-Class-clause-same_size c = rw c.in-Class.is c.run_line-in-Class.ensures.same_size
+
 pub returns-in-CpuMax-clause-same_size : goal.returns-in-CpuMax-clause-same_size
 returns-in-CpuMax-clause-same_size c = rw c.in-CpuMax.is c.run_line-in-CpuMax.ensures.same_size
 
@@ -135,6 +162,9 @@ returns-in-Words-clause-same_size c = rw c.in-Words.is c.run_line-in-Words.ensur
 pub returns-in-Flat-clause-same_size : goal.returns-in-Flat-clause-same_size
 returns-in-Flat-clause-same_size c = rw c.in-Flat.is c.run_line-in-Flat.ensures.same_size
 
+pub returns-in-FlatLimits-clause-same_size : goal.returns-in-FlatLimits-clause-same_size
+returns-in-FlatLimits-clause-same_size c = rw c.in-FlatLimits.is c.run_line-in-FlatLimits.ensures.same_size
+
 pub returns-in-DeviceStats-clause-same_size : goal.returns-in-DeviceStats-clause-same_size
 returns-in-DeviceStats-clause-same_size c = rw c.in-DeviceStats.is c.run_line-in-DeviceStats.ensures.same_size
 
@@ -147,6 +177,9 @@ returns-in-DeviceWeights-clause-same_size c = rw c.in-DeviceWeights.is c.run_lin
 pub returns-in-DeviceTargets-clause-same_size : goal.returns-in-DeviceTargets-clause-same_size
 returns-in-DeviceTargets-clause-same_size c = rw c.in-DeviceTargets.is c.run_line-in-DeviceTargets.ensures.same_size
 
+pub returns-in-DeviceParams-clause-same_size : goal.returns-in-DeviceParams-clause-same_size
+returns-in-DeviceParams-clause-same_size c = rw c.in-DeviceParams.is c.run_line-in-DeviceParams.ensures.same_size
+
 pub returns-in-Set-clause-same_size : goal.returns-in-Set-clause-same_size
 returns-in-Set-clause-same_size c = rw c.in-Set.is c.run_line-in-Set.ensures.same_size
 
@@ -158,6 +191,9 @@ returns-in-Pressure-clause-same_size c = rw c.in-Pressure.is c.run_line-in-Press
 
 pub returns-in-Nested-clause-same_size : goal.returns-in-Nested-clause-same_size
 returns-in-Nested-clause-same_size c = rw c.in-Nested.is c.run_line-in-Nested.ensures.same_size
+
+pub returns-in-NodeStats-clause-same_size : goal.returns-in-NodeStats-clause-same_size
+returns-in-NodeStats-clause-same_size c = rw c.in-NodeStats.is c.run_line-in-NodeStats.ensures.same_size
 
 pub returns-in-Raw-clause-same_size : goal.returns-in-Raw-clause-same_size
 returns-in-Raw-clause-same_size c = rw c.in-Raw.is c.run_line-in-Raw.ensures.same_size

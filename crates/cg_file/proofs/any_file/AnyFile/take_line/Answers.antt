@@ -12,6 +12,12 @@ returns-in-Flat-clause-taken c = rw c.in-Flat.is c.take_line-in-Flat.ensures.tak
 pub returns-in-Flat-clause-left : goal.returns-in-Flat-clause-left
 returns-in-Flat-clause-left c = rw c.in-Flat.is c.take_line-in-Flat.ensures.left
 
+pub returns-in-FlatLimits-clause-taken : goal.returns-in-FlatLimits-clause-taken
+returns-in-FlatLimits-clause-taken c = rw c.in-FlatLimits.is c.take_line-in-FlatLimits.ensures.taken
+
+pub returns-in-FlatLimits-clause-left : goal.returns-in-FlatLimits-clause-left
+returns-in-FlatLimits-clause-left c = rw c.in-FlatLimits.is c.take_line-in-FlatLimits.ensures.left
+
 pub returns-in-DeviceStats-clause-taken : goal.returns-in-DeviceStats-clause-taken
 returns-in-DeviceStats-clause-taken c = rw c.in-DeviceStats.is c.take_line-in-DeviceStats.ensures.taken
 
@@ -29,6 +35,12 @@ returns-in-DeviceTargets-clause-taken c = rw c.in-DeviceTargets.is c.take_line-i
 
 pub returns-in-DeviceTargets-clause-left : goal.returns-in-DeviceTargets-clause-left
 returns-in-DeviceTargets-clause-left c = rw c.in-DeviceTargets.is c.take_line-in-DeviceTargets.ensures.left
+
+pub returns-in-DeviceParams-clause-taken : goal.returns-in-DeviceParams-clause-taken
+returns-in-DeviceParams-clause-taken c = rw c.in-DeviceParams.is c.take_line-in-DeviceParams.ensures.taken
+
+pub returns-in-DeviceParams-clause-left : goal.returns-in-DeviceParams-clause-left
+returns-in-DeviceParams-clause-left c = rw c.in-DeviceParams.is c.take_line-in-DeviceParams.ensures.left
 
 pub returns-in-Nested-clause-taken : goal.returns-in-Nested-clause-taken
 returns-in-Nested-clause-taken c = rw c.in-Nested.is c.take_line-in-Nested.ensures.taken

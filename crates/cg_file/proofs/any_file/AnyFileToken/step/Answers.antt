@@ -57,20 +57,38 @@ returns-in-Limit-clause-last c = rw c.in-Limit.is c.step-in-Limit.ensures.last
 pub returns-in-Mode-clause-taken : goal.returns-in-Mode-clause-taken
 returns-in-Mode-clause-taken c = rw c.in-Mode.is c.step-in-Mode.ensures.taken
 
+pub returns-in-Class-clause-taken : goal.returns-in-Class-clause-taken
+returns-in-Class-clause-taken c = rw c.in-Class.is c.step-in-Class.ensures.taken
+
 pub returns-in-Mode-clause-refused : goal.returns-in-Mode-clause-refused
 returns-in-Mode-clause-refused c = rw c.in-Mode.is c.step-in-Mode.ensures.refused
+
+pub returns-in-Class-clause-refused : goal.returns-in-Class-clause-refused
+returns-in-Class-clause-refused c = rw c.in-Class.is c.step-in-Class.ensures.refused
 
 pub returns-in-Mode-clause-same : goal.returns-in-Mode-clause-same
 returns-in-Mode-clause-same c = rw c.in-Mode.is c.step-in-Mode.ensures.same
 
+pub returns-in-Class-clause-same : goal.returns-in-Class-clause-same
+returns-in-Class-clause-same c = rw c.in-Class.is c.step-in-Class.ensures.same
+
 pub returns-in-Mode-clause-same_size : goal.returns-in-Mode-clause-same_size
 returns-in-Mode-clause-same_size c = rw c.in-Mode.is c.step-in-Mode.ensures.same_size
+
+pub returns-in-Class-clause-same_size : goal.returns-in-Class-clause-same_size
+returns-in-Class-clause-same_size c = rw c.in-Class.is c.step-in-Class.ensures.same_size
 
 pub returns-in-Mode-clause-size : goal.returns-in-Mode-clause-size
 returns-in-Mode-clause-size c = rw c.in-Mode.is c.step-in-Mode.ensures.size
 
+pub returns-in-Class-clause-size : goal.returns-in-Class-clause-size
+returns-in-Class-clause-size c = rw c.in-Class.is c.step-in-Class.ensures.size
+
 pub returns-in-Mode-clause-last : goal.returns-in-Mode-clause-last
 returns-in-Mode-clause-last c = rw c.in-Mode.is c.step-in-Mode.ensures.last
+
+pub returns-in-Class-clause-last : goal.returns-in-Class-clause-last
+returns-in-Class-clause-last c = rw c.in-Class.is c.step-in-Class.ensures.last
 
 pub returns-in-CpuMax-clause-taken : goal.returns-in-CpuMax-clause-taken
 returns-in-CpuMax-clause-taken c = rw c.in-CpuMax.is c.step-in-CpuMax.ensures.taken
@@ -162,6 +180,24 @@ returns-in-Flat-clause-size c = rw c.in-Flat.is c.step-in-Flat.ensures.size
 pub returns-in-Flat-clause-last : goal.returns-in-Flat-clause-last
 returns-in-Flat-clause-last c = rw c.in-Flat.is c.step-in-Flat.ensures.last
 
+pub returns-in-FlatLimits-clause-taken : goal.returns-in-FlatLimits-clause-taken
+returns-in-FlatLimits-clause-taken c = rw c.in-FlatLimits.is c.step-in-FlatLimits.ensures.taken
+
+pub returns-in-FlatLimits-clause-refused : goal.returns-in-FlatLimits-clause-refused
+returns-in-FlatLimits-clause-refused c = rw c.in-FlatLimits.is c.step-in-FlatLimits.ensures.refused
+
+pub returns-in-FlatLimits-clause-same : goal.returns-in-FlatLimits-clause-same
+returns-in-FlatLimits-clause-same c = rw c.in-FlatLimits.is c.step-in-FlatLimits.ensures.same
+
+pub returns-in-FlatLimits-clause-same_size : goal.returns-in-FlatLimits-clause-same_size
+returns-in-FlatLimits-clause-same_size c = rw c.in-FlatLimits.is c.step-in-FlatLimits.ensures.same_size
+
+pub returns-in-FlatLimits-clause-size : goal.returns-in-FlatLimits-clause-size
+returns-in-FlatLimits-clause-size c = rw c.in-FlatLimits.is c.step-in-FlatLimits.ensures.size
+
+pub returns-in-FlatLimits-clause-last : goal.returns-in-FlatLimits-clause-last
+returns-in-FlatLimits-clause-last c = rw c.in-FlatLimits.is c.step-in-FlatLimits.ensures.last
+
 pub returns-in-DeviceStats-clause-taken : goal.returns-in-DeviceStats-clause-taken
 returns-in-DeviceStats-clause-taken c = rw c.in-DeviceStats.is c.step-in-DeviceStats.ensures.taken
 
@@ -234,6 +270,24 @@ returns-in-DeviceTargets-clause-size c = rw c.in-DeviceTargets.is c.step-in-Devi
 pub returns-in-DeviceTargets-clause-last : goal.returns-in-DeviceTargets-clause-last
 returns-in-DeviceTargets-clause-last c = rw c.in-DeviceTargets.is c.step-in-DeviceTargets.ensures.last
 
+pub returns-in-DeviceParams-clause-taken : goal.returns-in-DeviceParams-clause-taken
+returns-in-DeviceParams-clause-taken c = rw c.in-DeviceParams.is c.step-in-DeviceParams.ensures.taken
+
+pub returns-in-DeviceParams-clause-refused : goal.returns-in-DeviceParams-clause-refused
+returns-in-DeviceParams-clause-refused c = rw c.in-DeviceParams.is c.step-in-DeviceParams.ensures.refused
+
+pub returns-in-DeviceParams-clause-same : goal.returns-in-DeviceParams-clause-same
+returns-in-DeviceParams-clause-same c = rw c.in-DeviceParams.is c.step-in-DeviceParams.ensures.same
+
+pub returns-in-DeviceParams-clause-same_size : goal.returns-in-DeviceParams-clause-same_size
+returns-in-DeviceParams-clause-same_size c = rw c.in-DeviceParams.is c.step-in-DeviceParams.ensures.same_size
+
+pub returns-in-DeviceParams-clause-size : goal.returns-in-DeviceParams-clause-size
+returns-in-DeviceParams-clause-size c = rw c.in-DeviceParams.is c.step-in-DeviceParams.ensures.size
+
+pub returns-in-DeviceParams-clause-last : goal.returns-in-DeviceParams-clause-last
+returns-in-DeviceParams-clause-last c = rw c.in-DeviceParams.is c.step-in-DeviceParams.ensures.last
+
 pub returns-in-Set-clause-taken : goal.returns-in-Set-clause-taken
 returns-in-Set-clause-taken c = rw c.in-Set.is c.step-in-Set.ensures.taken
 
@@ -291,20 +345,38 @@ returns-in-Pressure-clause-last c = rw c.in-Pressure.is c.step-in-Pressure.ensur
 pub returns-in-Nested-clause-taken : goal.returns-in-Nested-clause-taken
 returns-in-Nested-clause-taken c = rw c.in-Nested.is c.step-in-Nested.ensures.taken
 
+pub returns-in-NodeStats-clause-taken : goal.returns-in-NodeStats-clause-taken
+returns-in-NodeStats-clause-taken c = rw c.in-NodeStats.is c.step-in-NodeStats.ensures.taken
+
 pub returns-in-Nested-clause-refused : goal.returns-in-Nested-clause-refused
 returns-in-Nested-clause-refused c = rw c.in-Nested.is c.step-in-Nested.ensures.refused
+
+pub returns-in-NodeStats-clause-refused : goal.returns-in-NodeStats-clause-refused
+returns-in-NodeStats-clause-refused c = rw c.in-NodeStats.is c.step-in-NodeStats.ensures.refused
 
 pub returns-in-Nested-clause-same : goal.returns-in-Nested-clause-same
 returns-in-Nested-clause-same c = rw c.in-Nested.is c.step-in-Nested.ensures.same
 
+pub returns-in-NodeStats-clause-same : goal.returns-in-NodeStats-clause-same
+returns-in-NodeStats-clause-same c = rw c.in-NodeStats.is c.step-in-NodeStats.ensures.same
+
 pub returns-in-Nested-clause-same_size : goal.returns-in-Nested-clause-same_size
 returns-in-Nested-clause-same_size c = rw c.in-Nested.is c.step-in-Nested.ensures.same_size
+
+pub returns-in-NodeStats-clause-same_size : goal.returns-in-NodeStats-clause-same_size
+returns-in-NodeStats-clause-same_size c = rw c.in-NodeStats.is c.step-in-NodeStats.ensures.same_size
 
 pub returns-in-Nested-clause-size : goal.returns-in-Nested-clause-size
 returns-in-Nested-clause-size c = rw c.in-Nested.is c.step-in-Nested.ensures.size
 
+pub returns-in-NodeStats-clause-size : goal.returns-in-NodeStats-clause-size
+returns-in-NodeStats-clause-size c = rw c.in-NodeStats.is c.step-in-NodeStats.ensures.size
+
 pub returns-in-Nested-clause-last : goal.returns-in-Nested-clause-last
 returns-in-Nested-clause-last c = rw c.in-Nested.is c.step-in-Nested.ensures.last
+
+pub returns-in-NodeStats-clause-last : goal.returns-in-NodeStats-clause-last
+returns-in-NodeStats-clause-last c = rw c.in-NodeStats.is c.step-in-NodeStats.ensures.last
 
 pub returns-in-Raw-clause-taken : goal.returns-in-Raw-clause-taken
 returns-in-Raw-clause-taken c = rw c.in-Raw.is c.step-in-Raw.ensures.taken

@@ -7,7 +7,7 @@ use Rattle.cg_file.specs.ManyFileLaws.{all_is}
 use Rattle.cg_file.proofs.device_limits.DeviceLimitsFile.new.Goals as goal
 
 pub new-requires : goal.new-requires
-new-requires c = limits_lack
+new-requires c = limits_lack c.args.kernel
 
 pub returns-clause-spells : goal.returns-clause-spells
-returns-clause-spells c = let whole = spells_as (mapped_spells limits_value c.new.ensures.spells c.new-2.ensures.spells) (all_is LimitsForm IsLimitLine DeviceLimits (λ v lines. (λ h. h, λ h. h))) in record { is = whole.is }
+returns-clause-spells c = let whole = spells_as (mapped_spells limits_value c.new.ensures.spells c.new-2.ensures.spells) (all_is (LimitsForm c.args.kernel) (IsLimitLine c.args.kernel) DeviceLimits (λ v lines. (λ h. h, λ h. h))) in record { is = whole.is }

@@ -28,7 +28,7 @@ new-requires-2 c =
     let rbps = label_spells c.limit_in-4.ensures.spells c.labelled-rbps.ensures.spells in
     let two = sequence_spells riops wiops c.new-two.ensures.spells in
     let three = sequence_spells wbps two c.new-three.ensures.spells in
-    apart_spells c.new.ensures.spells (sequence_spells rbps three c.new-four.ensures.spells) device_before_limits
+    apart_spells c.new.ensures.spells (sequence_spells rbps three c.new-four.ensures.spells) (device_before_limits c.args.kernel)
 
 pub returns-clause-spells : goal.returns-clause-spells
 returns-clause-spells c =
@@ -39,5 +39,5 @@ returns-clause-spells c =
     let two = sequence_spells riops wiops c.new-two.ensures.spells in
     let three = sequence_spells wbps two c.new-three.ensures.spells in
     let four = sequence_spells rbps three c.new-four.ensures.spells in
-    let whole = spells_as (mapped_spells limit_line (sequence_spells c.new.ensures.spells four c.new-2.ensures.spells) c.new-3.ensures.spells) limits_is in
+    let whole = spells_as (mapped_spells limit_line (sequence_spells c.new.ensures.spells four c.new-2.ensures.spells) c.new-3.ensures.spells) (limits_is c.args.kernel) in
     record { is = whole.is }

@@ -4,10 +4,10 @@ use Rattle.cg_file.specs.DeviceLineLaws.{target_apart, target_is, target_line}
 use Rattle.cg_file.proofs.device_targets.TargetLineText.new.Goals as goal
 
 pub new-requires-2 : goal.new-requires-2
-new-requires-2 c = apart_spells c.new.ensures.spells (label_spells c.decimal_in.ensures.spells c.labelled-target.ensures.spells) target_apart
+new-requires-2 c = apart_spells c.new.ensures.spells (label_spells c.decimal_in.ensures.spells c.labelled-target.ensures.spells) (target_apart c.args.kernel)
 
 pub returns-clause-spells : goal.returns-clause-spells
 returns-clause-spells c =
     let label = label_spells c.decimal_in.ensures.spells c.labelled-target.ensures.spells in
-    let whole = spells_as (mapped_spells target_line (sequence_spells c.new.ensures.spells label c.new-2.ensures.spells) c.new-3.ensures.spells) target_is in
+    let whole = spells_as (mapped_spells target_line (sequence_spells c.new.ensures.spells label c.new-2.ensures.spells) c.new-3.ensures.spells) (target_is c.args.kernel) in
     record { is = whole.is }

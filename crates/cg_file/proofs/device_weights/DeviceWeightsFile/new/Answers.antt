@@ -13,16 +13,16 @@ new-line-requires c =
     apart_spells first c.new.ensures.spells (lacking_apart (default_lacks c.args.most) (fixed_begins 10 []))
 
 pub new-lines-requires : goal.new-lines-requires
-new-lines-requires c = weight_lacks c.args.most
+new-lines-requires c = weight_lacks c.args.most c.args.kernel
 
 pub new-requires-2 : goal.new-requires-2
 new-requires-2 c =
     let first = label_spells (label_spells c.decimal_in.ensures.spells c.spaced-default.ensures.spells) c.labelled-first.ensures.spells in
-    apart_spells (sequence_spells first c.new.ensures.spells c.new-line.ensures.spells) c.new-lines.ensures.spells (ended_apart (WeightLines c.args.most) (default_lacks c.args.most))
+    apart_spells (sequence_spells first c.new.ensures.spells c.new-line.ensures.spells) c.new-lines.ensures.spells (ended_apart (WeightLines c.args.most c.args.kernel) (default_lacks c.args.most))
 
 pub returns-clause-spells : goal.returns-clause-spells
 returns-clause-spells c =
     let first = label_spells (label_spells c.decimal_in.ensures.spells c.spaced-default.ensures.spells) c.labelled-first.ensures.spells in
     let line = sequence_spells first c.new.ensures.spells c.new-line.ensures.spells in
-    let whole = spells_as (mapped_spells weights_value (sequence_spells line c.new-lines.ensures.spells c.new-2.ensures.spells) c.new-3.ensures.spells) (weights_are c.args.most) in
+    let whole = spells_as (mapped_spells weights_value (sequence_spells line c.new-lines.ensures.spells c.new-2.ensures.spells) c.new-3.ensures.spells) (weights_are c.args.most c.args.kernel) in
     record { is = whole.is }

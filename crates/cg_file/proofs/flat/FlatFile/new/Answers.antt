@@ -10,8 +10,8 @@ use Rattle.cg_value.specs.declared.flat.FlatPair.{FlatPair}
 use Rattle.cg_file.specs.FlatFileLaws.{LineText, flat_file_is, flat_line_is, flat_value}
 use Rattle.cg_file.proofs.flat.FlatFile.new.Goals as goal
 
-pub new-requires-clause-keys_mark : goal.new-requires-clause-keys_mark
-new-requires-clause-keys_mark c = word_only c.new-keys.result.controller 32 (λ h. absurd (omega (arith, h.0)))
+pub new-requires-clause-keys_delimiter : goal.new-requires-clause-keys_delimiter
+new-requires-clause-keys_delimiter c = word_only c.new-keys.result.controller 32 (λ h. absurd (omega (arith, h.0)))
 
 pub new-requires-clause-keys_end : goal.new-requires-clause-keys_end
 new-requires-clause-keys_end c = word_only c.new-keys.result.controller 10 (λ h. absurd (omega (arith, h.0)))

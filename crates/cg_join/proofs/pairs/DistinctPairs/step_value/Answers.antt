@@ -27,6 +27,7 @@ invariant_of-self g c =
       small_delimiter = old.small_delimiter;
       begun = old.begun;
       awaits = old.awaits;
+      new_word = old.new_word;
       distinct = old.distinct;
     }
 
@@ -151,6 +152,7 @@ invariant_of-self-2 g c =
       small_delimiter = old.small_delimiter;
       begun = λ e. absurd (word_not_value e);
       awaits = λ e. absurd (word_not_value e);
+      new_word = λ other. absurd (other refl);
       distinct = completed_distinct w v old.items.items new c.renew-value.result done old.distinct;
     }
 

@@ -29,6 +29,7 @@ invariant_of-self g c =
       small_delimiter = old.small_delimiter;
       begun = old.begun;
       awaits = old.awaits;
+      new_word = λ other. absurd (other c.requires);
       distinct = old.distinct;
     }
 
@@ -150,6 +151,7 @@ invariant_of-self-2 g c =
       small_delimiter = old.small_delimiter;
       begun = λ _. rw items (some_last old.items.items p);
       awaits = λ _. rw items (size_last (λ q. g.V.Token.value_size (v q)) old.items.items p ∙ c.begin.ensures.value_size);
+      new_word = λ _. c.renew-word.ensures.size;
       distinct = words_pushed w old.items.items c.push.new.self.items p items old.distinct
           (rw c.begin.ensures.word (lacks_value (is_taken old.word.bytes.items) (map w old.items.items) x fresh ((is x).1 k) (λ y e. (is y).1 (rw e k))));
     }

@@ -21,6 +21,7 @@ invariant_of-self g c =
       small_delimiter = old.small_delimiter;
       begun = old.begun;
       awaits = old.awaits;
+      new_word = λ other. absurd (other c.in-InWord.is);
       distinct = old.distinct;
     }
 

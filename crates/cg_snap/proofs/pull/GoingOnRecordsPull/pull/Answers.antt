@@ -1,86 +1,22 @@
-use Rattle.std.proofs.Common.{◌≡◌, ◌++◌, ◌∷◌, ◌≤◌, ◌<◌, ◌-◌, ◌⊎◌, [], List, ℕ, length, take, Some, None, refl, sym, ap, subst, ◌∙◌, ◌+◌, inl, inr, arith}
-use Rattle.std.proofs.lemmas.Bool.{MatchBool-at_false}
-use Rattle.std.proofs.lemmas.List.{length-take-le, take-take}
-use Rattle.cg_value.specs.declared.profile.Profile.{Profile}
-use Rattle.cg_snap.specs.Course.{HasProgressed, PieceDid}
-use Rattle.cg_snap.specs.GoingOn.{AreToldBy, told_by}
-use Rattle.cg_snap.specs.GoingOnState.{HasFound, HasTold, IsPassingOver, IsReading, going_stream}
-use Rattle.cg_snap.specs.Streams.{snap_stream}
-use Rattle.cg_snap.specs.declared.event.Event.TheVariants as events
-use Rattle.cg_snap.specs.declared.going_on.Found.{Found}
-use Rattle.cg_snap.specs.declared.going_on_records.GoingOnRecords.{GoingOnRecords}
-use Rattle.cg_snap.proofs.GoingOnPulls.{none_left, piece_along, ran_on, taken_on}
-use Rattle.cg_snap.proofs.GoingOnTakes.{found_given, found_more, given_before, given_reading}
-use Rattle.cg_snap.proofs.States.{at_false}
+use Rattle.std.proofs.Common.{◌∙◌}
+use Rattle.cg_snap.proofs.GoingOnPulls.{took_none}
 use Rattle.cg_snap.proofs.pull.GoingOnRecordsPull.pull.Goals as goal
 
 pub returns-in-Given-clause-pulled : goal.returns-in-Given-clause-pulled
 returns-in-Given-clause-pulled c form p es h =
-    let s = c.args.self.now in
-    let profile = form.0 in
-    let limits = form.1 in
-    let piece : List ℕ = c.args.piece.now in
-    let front : List ℕ = c.split_at.result.0.now in
-    let used : ℕ = c.pull-used.result.used in
-    let inner = c.pull-used.new.meter in
-    let t : GoingOnRecords = record { limits = s.limits; block = c.pull-used.new.records; meter = c.begin_at_record.new.self; left_out = s.left_out; is_passing = s.is_passing } in
-    let old : HasFound s form p es = h.state in
-    let r : IsReading s profile limits p (told_by es) = MatchBool-at_false _ _ c.if-self.false old.told.state in
-    let a : PieceDid (snap_stream profile) t.block inner r.block [] front used (events.Given c.in-Given.entry) = rw c.in-Given.is at (c.pull-used.ensures.pulled profile r.block [] r.along) in
-    let within : used ≤ length front = c.pull-used.ensures.used in
-    let one : (s.left_out ≡ None) ⊎ (length front ≤ 1) = inl (none_left s.left_out (sym c.is_some.ensures ∙ c.if-is_some.false)) in
-    let e = c.in-Given.entry in
-    let f : Found = record { entry = Some e; left_out = None; fault = None } in
-    let limits_is = c.pull-used.ensures.limits ∙ old.told.meter_is in
-    let before = given_before profile limits s p (told_by es) r front t inner used e a.0 within a.1 a.2 limits_is c.begin_at_record.ensures.limits c.begin_at_record.ensures.offset c.begin_at_record.ensures.record refl one in
-    let reading = given_reading profile limits s p (told_by es) r front t inner used e a.0 within a.1 a.2 limits_is c.begin_at_record.ensures.limits c.begin_at_record.ensures.offset c.begin_at_record.ensures.record refl one in
-    let took : (n : ℕ) → n ≤ used → p ++ take n front ≡ p ++ take n piece =
-    λ n le. ap (λ (u : List ℕ). p ++ u) (ap (λ (u : List ℕ). take n u) c.split_at.ensures.front ∙ take-take n c.room.result piece (omega (arith, le, within, c.split_at.ensures.front_len))) in
-    let here : p ++ take used front ≡ p ++ take used piece = took used (omega arith) in
-    let told : HasTold t profile limits (p ++ take used front) (told_by es ++ inl e ∷ []) = record {
-      profile_is = c.pull-used.ensures.form ∙ old.told.profile_is;
-      limits_is = old.told.limits_is;
-      meter_is = c.begin_at_record.ensures.limits ∙ limits_is;
-      state = at_false (IsPassingOver t profile limits (p ++ take used front) (told_by es ++ inl e ∷ [])) (IsReading t profile limits (p ++ take used front) (told_by es ++ inl e ∷ [])) s.is_passing c.if-self.false reading;
-    } in
-    let state : HasFound t form (p ++ take used piece) (es ++ f ∷ []) = found_given form s t p es old piece (λ i. omega (arith, c.type_inv.piece i)) used f (subst (λ (u : List ℕ). HasTold t profile limits u (told_by es ++ inl e ∷ [])) here told) tt in
-    let size : length (take used piece) ≡ used = length-take-le used piece (omega (arith, within, c.split_at.ensures.front_len, c.room.ensures.bytes)) in
-    let along : HasProgressed (going_stream form) t c.count_to.new.self (p ++ take used piece) (es ++ f ∷ []) = taken_on form s t c.args.meter.now c.count_to.new.self t.meter p (take used piece) es (es ++ f ∷ []) h reading.front reading.block (sym here ∙ reading.split) reading.ended reading.along.counted
-    (c.count_to.ensures.offset ∙ ap (λ (n : ℕ). c.args.meter.now.offset + n) (sym size)) (c.count_to.ensures.record ∙ sym c.begin_at_record.ensures.record) c.count_to.ensures.limits
-    (omega (arith, size, within, c.room.ensures.stream, c.split_at.ensures.front_len)) (omega (arith, size, within, c.room.ensures.record, c.split_at.ensures.front_len)) state in
-    rw (c.given.ensures.what, c.given.ensures.used) (a.0, subst (λ (u : List ℕ). AreToldBy profile limits u (told_by es)) (took (used - 1) (omega arith)) before, along)
+    let did = rw c.in-Given.is at (c.pull_entry-used.ensures.pulled form p es h) in
+    rw (c.given.ensures.what, c.given.ensures.used) (did.0, did.1, did.2)
+
+pub returns-in-Given-clause-progress : goal.returns-in-Given-clause-progress
+returns-in-Given-clause-progress c = rw (c.given.ensures.what, c.given.ensures.used) (rw c.in-Given.is at c.pull_entry-used.ensures.some)
 
 pub returns-in_default : goal.returns-in_default
 returns-in_default c = record {
   pulled = λ form p es h.
-      let s = c.args.self.now in
-      let profile = form.0 in
-      let limits = form.1 in
-      let piece : List ℕ = c.args.piece.now in
-      let front : List ℕ = c.split_at.result.0.now in
-      let used : ℕ = c.pull-used.result.used in
-      let t : GoingOnRecords = record { limits = s.limits; block = c.pull-used.new.records; meter = c.pull-used.new.meter; left_out = s.left_out; is_passing = s.is_passing } in
-      let old : HasFound s form p es = h.state in
-      let r : IsReading s profile limits p (told_by es) = MatchBool-at_false _ _ c.if-self.false old.told.state in
-      let within : used ≤ length front = c.pull-used.ensures.used in
-      let along = piece_along profile t.block t.meter r.block front used c.pull-used.result.what c.in_default.not-Given (c.pull-used.ensures.pulled profile r.block [] r.along) in
-      let none : s.left_out ≡ None = none_left s.left_out (sym c.is_some.ensures ∙ c.if-is_some.false) in
-      let reading : IsReading t profile limits (p ++ take used front) (told_by es) = ran_on profile limits s p (told_by es) r front t used none refl along in
-      let here : p ++ take used front ≡ p ++ take used piece = ap (λ (u : List ℕ). p ++ u) (ap (λ (u : List ℕ). take used u) c.split_at.ensures.front ∙ take-take used c.room.result piece (omega (arith, within, c.split_at.ensures.front_len))) in
-      let told : HasTold t profile limits (p ++ take used front) (told_by es) = record {
-        profile_is = c.pull-used.ensures.form ∙ old.told.profile_is;
-        limits_is = old.told.limits_is;
-        meter_is = c.pull-used.ensures.limits ∙ old.told.meter_is;
-        state = at_false (IsPassingOver t profile limits (p ++ take used front) (told_by es)) (IsReading t profile limits (p ++ take used front) (told_by es)) s.is_passing c.if-self.false reading;
-      } in
-      let state : HasFound t form (p ++ take used piece) es = found_more form s t p es old piece (λ i. omega (arith, c.type_inv.piece i)) used (subst (λ (u : List ℕ). HasTold t profile limits u (told_by es)) here told) in
-      let size : length (take used piece) ≡ used = length-take-le used piece (omega (arith, within, c.split_at.ensures.front_len, c.room.ensures.bytes)) in
-      let now : HasProgressed (going_stream form) t c.count_to.new.self (p ++ take used piece) es = taken_on form s t c.args.meter.now c.count_to.new.self t.meter p (take used piece) es es h reading.front reading.block (sym here ∙ reading.split) reading.ended reading.along.counted
-      (c.count_to.ensures.offset ∙ ap (λ (n : ℕ). c.args.meter.now.offset + n) (sym size)) c.count_to.ensures.record c.count_to.ensures.limits
-      (omega (arith, size, within, c.room.ensures.stream, c.split_at.ensures.front_len)) (omega (arith, size, within, c.room.ensures.record, c.split_at.ensures.front_len)) state in
-      c.pull_rest.ensures.pulled form p es now;
+      c.pull_rest.ensures.pulled form p es (took_none form c.pull_entry-used.new.self c.pull_entry-used.new.meter p es c.args.piece.now c.pull_entry-used.result.used c.pull_entry-used.result.what c.in_default.not-Given
+      (c.pull_entry-used.ensures.pulled form p es h));
   used = c.pull_rest.ensures.used;
   progress = c.pull_rest.ensures.progress;
-  form = c.pull_rest.ensures.form ∙ ap (λ (p : Profile). (p, c.args.self.now.limits)) c.pull-used.ensures.form;
-  limits = c.pull_rest.ensures.limits ∙ c.count_to.ensures.limits;
+  form = c.pull_rest.ensures.form ∙ c.pull_entry-used.ensures.form;
+  limits = c.pull_rest.ensures.limits ∙ c.pull_entry-used.ensures.limits;
 }

@@ -1,5 +1,5 @@
 use Rattle.std.proofs.Common.{FitsSigned, refl, rules, to_z-of_z, w64}
-use Rattle.cg_value.specs.FitsWriteLaws.{number_fits, signed_fits, limit_fits, size_limit_fits, clamp_fits, mode_fits, toggles_fit, quota_fits, reclaim_fits, default_fits, weight_fits, target_fits}
+use Rattle.cg_value.specs.FitsWriteLaws.{number_fits, signed_fits, limit_fits, size_limit_fits, clamp_fits, mode_fits, class_fits, toggles_fit, quota_fits, reclaim_fits, default_fits, weight_fits, target_fits}
 use Rattle.cg_value.specs.FitsWriteLaws.{set_fits, list_end_small, role_fits, times_fit}
 use Rattle.cg_value.proofs.setting.Setting.fits.Goals as goal
 
@@ -46,7 +46,7 @@ returns-in-CpuMax-CpuMax c =
 pub returns-in-Reclaim-Reclaim : goal.returns-in-Reclaim-Reclaim
 returns-in-Reclaim-Reclaim c =
     let arm = c.in-Reclaim-Reclaim in
-    let fit = reclaim_fits arm.size arm.swappiness in
+    let fit = reclaim_fits arm.max arm.size arm.swappiness in
     rw (arm.is-1, ← c.form.ensures.form, arm.is-0) (λ e. fit.0 (c.reclaim_fits.ensures.0 e), λ h. c.reclaim_fits.ensures.1 (fit.1 h))
 
 pub returns-in-DeviceWeight-DefaultWeight : goal.returns-in-DeviceWeight-DefaultWeight
@@ -91,3 +91,6 @@ returns-in-Set-Set c =
 
 pub returns-in-Role-Role : goal.returns-in-Role-Role
 returns-in-Role-Role c = rw (c.in-Role-Role.is-1, ← c.form.ensures.form, c.in-Role-Role.is-0) (λ _. role_fits c.in-Role-Role.field-0-1, λ _. refl)
+
+pub returns-in-Class-Class : goal.returns-in-Class-Class
+returns-in-Class-Class c = rw (c.in-Class-Class.is-1, ← c.form.ensures.form, c.in-Class-Class.is-0) (λ _. class_fits c.in-Class-Class.field-0-1, λ _. refl)

@@ -26,6 +26,6 @@ returns-in-Flat-Flat c =
 pub returns-then-is_within : goal.returns-then-is_within
 returns-then-is_within c =
     let arm = c.in-DeviceWeights-DeviceWeights in
-    let fit = weights_fit arm.most arm.default arm.lines in
+    let fit = weights_fit arm.most arm.default arm.kernel arm.lines in
     let lines = rw c.as_slice-then-is_within.ensures at c.are_weights.ensures in
     rw (arm.is-1, ← c.form.ensures.form, arm.is-0) (λ e. fit.0 (c.is_within-in-DeviceWeights-DeviceWeights.ensures.text.0 c.if-is_within.true, lines.0 e), λ f. lines.1 (fit.1 f).1)

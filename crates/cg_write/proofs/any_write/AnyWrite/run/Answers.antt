@@ -81,8 +81,14 @@ returns-in-Set-clause-size c = rw c.in-Set.is c.run_line-in-Set.ensures.size
 pub returns-in-Role-clause-follows : goal.returns-in-Role-clause-follows
 returns-in-Role-clause-follows c = rw c.in-Role.is c.run_line-in-Role.ensures.follows
 
+pub returns-in-Class-clause-follows : goal.returns-in-Class-clause-follows
+returns-in-Class-clause-follows c = rw c.in-Class.is c.run_line-in-Class.ensures.follows
+
 pub returns-in-Role-clause-size : goal.returns-in-Role-clause-size
 returns-in-Role-clause-size c = rw c.in-Role.is c.run_line-in-Role.ensures.size
+
+pub returns-in-Class-clause-size : goal.returns-in-Class-clause-size
+returns-in-Class-clause-size c = rw c.in-Class.is c.run_line-in-Class.ensures.size
 
 pub returns-in-Trigger-clause-follows : goal.returns-in-Trigger-clause-follows
 returns-in-Trigger-clause-follows c = rw c.in-Trigger.is c.run_line-in-Trigger.ensures.follows
@@ -137,6 +143,9 @@ returns-in-Set-clause-same_size c = rw c.in-Set.is c.run_line-in-Set.ensures.sam
 
 pub returns-in-Role-clause-same_size : goal.returns-in-Role-clause-same_size
 returns-in-Role-clause-same_size c = rw c.in-Role.is c.run_line-in-Role.ensures.same_size
+
+pub returns-in-Class-clause-same_size : goal.returns-in-Class-clause-same_size
+returns-in-Class-clause-same_size c = rw c.in-Class.is c.run_line-in-Class.ensures.same_size
 
 pub returns-in-Trigger-clause-same_size : goal.returns-in-Trigger-clause-same_size
 returns-in-Trigger-clause-same_size c = rw c.in-Trigger.is c.run_line-in-Trigger.ensures.same_size

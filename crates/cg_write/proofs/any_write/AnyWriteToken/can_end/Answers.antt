@@ -42,6 +42,9 @@ returns-in-Set c = rw c.in-Set.is c.can_end-in-Set.ensures
 pub returns-in-Role : goal.returns-in-Role
 returns-in-Role c = rw c.in-Role.is c.can_end-in-Role.ensures
 
+pub returns-in-Class : goal.returns-in-Class
+returns-in-Class c = rw c.in-Class.is c.can_end-in-Class.ensures
+
 pub returns-in-Trigger : goal.returns-in-Trigger
 returns-in-Trigger c = rw c.in-Trigger.is c.can_end-in-Trigger.ensures
 

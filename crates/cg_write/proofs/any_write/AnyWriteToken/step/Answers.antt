@@ -237,20 +237,38 @@ returns-in-Set-clause-last c = rw c.in-Set.is c.step-in-Set.ensures.last
 pub returns-in-Role-clause-taken : goal.returns-in-Role-clause-taken
 returns-in-Role-clause-taken c = rw c.in-Role.is c.step-in-Role.ensures.taken
 
+pub returns-in-Class-clause-taken : goal.returns-in-Class-clause-taken
+returns-in-Class-clause-taken c = rw c.in-Class.is c.step-in-Class.ensures.taken
+
 pub returns-in-Role-clause-refused : goal.returns-in-Role-clause-refused
 returns-in-Role-clause-refused c = rw c.in-Role.is c.step-in-Role.ensures.refused
+
+pub returns-in-Class-clause-refused : goal.returns-in-Class-clause-refused
+returns-in-Class-clause-refused c = rw c.in-Class.is c.step-in-Class.ensures.refused
 
 pub returns-in-Role-clause-same : goal.returns-in-Role-clause-same
 returns-in-Role-clause-same c = rw c.in-Role.is c.step-in-Role.ensures.same
 
+pub returns-in-Class-clause-same : goal.returns-in-Class-clause-same
+returns-in-Class-clause-same c = rw c.in-Class.is c.step-in-Class.ensures.same
+
 pub returns-in-Role-clause-same_size : goal.returns-in-Role-clause-same_size
 returns-in-Role-clause-same_size c = rw c.in-Role.is c.step-in-Role.ensures.same_size
+
+pub returns-in-Class-clause-same_size : goal.returns-in-Class-clause-same_size
+returns-in-Class-clause-same_size c = rw c.in-Class.is c.step-in-Class.ensures.same_size
 
 pub returns-in-Role-clause-size : goal.returns-in-Role-clause-size
 returns-in-Role-clause-size c = rw c.in-Role.is c.step-in-Role.ensures.size
 
+pub returns-in-Class-clause-size : goal.returns-in-Class-clause-size
+returns-in-Class-clause-size c = rw c.in-Class.is c.step-in-Class.ensures.size
+
 pub returns-in-Role-clause-last : goal.returns-in-Role-clause-last
 returns-in-Role-clause-last c = rw c.in-Role.is c.step-in-Role.ensures.last
+
+pub returns-in-Class-clause-last : goal.returns-in-Class-clause-last
+returns-in-Class-clause-last c = rw c.in-Class.is c.step-in-Class.ensures.last
 
 pub returns-in-Trigger-clause-taken : goal.returns-in-Trigger-clause-taken
 returns-in-Trigger-clause-taken c = rw c.in-Trigger.is c.step-in-Trigger.ensures.taken

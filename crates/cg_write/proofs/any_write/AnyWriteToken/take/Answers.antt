@@ -81,8 +81,14 @@ returns-in-Set-clause-value_size c = rw c.in-Set.is c.take-in-Set.ensures.value_
 pub returns-in-Role-clause-value : goal.returns-in-Role-clause-value
 returns-in-Role-clause-value c = rw c.in-Role.is c.take-in-Role.ensures.value
 
+pub returns-in-Class-clause-value : goal.returns-in-Class-clause-value
+returns-in-Class-clause-value c = rw c.in-Class.is c.take-in-Class.ensures.value
+
 pub returns-in-Role-clause-value_size : goal.returns-in-Role-clause-value_size
 returns-in-Role-clause-value_size c = rw c.in-Role.is c.take-in-Role.ensures.value_size
+
+pub returns-in-Class-clause-value_size : goal.returns-in-Class-clause-value_size
+returns-in-Class-clause-value_size c = rw c.in-Class.is c.take-in-Class.ensures.value_size
 
 pub returns-in-Trigger-clause-value : goal.returns-in-Trigger-clause-value
 returns-in-Trigger-clause-value c = rw c.in-Trigger.is c.take-in-Trigger.ensures.value
