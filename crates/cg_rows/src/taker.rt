@@ -4,7 +4,9 @@ use crate::asked::Asked;
 use cg_line::{PushFault, PushedRun, SettingReader, ValueReader};
 use cg_print::{append_entry, print_entry, print_file, print_item, print_setting};
 use cg_run::Command;
-use cg_snap::{Event, Found as Told, GoingOnDecoder, PlanDecoder, SnapshotDecoder, Stop, Why};
+use cg_snap::{
+    Event, Found as Told, GoingOnDecoder, LeftOut, PlanDecoder, SnapshotDecoder, Stop, Why,
+};
 use cg_text::{ByteSet, OutOfMemory};
 use cg_value::{read_kind, write_kind};
 use std::alloc::Global;
@@ -136,20 +138,30 @@ impl Taker for PlanDecoder {
     }
 }
 
+/// Appends the line of what is left out.
+fn append_left_out(
+    alloc: Global,
+    text: &mut Vec<u8>,
+    left_out: &LeftOut,
+) -> Result<(), OutOfMemory> {
+    let line = format!(in alloc; "left out at {}: {}", left_out.at, left_out.cause)?;
+    text.extend_from_slice(line.as_bytes())?;
+    if let Some(path) = &left_out.path {
+        text.extend_from_slice(b": ")?;
+        text.extend_from_slice(path.as_slice())?;
+    }
+    text.push(b'\n')?;
+    Ok(())
+}
+
 /// The records of the entry, and a line for what is left out.
-fn told_text(alloc: Global, told: Told) -> Result<Vec<u8>, OutOfMemory> {
+fn told_text(alloc: Global, told: &Told) -> Result<Vec<u8>, OutOfMemory> {
     let mut text = Vec::new(alloc);
     if let Some(entry) = &told.entry {
         append_entry(&mut text, entry)?;
     }
     if let Some(left_out) = &told.left_out {
-        let line = format!(in alloc; "left out at {}: {}", left_out.at, left_out.cause)?;
-        text.extend_from_slice(line.as_bytes())?;
-        if let Some(path) = &left_out.path {
-            text.extend_from_slice(b": ")?;
-            text.extend_from_slice(path.as_slice())?;
-        }
-        text.push(b'\n')?;
+        append_left_out(alloc, &mut text, left_out)?;
     }
     Ok(text)
 }
@@ -165,7 +177,7 @@ impl Taker for GoingOnDecoder {
         let found = match pulled.what {
             Event::NeedMore => found_if(used == piece.len(), Found::More),
             Event::OutOfMemory => Found::Wrong,
-            Event::Given(told) => text(told_text(alloc, told)),
+            Event::Given(told) => text(told_text(alloc, &told)),
             Event::Stopped(stop) => Found::Stopped(stop),
         };
         Step { used, found }
