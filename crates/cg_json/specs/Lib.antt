@@ -1,7 +1,6 @@
 pub mod Compact
 pub mod CompactLaws
 pub mod Entry
-pub mod EntryLaws
 pub mod Json
 pub mod JsonLaws
 pub mod Laws

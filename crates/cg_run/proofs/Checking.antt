@@ -1,6 +1,5 @@
 -- What is right for a run that checks a snapshot.
-use Rattle.std.proofs.Common.{◌≡◌, ℕ, Bool, true, false, List, [], ◌∷◌, ◌++◌, length, map, Option, append-nil, append_assoc, inl, inr, refl, sym, ap, subst, ◌∙◌, take, drop, ◌+◌, ◌<◌, take-append-drop, get_or}
-use Rattle.std.specs.Prelude.{nat_eq, if◌then◌else◌}
+use Rattle.std.proofs.Common.{◌≡◌, ℕ, Bool, false, List, [], ◌∷◌, ◌++◌, length, map, Option, append-nil, append_assoc, inl, inr, refl, sym, ap, subst, ◌∙◌, take, drop, ◌+◌, ◌<◌, take-append-drop, get_or}
 use Rattle.std.proofs.lemmas.List.{map_more, map-append}
 use Rattle.std.specs.Io.KnownBytes.{IsAtEnd}
 use Rattle.cg_value.specs.Entry.{EntryData}
@@ -75,16 +74,6 @@ lines_after f xs i d line within e =
 -- Behind parts.
 pub left_behind : (before all : List (List ℕ)) (a b : List (List ℕ)) → a ++ b ≡ all → (before ++ a) ++ b ≡ before ++ all
 left_behind before all a b e = append_assoc before a b ∙ ap (λ (ls : List (List ℕ)). before ++ ls) e
-
--- The outcome of all lines.
-all_so : (before lines : List (List ℕ)) (left_out : ℕ) (none nothing : Bool) → (if none then (if nothing then out.Done else out.LeftOut left_out) else out.Findings (length lines)) ≡ checked (length lines) left_out →
-    AreLinesRight before lines left_out (if none then (if nothing then out.Done else out.LeftOut left_out) else out.Findings (length lines)) (before ++ lines)
-all_so before lines left_out true true e = (refl, e)
-all_so before lines left_out true false e = (refl, e)
-all_so before lines left_out false nothing e = (refl, e)
-
-pub all_lines : (before lines : List (List ℕ)) (left_out : ℕ) → AreLinesRight before lines left_out (checked (length lines) left_out) (before ++ lines)
-all_lines before lines left_out = all_so before lines left_out (nat_eq (length lines) 0) (nat_eq left_out 0) refl
 
 -- ---- The end of the input
 

@@ -1,10 +1,10 @@
 -- What holds of what is left of a name value.
-use Rattle.std.proofs.Common.{◌≡◌, ℕ, zero, suc, ◌↔◌, Bool, true, false, Ok, Err, List, [], ◌∷◌, ◌++◌, length, take, IsTrue, nat_lt, refl, sym, ◌∙◌, append_assoc, arith}
+use Rattle.std.proofs.Common.{◌≡◌, ℕ, ◌↔◌, Bool, true, false, Ok, Err, List, [], ◌∷◌, ◌++◌, length, IsTrue, nat_lt, refl, sym, ◌∙◌, append_assoc, arith}
 use Rattle.std.proofs.Props.{props}
 use Rattle.std.proofs.lemmas.List.{append_cancel_right}
 use Rattle.std.specs.Coded.{Unit-prop}
 use Rattle.std.specs.declared.result.Result.{Result}
-use Rattle.cg_text.specs.Name.{IsLower, IsNameValue}
+use Rattle.cg_text.specs.Name.{IsNameValue}
 use Rattle.cg_text.specs.NameState.{IsNameFront, IsLowerFirst, IsNameRest}
 use Rattle.cg_text.specs.Token.{IfTaken, UnlessTaken}
 use Rattle.cg_text.specs.WordLaws.{text_word, word_begins, word_completes, word_ends_is}
@@ -17,11 +17,6 @@ IsNameFront_prop (c ∷ cs) = hlevel props
 front_more : (taken run : List ℕ) → IsNameFront taken → (taken ≡ [] → IsNameFront run) → IsNameFront (taken ++ run)
 front_more [] run front first = first refl
 front_more (c ∷ cs) run front first = front
-
-pub front_take : (n : ℕ) (text : List ℕ) → IsNameFront text → IsNameFront (take n text)
-front_take zero text front = tt
-front_take (suc n) [] front = tt
-front_take (suc n) (c ∷ cs) front = front
 
 -- Where the rests of a word are those of another after a run, it took the bytes of the other and the run.
 pub front_after : (controller later : Bool) (old new run : List ℕ) → IsWordFront later new → IsNameFront old → (old ≡ [] → IsNameFront run) →

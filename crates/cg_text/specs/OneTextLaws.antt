@@ -1,12 +1,11 @@
 -- A value has one text in its read form.
-use Rattle.std.proofs.Common.{◌≡◌, ℕ, Bool, List, ◌∷◌, Option, Some, None, sym, ◌∙◌, ap, arith}
+use Rattle.std.proofs.Common.{◌≡◌, ℕ, Bool, List, ◌∷◌, sym, ◌∙◌, ap, arith}
 use Rattle.cg_text.specs.Amount.{IsAmount, IsBelow}
 use Rattle.cg_text.specs.Decimal.{IsDecimal}
-use Rattle.cg_text.specs.Device.{IsDevice, IsDeviceName}
+use Rattle.cg_text.specs.Device.{IsDevice}
 use Rattle.cg_text.specs.Hundredths.{IsHundredths, HasTwoDigits}
 use Rattle.cg_text.specs.Limit.{IsLimit}
 use Rattle.cg_text.specs.NumeralLaws.{numeral_one_text}
-use Rattle.cg_text.specs.Param.{IsParam}
 use Rattle.cg_text.specs.declared.hundredths.Spelling.TheVariants.{Read}
 use Rattle.cg_text.specs.declared.values.Amount.{Amount}
 use Rattle.cg_text.specs.declared.values.Amount.TheVariants as amount
@@ -14,8 +13,6 @@ use Rattle.cg_text.specs.declared.values.Device.{Device}
 use Rattle.cg_text.specs.declared.values.Hundredths.{Hundredths}
 use Rattle.cg_text.specs.declared.values.Limit.{Limit}
 use Rattle.cg_text.specs.declared.values.Limit.TheVariants as limit
-use Rattle.cg_text.specs.declared.values.ParamValue.{ParamValue}
-use Rattle.cg_text.specs.declared.values.ParamValue.TheVariants as param
 
 pub decimal_text : (lo hi n : ℕ) (t u : List ℕ) → IsDecimal lo hi n t → IsDecimal lo hi n u → t ≡ u
 decimal_text lo hi n t u h k = numeral_one_text n t u h.2 k.2
@@ -49,12 +46,3 @@ device_text v t u h k =
     let major : h.major ≡ k.major = decimal_text 0 4095 v.major h.major k.major h.major_is k.major_is in
     let minor : h.minor ≡ k.minor = decimal_text 0 1048575 v.minor h.minor k.minor h.minor_is k.minor_is in
     h.text_is ∙ rw (major, minor) (sym k.text_is)
-
-pub device_name_text : (unknown : Bool) (v : Option Device) (t u : List ℕ) → IsDeviceName unknown v t → IsDeviceName unknown v u → t ≡ u
-device_name_text unknown (Some v) t u h k = device_text v t u h k
-device_name_text unknown None t u h k = h.1 ∙ sym k.1
-
-pub param_text : (v : ParamValue) (t u : List ℕ) → IsParam v t → IsParam v u → t ≡ u
-param_text (param.Whole n) t u h k = decimal_text 0 18446744073709551615 n t u h k
-param_text (param.Decimal v) t u h k = hundredths_text 99999999999 v t u h k
-param_text (param.Name name) t u h k = sym h.0 ∙ k.0

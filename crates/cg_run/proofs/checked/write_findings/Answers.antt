@@ -1,10 +1,9 @@
 use Rattle.std.specs.Prelude.{is_some}
-use Rattle.std.proofs.Common.{◌≤◌, ◌++◌, length, refl, subst, arith}
+use Rattle.std.proofs.Common.{◌≤◌, length, refl, subst, arith}
 use Rattle.cg_run.specs.Check.{finding_lines}
 use Rattle.cg_run.specs.Outcome.{checked}
 use Rattle.cg_run.specs.Spot.{more_words}
 use Rattle.cg_run.specs.Streaming.{IsEndFault}
-use Rattle.cg_run.specs.declared.outcome.Outcome.TheVariants as out
 use Rattle.cg_run.proofs.Checking.{ends_checked, lines_end, memory_end}
 use Rattle.cg_run.proofs.Streams.{cut_ends, never_cut}
 use Rattle.cg_run.proofs.checked.write_findings.Goals as goal

@@ -1,4 +1,4 @@
-use Rattle.std.proofs.Common.{◌≡◌, ◌+◌, ◌++◌, ◌∷◌, ◌∙◌, [], ℕ, List, length, take, drop, map, sym, ap, subst, arith, length-drop}
+use Rattle.std.proofs.Common.{◌≡◌, ◌+◌, ◌++◌, ◌∷◌, [], ℕ, List, length, take, drop, map, sym, ap, subst, arith, length-drop}
 use Rattle.cg_snap.specs.GoingOnDecoder.{StandsOn, going_form_of}
 use Rattle.cg_snap.specs.GoingOnEntry.{found_entry}
 use Rattle.cg_snap.proofs.GoingOnPulls.{took_none}

@@ -1,4 +1,4 @@
-use Rattle.std.proofs.Common.{◌≡◌, ◌∷◌, ◌++◌, [], List, ℕ, Some, sym, ap, ◌∙◌, append-nil}
+use Rattle.std.proofs.Common.{◌∷◌, ◌++◌, [], List, ℕ, Some, sym, ap, ◌∙◌, append-nil}
 use Rattle.cg_run.specs.GoneOnReader.{IsFaultAt}
 use Rattle.cg_run.proofs.GoingOn.{fault_counted, fault_explained, fault_length, ok_as}
 use Rattle.cg_run.proofs.going_on.explain_left_out.Goals as goal

@@ -1,4 +1,4 @@
-use Rattle.std.proofs.Common.{[], Some, refl, sym, ◌∙◌, append-nil}
+use Rattle.std.proofs.Common.{[], Some, refl, sym, append-nil}
 use Rattle.cg_run.proofs.spot_text.append_spot.Goals as goal
 
 pub returns-in-Ok : goal.returns-in-Ok

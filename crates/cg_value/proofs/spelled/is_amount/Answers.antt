@@ -1,4 +1,3 @@
-use Rattle.std.proofs.Common.{◌↔◌}
 use Rattle.cg_value.specs.SpelledLaws.{below_amount, max_amount}
 use Rattle.cg_value.proofs.spelled.is_amount.Goals as goal
 

@@ -1,4 +1,3 @@
-use Rattle.std.proofs.Common.{◌↔◌}
 use Rattle.cg_value.specs.SpelledLaws.{gone_text}
 use Rattle.cg_value.proofs.spelled.is_device_name.Goals as goal
 

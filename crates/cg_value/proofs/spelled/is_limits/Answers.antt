@@ -1,4 +1,3 @@
-use Rattle.std.proofs.Common.{◌↔◌}
 use Rattle.cg_value.specs.SpelledLaws.{limits_text}
 use Rattle.cg_value.proofs.spelled.is_limits.Goals as goal
 

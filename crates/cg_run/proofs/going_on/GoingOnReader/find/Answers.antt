@@ -1,4 +1,4 @@
-use Rattle.std.proofs.Common.{◌≡◌, ◌-◌, ◌≤◌, ◌∷◌, ◌++◌, ◌∙◌, [], ℕ, Bool, List, take, get_or, inl, refl, sym, subst, is_some, arith}
+use Rattle.std.proofs.Common.{◌≡◌, ◌-◌, ◌∷◌, ◌++◌, ◌∙◌, [], ℕ, Bool, List, take, get_or, inl, refl, sym, subst, is_some, arith}
 use Rattle.std.proofs.lemmas.List.{take_all}
 use Rattle.cg_snap.specs.GoingOn.{stream_limits, told_by}
 use Rattle.std.specs.List.{flat_map}

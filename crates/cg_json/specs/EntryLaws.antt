@@ -1,1 +1,0 @@
--- No tree of an entry has a number with a fraction, so that it has one text.
