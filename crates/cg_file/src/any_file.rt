@@ -171,6 +171,7 @@ impl AnyFile {
             AnyFile::Flat(text) => text.take_line(line, b'\n'),
             AnyFile::FlatLimits(text) => text.take_line(line, b'\n'),
             AnyFile::DeviceStats(text) => text.take_line(line, b'\n'),
+            AnyFile::DeviceWeights(text) => text.take_line(line, b'\n'),
             AnyFile::DeviceLimits(text) => text.take_line(line, b'\n'),
             AnyFile::DeviceTargets(text) => text.take_line(line, b'\n'),
             AnyFile::DeviceParams(text) => text.take_line(line, b'\n'),
@@ -211,6 +212,7 @@ impl AnyFile {
             | AnyFile::Flat(_)
             | AnyFile::FlatLimits(_)
             | AnyFile::DeviceStats(_)
+            | AnyFile::DeviceWeights(_)
             | AnyFile::DeviceLimits(_)
             | AnyFile::DeviceTargets(_)
             | AnyFile::DeviceParams(_)

@@ -6,8 +6,8 @@ ghost use Rattle.cg_value.specs.declared.kind.ReadForm.TheVariants.{DeviceWeight
 ghost use Rattle.cg_value.specs.ReadLine.{IsWeightLine};
 
 use cg_join::{
-    DeviceNameText, LabelText, Lines, MakeToken, MapValue, Mapped, Sequence, Spaced, decimal_in,
-    labelled, spaced,
+    DeviceNameText, LabelText, Lines, MakeToken, MapValue, Mapped, Sequence, Spaced, WholeLines,
+    decimal_in, labelled, spaced,
 };
 use cg_text::{ByteText, DecimalText, Device, Items, Keyword, OutOfMemory, Token};
 use cg_value::{Value, WeightLine};
@@ -250,5 +250,11 @@ impl Token for DeviceWeightsFile {
 
     fn held_in(_value: &Value) -> u64 {
         0
+    }
+}
+
+impl WholeLines for DeviceWeightsFile {
+    fn take_line(&mut self, line: &[u8], end: u8) -> bool {
+        self.text.take_line(line, end)
     }
 }

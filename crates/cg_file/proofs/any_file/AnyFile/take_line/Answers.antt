@@ -24,6 +24,12 @@ returns-in-DeviceStats-clause-taken c = rw c.in-DeviceStats.is c.take_line-in-De
 pub returns-in-DeviceStats-clause-left : goal.returns-in-DeviceStats-clause-left
 returns-in-DeviceStats-clause-left c = rw c.in-DeviceStats.is c.take_line-in-DeviceStats.ensures.left
 
+pub returns-in-DeviceWeights-clause-taken : goal.returns-in-DeviceWeights-clause-taken
+returns-in-DeviceWeights-clause-taken c = rw c.in-DeviceWeights.is c.take_line-in-DeviceWeights.ensures.taken
+
+pub returns-in-DeviceWeights-clause-left : goal.returns-in-DeviceWeights-clause-left
+returns-in-DeviceWeights-clause-left c = rw c.in-DeviceWeights.is c.take_line-in-DeviceWeights.ensures.left
+
 pub returns-in-DeviceLimits-clause-taken : goal.returns-in-DeviceLimits-clause-taken
 returns-in-DeviceLimits-clause-taken c = rw c.in-DeviceLimits.is c.take_line-in-DeviceLimits.ensures.taken
 
