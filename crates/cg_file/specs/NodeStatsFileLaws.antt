@@ -1,7 +1,6 @@
 -- What holds of the tokens over files of a total and pairs.
-use Rattle.std.proofs.Common.{◌≡◌, ℕ, ◌+◌, ◌≤◌, ◌<◌, ◌↔◌, List, [], ◌∷◌, ◌++◌, codes, length, refl, sym, ◌∙◌, ap, append_assoc, subst, arith, false}
+use Rattle.std.proofs.Common.{ℕ, ◌+◌, ◌≤◌, ◌↔◌, List, [], ◌∷◌, ◌++◌, codes, length, refl, sym, ◌∙◌, ap, append_assoc, subst, arith, false}
 use Rattle.std.specs.List.{sum_by}
-use Rattle.cg_text.specs.Decimal.{IsDecimal}
 use Rattle.cg_text.specs.Keyword.{text_of}
 use Rattle.cg_text.specs.Token.{HasOneText}
 use Rattle.cg_text.specs.declared.keyword.Keyword.TheVariants as word
@@ -9,7 +8,7 @@ use Rattle.cg_join.specs.ApartLaws.{fixed_apart, lacking_apart}
 use Rattle.cg_join.specs.BeginsLaws.{pairs_begin}
 use Rattle.cg_join.specs.Composites.{IsAnyNumber, IsLabelled}
 use Rattle.cg_join.specs.CutLaws.{label_is}
-use Rattle.cg_join.specs.LackingLaws.{decimal_lacking, word_lacking}
+use Rattle.cg_join.specs.LackingLaws.{decimal_lacking}
 use Rattle.cg_join.specs.Line.{LacksByte}
 use Rattle.cg_join.specs.OneTextLaws.{concat_one, fixed_one, mapped_text_one, one_as}
 use Rattle.cg_join.specs.Pairs.{pair_size}

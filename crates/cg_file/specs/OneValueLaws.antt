@@ -65,7 +65,6 @@ use Rattle.cg_value.specs.declared.value.NestedPair.{NestedPair}
 use Rattle.cg_value.specs.declared.value.Role.{Role}
 use Rattle.cg_value.specs.declared.value.Value.{Value}
 use Rattle.cg_value.specs.declared.value.Value.TheVariants as value
-use Rattle.cg_value.specs.declared.value.WeightLine.{WeightLine}
 use Rattle.cg_file.specs.DeviceLineLaws.{NumberText, limits_startable, target_startable, weight_apart, weight_is, weight_line}
 use Rattle.cg_file.specs.FlatFileLaws.{flat_line_is}
 use Rattle.cg_file.specs.FlatLimitsFileLaws.{any_limit_startable, flat_limit_is}

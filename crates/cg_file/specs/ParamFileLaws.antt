@@ -1,8 +1,7 @@
 -- What holds of the tokens over files of the parameters of devices.
-use Rattle.std.proofs.Common.{◌≡◌, ◌≢◌, ℕ, ◌+◌, ◌<◌, ◌≤◌, ◌↔◌, Bool, true, false, Option, List, [], ◌∷◌, ◌++◌, length, refl, sym, ◌∙◌, ap, append_assoc, arith}
+use Rattle.std.proofs.Common.{◌≡◌, ℕ, ◌+◌, ◌<◌, ◌≤◌, ◌↔◌, true, false, Option, List, [], ◌∷◌, ◌++◌, length, refl, arith}
 use Rattle.std.specs.List.{sum_by}
 use Rattle.cg_text.specs.Param.{IsParam}
-use Rattle.cg_text.specs.Token.{AreBytes, HasOneText}
 use Rattle.cg_text.specs.declared.values.Device.{Device}
 use Rattle.cg_text.specs.declared.values.ParamValue.{ParamValue}
 use Rattle.cg_text.specs.declared.values.ParamValue.TheVariants as param

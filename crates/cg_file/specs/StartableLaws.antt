@@ -16,7 +16,7 @@ use Rattle.cg_text.specs.declared.decimal.Progress.TheVariants.{Start}
 use Rattle.cg_text.specs.declared.hundredths.Spelling.TheVariants.{Read}
 use Rattle.cg_text.specs.declared.hundredths.Part.TheVariants.{Whole}
 use Rattle.cg_text.specs.declared.keyword.Keyword.TheVariants.{Max, Unknown}
-use Rattle.cg_join.specs.AmountLaws.{whole_not_fraction, max_not_negated, others_apart, amount_is}
+use Rattle.cg_join.specs.AmountLaws.{whole_not_fraction, whole_apart, fraction_not_max, negated_apart, amount_is}
 use Rattle.cg_join.specs.AmountState.{amount_of}
 use Rattle.cg_join.specs.ApartLaws.{fixed_apart}
 use Rattle.cg_join.specs.ByteLaws.{sequence_bytes}
@@ -128,10 +128,9 @@ hundredths_startable most = startable_as (hundredths_new Read most (WholePart mo
     }
 
 pub amount_startable : (signed : Bool) → Startable (λ text v. IsAmount signed v text)
-amount_startable signed = startable_as (amount_is signed) (mapped_text_startable amount_of (either_startable (others_apart signed)
-    (either_startable whole_not_fraction (decimal_startable (omega arith)) (hundredths_startable 99999999999))
-    (conditional_startable signed max_not_negated (fixed_startable (codes "max") (keyword_bytes Max))
-    (concat_startable (fixed_apart (45 ∷ []) (λ text n. IsDecimal 1 2147483648 n text)) (fixed_startable (45 ∷ []) (omega arith, tt)) (decimal_startable (omega arith))))))
+amount_startable signed = startable_as (amount_is signed) (mapped_text_startable amount_of (conditional_startable signed negated_apart
+    (either_startable whole_apart (decimal_startable (omega arith)) (either_startable fraction_not_max (hundredths_startable 99999999999) (fixed_startable (codes "max") (keyword_bytes Max))))
+    (concat_startable (fixed_apart (45 ∷ []) (λ text n. IsDecimal 1 2147483648 n text)) (fixed_startable (45 ∷ []) (omega arith, tt)) (decimal_startable (omega arith)))))
 
 pub device_startable : Startable (λ text device. IsDevice device text)
 device_startable =

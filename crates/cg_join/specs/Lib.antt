@@ -21,6 +21,8 @@ pub mod DisjointLaws
 pub mod Distinct
 pub mod DistinctLaws
 pub mod FilledLaws
+pub mod Fork
+pub mod ForkLaws
 pub mod Join
 pub mod JoinedPairs
 pub mod JoinedPairsLaws

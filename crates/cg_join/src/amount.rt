@@ -5,6 +5,8 @@ ghost use Rattle.cg_text.specs.Amount.{IsAmount};
 
 use crate::bounded::decimal_in;
 use crate::choice::{Choice, Either};
+use crate::fork::Fork;
+use crate::make_token::MakeToken;
 use crate::mapped::{MapValue, Mapped};
 use crate::sequence::Sequence;
 use cg_text::{
@@ -15,8 +17,30 @@ use cg_text::{
 /// A minus sign, and a number.
 type Negated = Sequence<ByteText, DecimalText>;
 
+/// Makes tokens of a minus sign and a number.
+#[derive(Clone, Copy, Drop)]
+struct MakeNegated;
+
+impl MakeToken<Negated> for MakeNegated {
+    ghost use Rattle.cg_join.specs.AmountLaws.{IsNegated, negated_proper};
+
+    ghost texts = { λ _. IsNegated };
+
+    fn start(&self) -> Negated {
+        Sequence::new(ByteText::new(b'-'), decimal_in(1, 2147483648))
+    }
+
+    ghost some_text = { λ _. negated_proper.some_text };
+
+    ghost one_text = { λ _. negated_proper.one_text };
+
+    ghost text_bytes = { λ _. negated_proper.text_bytes };
+}
+
 // Most amounts are numbers, so these come first.
-type AnyAmount = Choice<Choice<DecimalText, HundredthsText>, Choice<KeywordText, Negated>>;
+type Unsigned = Choice<DecimalText, Choice<HundredthsText, KeywordText>>;
+
+type AnyAmount = Fork<Unsigned, Negated, MakeNegated>;
 
 /// The amount of a choice.
 #[derive(Clone, Copy)]
@@ -31,12 +55,12 @@ impl MapValue<AnyAmount> for ToAmount {
 
     ghost value_size = { λ _. 0 };
 
-    fn map_value(value: Either<Either<u64, Hundredths>, Either<(), ((), u64)>>) -> Amount {
+    fn map_value(value: Either<Either<u64, Either<Hundredths, ()>>, ((), u64)>) -> Amount {
         match value {
             Either::Left(Either::Left(n)) => Amount::Whole(n),
-            Either::Left(Either::Right(hundredths)) => Amount::Decimal(hundredths),
-            Either::Right(Either::Left(_)) => Amount::Max,
-            Either::Right(Either::Right((_, n))) => Amount::Below(n),
+            Either::Left(Either::Right(Either::Left(hundredths))) => Amount::Decimal(hundredths),
+            Either::Left(Either::Right(Either::Right(_))) => Amount::Max,
+            Either::Right((_, n)) => Amount::Below(n),
         }
     }
 
@@ -64,12 +88,11 @@ impl AmountText {
         ensures spells { Spells ⟦<AmountText as Token>⟧.means result (λ rest v. IsAmount signed v rest) }
         ensures size { ⟦<AmountText as Token>⟧.size result ≡ 0 }
     {
-        let whole = decimal_in(0, u64::MAX);
-        let number = Choice::new(whole, HundredthsText::new(Spelling::Read, 99999999999));
-        let negated = Sequence::new(ByteText::new(b'-'), decimal_in(1, 2147483648));
-        let other = Choice::conditional(KeywordText::new(Keyword::Max), negated, signed);
+        let hundredths = HundredthsText::new(Spelling::Read, 99999999999);
+        let other = Choice::new(hundredths, KeywordText::new(Keyword::Max));
+        let unsigned = Choice::new(decimal_in(0, u64::MAX), other);
         AmountText {
-            parts: Mapped::new(Choice::new(number, other)),
+            parts: Mapped::new(Fork::new(unsigned, MakeNegated, b'-', signed)),
         }
     }
 }

@@ -3,16 +3,40 @@ ghost use Rattle.std.specs.Prelude.{◌≡◌, false, refl};
 ghost use Rattle.cg_text.specs.Device.{IsDeviceName};
 ghost use Rattle.cg_text.specs.Token.{Spells};
 
-use crate::choice::{Choice, Either};
+use crate::choice::Either;
 use crate::device::DeviceText;
+use crate::fork::Fork;
+use crate::make_token::MakeToken;
 use crate::mapped::{MapValue, Mapped};
 use cg_text::{Device, Keyword, KeywordText, OutOfMemory, Token};
 
-/// The device of a choice, if it is known.
+/// Makes tokens of `(unknown)`.
+#[derive(Clone, Copy, Drop)]
+struct MakeGone;
+
+impl MakeToken<KeywordText> for MakeGone {
+    ghost use Rattle.cg_join.specs.DeviceNameLaws.{IsGone, gone_proper};
+
+    ghost texts = { λ _. IsGone };
+
+    fn start(&self) -> KeywordText {
+        KeywordText::new(Keyword::Unknown)
+    }
+
+    ghost some_text = { λ _. gone_proper.some_text };
+
+    ghost one_text = { λ _. gone_proper.one_text };
+
+    ghost text_bytes = { λ _. gone_proper.text_bytes };
+}
+
+type AnyName = Fork<DeviceText, KeywordText, MakeGone>;
+
+/// The device of a name, if it is known.
 #[derive(Clone, Copy)]
 struct ToDeviceName;
 
-impl MapValue<Choice<DeviceText, KeywordText>> for ToDeviceName {
+impl MapValue<AnyName> for ToDeviceName {
     type To = Option<Device>;
 
     ghost use Rattle.cg_join.specs.DeviceNameState.{device_named};
@@ -38,7 +62,7 @@ impl MapValue<Choice<DeviceText, KeywordText>> for ToDeviceName {
     ghost adds_no_memory = { λ v. Prim.omega arith };
 }
 
-type Parts = Mapped<Choice<DeviceText, KeywordText>, ToDeviceName>;
+type Parts = Mapped<AnyName, ToDeviceName>;
 
 /// A device; also `(unknown)`, which has none, where that is allowed.
 #[derive(Drop)]
@@ -52,9 +76,8 @@ impl DeviceNameText {
         ensures spells { Spells ⟦<DeviceNameText as Token>⟧.means result (λ text v. IsDeviceName unknown v text) }
         ensures size { ⟦<DeviceNameText as Token>⟧.size result ≡ 0 }
     {
-        let gone = KeywordText::new(Keyword::Unknown);
         DeviceNameText {
-            parts: Mapped::new(Choice::conditional(DeviceText::new(), gone, unknown)),
+            parts: Mapped::new(Fork::new(DeviceText::new(), MakeGone, b'(', unknown)),
         }
     }
 }
