@@ -1,22 +1,21 @@
 -- How much is held of a file where its text may end, by its value: no more than a place for each line, and its keys, words,
 -- ranges and raw bytes.
-use Rattle.std.proofs.Common.{ℕ, ◌+◌, ◌≤◌, List, [], length, Option, refl}
+use Rattle.std.proofs.Common.{ℕ, ◌+◌, ◌≤◌, List, [], length, Option, refl, arith}
 use Rattle.cg_text.specs.RangesState.{number_rest}
 use Rattle.cg_text.specs.Decimal.{IsDecimal}
 use Rattle.cg_text.specs.contracts.byte.ByteTextToken.TheImpl as byte
 use Rattle.cg_text.specs.contracts.decimal.DecimalTextToken.TheImpl as decimal
 use Rattle.cg_text.specs.contracts.keyword.KeywordTextToken.TheImpl as keyword
+use Rattle.cg_text.specs.contracts.list.StrictListTextToken.TheImpl as list_text
 use Rattle.cg_text.specs.contracts.reason.ReasonTextToken.TheImpl as reason
 use Rattle.cg_text.specs.contracts.word.WordTextToken.TheImpl as word
 use Rattle.cg_join.specs.Choice.{either_size}
 use Rattle.cg_join.specs.Distinct.{IsDistinctAfter}
-use Rattle.cg_join.specs.Join.{IsPair, IsSequence}
-use Rattle.cg_join.specs.LabelLaws.{label_nil}
-use Rattle.cg_join.specs.Lawful.{KeywordRest}
+use Rattle.cg_join.specs.Join.{IsSequence}
 use Rattle.cg_join.specs.Maybe.{maybe_size}
 use Rattle.cg_join.specs.Pairs.{IsPairText, pair_size}
 use Rattle.cg_join.specs.Repeat.{items_size}
-use Rattle.cg_join.specs.SettledLaws.{joined_bound, keyed_settled, lines_settled, list_settled, maybe_settled, or_ready_settled, pairs_settled, ranges_settled, reason_settled, same_settled, sequence_settled, mapped_text_settled, word_settled, zero_least}
+use Rattle.cg_join.specs.SettledLaws.{joined_bound, keyed_settled, lines_settled, list_settled, maybe_settled, or_ready_settled, pairs_settled, ranges_settled, reason_settled, same_settled, second_nil, sequence_settled, mapped_text_settled, word_settled, zero_least}
 use Rattle.cg_join.specs.WordStartLaws.{SpellsWord}
 use Rattle.cg_value.specs.Flat.{flat_size}
 use Rattle.cg_value.specs.Print.{print_default_line, print_weight_line}
@@ -73,7 +72,6 @@ use Rattle.cg_file.specs.contracts.numbers.NumbersFileToken.TheImpl as numbers
 use Rattle.cg_file.specs.contracts.partition.PartitionFileToken.TheImpl as partition
 use Rattle.cg_file.specs.contracts.pressure.PressureFileToken.TheImpl as pressure
 use Rattle.cg_file.specs.contracts.raw.RawFileToken.TheImpl as raw
-use Rattle.cg_file.specs.contracts.set.ListTextToken.TheImpl as list_text
 use Rattle.cg_file.specs.contracts.set.SetFileToken.TheImpl as set
 use Rattle.cg_file.specs.contracts.signed.SignedFileToken.TheImpl as signed
 use Rattle.cg_file.specs.contracts.words.WordsFileToken.TheImpl as words
@@ -202,21 +200,21 @@ device_params_settled s v h =
 set_settled : (s : SetFile) (v : Value) → set.ghosts.means s [] v → set.ghosts.size s ≤ held_of_whole v
 set_settled s v h =
     let q = s.text.token in
-    let list = q.first.list.list in
+    let list = q.first.list in
     mapped_text_settled set_value _ (λ x. length x.0 + 0) held_of_whole h.0 v h.2
     (sequence_settled list_text.ghosts.means byte.ghosts.means q.in_second q.first q.second (length list.ranges.items) 0 length (λ _. 0)
     (λ all k. ranges_settled list.strict list.ranges.items list.most list.low (number_rest list.number) all k) (λ u k. zero_least 0) h.0.0 h.0.1 h.1)
     (line_held (length h.0.0) 0 refl)
 
 why_settled : (s : WhyText) (v : Option ReasonValue) → why.ghosts.means s [] v → why.ghosts.size s ≤ maybe_size (λ (x : ReasonValue). length x.1 + 1) v
-why_settled s = maybe_settled s.parts.begun (λ rest (v : ReasonValue). IsPair KeywordRest reason.ghosts.means s.parts.token.label s.parts.token.token rest v.0 v.1) (length s.parts.token.token.bytes.items) (λ x. length x.1 + 1) s.parts.fresh
-    (λ v h. reason_settled s.parts.token.token.bytes.items v.1 (label_nil reason.ghosts.means s.parts.token.label s.parts.token.token v h))
+why_settled s = maybe_settled s.parts.begun (λ rest (v : ReasonValue). IsSequence keyword.ghosts.means reason.ghosts.means s.parts.token.in_second s.parts.token.first s.parts.token.second rest v.0 v.1) (0 + length s.parts.token.second.bytes.items) (λ x. length x.1 + 1) s.parts.fresh
+    (λ v h. omega (arith, reason_settled s.parts.token.second.bytes.items v.1 (second_nil keyword.ghosts.means reason.ghosts.means s.parts.token.in_second s.parts.token.first s.parts.token.second v.0 v.1 h)))
 
 invalid_settled : (s : InvalidText) (v : Option InvalidValue) → invalid.ghosts.means s [] v → invalid.ghosts.size s ≤ maybe_size (λ (x : InvalidValue). maybe_size (λ (y : ReasonValue). length y.1 + 1) x.1) v
 invalid_settled s = maybe_settled s.parts.begun
-    (λ rest (v : InvalidValue). IsPair KeywordRest why.ghosts.means s.parts.token.label s.parts.token.token rest v.0
-    v.1) (why.ghosts.size s.parts.token.token) (λ x. maybe_size (λ y. length y.1 + 1) x.1) s.parts.fresh
-    (λ v h. why_settled s.parts.token.token v.1 (label_nil why.ghosts.means s.parts.token.label s.parts.token.token v h))
+    (λ rest (v : InvalidValue). IsSequence keyword.ghosts.means why.ghosts.means s.parts.token.in_second s.parts.token.first s.parts.token.second rest v.0
+    v.1) (0 + why.ghosts.size s.parts.token.second) (λ x. maybe_size (λ y. length y.1 + 1) x.1) s.parts.fresh
+    (λ v h. omega (arith, why_settled s.parts.token.second v.1 (second_nil keyword.ghosts.means why.ghosts.means s.parts.token.in_second s.parts.token.first s.parts.token.second v.0 v.1 h)))
 
 root_settled : (s : RootText) (v : RootValue × Option InvalidValue) → root.ghosts.means s [] v → root.ghosts.size s ≤ 0 + maybe_size (λ (x : InvalidValue). maybe_size (λ (y : ReasonValue). length y.1 + 1) x.1) v.1
 root_settled s v h = sequence_settled _ invalid.ghosts.means s.parts.in_second s.parts.first s.parts.second 0
@@ -253,11 +251,12 @@ node_pairs_settled s ps h =
 
 nodes_settled : (s : NodesText) (v : NodesValue) → nodes.ghosts.means s [] v → nodes.ghosts.size s ≤ 0 + items_size (pair_size (λ (p : NestedPair). p.key) (λ p. p.number) length (λ _. 0)) (v.1.1)
 nodes_settled s v h =
-    let q = s.parts.token in
+    let q = s.parts.second in
     let both : List ℕ → ℕ × List NestedPair → Type 0 = λ rest x. IsSequence decimal.ghosts.means node_pairs.ghosts.means q.in_second q.first q.second rest (x.0) (x.1) in
-    sequence_settled decimal.ghosts.means node_pairs.ghosts.means q.in_second q.first q.second 0 (node_pairs.ghosts.size q.second) (λ _. 0)
+    let held = sequence_settled decimal.ghosts.means node_pairs.ghosts.means q.in_second q.first q.second 0 (node_pairs.ghosts.size q.second) (λ _. 0)
     (items_size (pair_size (λ (p : NestedPair). p.key) (λ p. p.number) length (λ _. 0)))
-    (λ n k. zero_least 0) (node_pairs_settled q.second) (v.1.0) (v.1.1) (label_nil (λ r rest (x : ℕ × List NestedPair). IsSequence decimal.ghosts.means node_pairs.ghosts.means r.in_second r.first r.second rest (x.0) (x.1)) s.parts.label q v h)
+    (λ n k. zero_least 0) (node_pairs_settled q.second) (v.1.0) (v.1.1) (second_nil keyword.ghosts.means (λ r rest (x : ℕ × List NestedPair). IsSequence decimal.ghosts.means node_pairs.ghosts.means r.in_second r.first r.second rest (x.0) (x.1)) s.parts.in_second s.parts.first q v.0 v.1 h) in
+    omega (arith, held)
 
 node_stats_settled : (s : NodeStatsFile) (v : Value) → node_stats.ghosts.means s [] v → node_stats.ghosts.size s ≤ held_of_whole v
 node_stats_settled s v h =

@@ -9,7 +9,6 @@ pub mod FlatFileLaws
 pub mod FlatLimitsFileLaws
 pub mod FourLaws
 pub mod Front
-pub mod FrontLaws
 pub mod KeyedFileLaws
 pub mod HeldLaws
 pub mod Kinds

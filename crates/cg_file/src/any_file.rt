@@ -1,9 +1,6 @@
 //! The text of a file of any kind.
-ghost use Rattle.std.specs.Prelude.{◌≡◌, ◌≤◌, ◌<◌, ◌+◌, true, [], ◌∷◌, ◌++◌, IsTrue, IsFalse, length, take};
-ghost use Rattle.cg_text.specs.Scan.{FollowsRun};
-ghost use Rattle.cg_file.specs.Front.{IsLineFront};
-ghost use Rattle.cg_text.specs.Texts.{Lacks};
-ghost use Rattle.cg_text.specs.Token.{Same, Spells};
+ghost use Rattle.std.specs.Prelude.{◌≡◌, ◌<◌, true, take};
+ghost use Rattle.cg_text.specs.Token.{Spells};
 ghost use Rattle.cg_value.specs.Kind.{IsReadForm};
 ghost use Rattle.cg_file.specs.Kinds.{TextsOf};
 
@@ -29,10 +26,8 @@ use crate::raw::RawFile;
 use crate::set::SetFile;
 use crate::signed::SignedFile;
 use crate::words::WordsFile;
-use cg_join::{WholeLines, run_line};
-use cg_text::{OutOfMemory, Token};
+use cg_text::{Pushed, Token};
 use cg_value::{ReadForm, ReadKind, Value};
-use memchr::memchr;
 use std::alloc::Global;
 
 /// The text of a file of any kind, a variant for each.
@@ -142,84 +137,6 @@ impl AnyFile {
     {
         text_of(alloc, kind.form())
     }
-
-    /// Takes bytes from the front of `bytes`, none of them a newline, and answers how many. It may leave some that
-    /// `step` would take: it stops before a byte that is refused, or for which memory is.
-    pub fn run(&mut self, bytes: &[u8]) -> usize
-        ensures within { result ≤ length bytes.now }
-        ensures plain { Lacks 10 (take result bytes.now) }
-        ensures follows { FollowsRun ⟦<AnyFile as Token>⟧.means self.old (take result bytes.now) self.new }
-        ensures size { ⟦<AnyFile as Token>⟧.size self.new ≤ ⟦<AnyFile as Token>⟧.size self.old + result }
-        ensures same_size { result ≡ 0 → ⟦<AnyFile as Token>⟧.size self.new ≡ ⟦<AnyFile as Token>⟧.size self.old }
-    {
-        with_text!(self, text => run_line(text, bytes))
-    }
-}
-
-impl AnyFile {
-    /// Takes a whole line, and the newline after it, at once, where no line is begun; or leaves the text as it is,
-    /// which it may do with any line. Answers whether it took them.
-    fn take_line(&mut self, line: &[u8]) -> bool
-        ensures taken { IsTrue result → FollowsRun ⟦<AnyFile as Token>⟧.means self.old (line.now ++ 10 ∷ []) self.new }
-        ensures left { IsFalse result → Same ⟦<AnyFile as Token>⟧.means self.old self.new }
-        ensures size { ⟦<AnyFile as Token>⟧.size self.new
-            ≤ ⟦<AnyFile as Token>⟧.size self.old + (length line.now + 1) }
-        ensures same_size { IsFalse result → ⟦<AnyFile as Token>⟧.size self.new ≡ ⟦<AnyFile as Token>⟧.size self.old }
-    {
-        match self {
-            AnyFile::Numbers(text) => text.take_line(line, b'\n'),
-            AnyFile::Flat(text) => text.take_line(line, b'\n'),
-            AnyFile::FlatLimits(text) => text.take_line(line, b'\n'),
-            AnyFile::DeviceStats(text) => text.take_line(line, b'\n'),
-            AnyFile::DeviceWeights(text) => text.take_line(line, b'\n'),
-            AnyFile::DeviceLimits(text) => text.take_line(line, b'\n'),
-            AnyFile::DeviceTargets(text) => text.take_line(line, b'\n'),
-            AnyFile::DeviceParams(text) => text.take_line(line, b'\n'),
-            AnyFile::Nested(text) => text.take_line(line, b'\n'),
-            _ => false,
-        }
-    }
-
-    /// The same with what stands before the first newline of `bytes`. Answers how many bytes it took.
-    fn take_ended(&mut self, bytes: &[u8]) -> usize
-        ensures within { result ≤ length bytes.now }
-        ensures line { 0 < result → IsLineFront bytes.now result }
-        ensures taken { FollowsRun ⟦<AnyFile as Token>⟧.means self.old (take result bytes.now) self.new }
-        ensures size { ⟦<AnyFile as Token>⟧.size self.new ≤ ⟦<AnyFile as Token>⟧.size self.old + result }
-        ensures same_size { result ≡ 0 → ⟦<AnyFile as Token>⟧.size self.new ≡ ⟦<AnyFile as Token>⟧.size self.old }
-    {
-        let end = match memchr(b'\n', bytes) {
-            Some(end) => end,
-            None => return 0,
-        };
-        let (line, _) = bytes.split_at(end);
-        if self.take_line(line) { end + 1 } else { 0 }
-    }
-
-    /// Takes a whole line with its newline from the front of `bytes`, where no line is begun; or nothing, which it may
-    /// do with any line. Answers how many bytes it took.
-    #[inline(always)]
-    pub fn take_front(&mut self, bytes: &[u8]) -> usize
-        ensures within { result ≤ length bytes.now }
-        ensures line { 0 < result → IsLineFront bytes.now result }
-        ensures taken { FollowsRun ⟦<AnyFile as Token>⟧.means self.old (take result bytes.now) self.new }
-        ensures size { ⟦<AnyFile as Token>⟧.size self.new ≤ ⟦<AnyFile as Token>⟧.size self.old + result }
-        ensures same_size { result ≡ 0 → ⟦<AnyFile as Token>⟧.size self.new ≡ ⟦<AnyFile as Token>⟧.size self.old }
-    {
-        match self {
-            AnyFile::Raw(text) => text.take_front(bytes),
-            AnyFile::Numbers(_)
-            | AnyFile::Flat(_)
-            | AnyFile::FlatLimits(_)
-            | AnyFile::DeviceStats(_)
-            | AnyFile::DeviceWeights(_)
-            | AnyFile::DeviceLimits(_)
-            | AnyFile::DeviceTargets(_)
-            | AnyFile::DeviceParams(_)
-            | AnyFile::Nested(_) => self.take_ended(bytes),
-            _ => 0,
-        }
-    }
 }
 
 impl Token for AnyFile {
@@ -249,8 +166,8 @@ impl Token for AnyFile {
 
     ghost holds_bytes = { file_holds_bytes };
 
-    fn step(&mut self, byte: u8) -> Result<bool, OutOfMemory> {
-        with_text!(self, text => text.step(byte))
+    fn push(&mut self, bytes: &[u8]) -> Pushed {
+        with_text!(self, text => text.push(bytes))
     }
 
     fn allows(&self, byte: u8) -> bool {

@@ -7,7 +7,7 @@ ghost use Rattle.cg_file.specs.Branch.{BranchRest, branch_ends_at, is_open, may_
 ghost use Rattle.cg_file.specs.OneOrBoth.{Differ};
 
 use cg_join::Either;
-use cg_text::{OutOfMemory, Token};
+use cg_text::{OutOfMemory, Pushed, Steps, Token, push_bytes, push_count};
 
 /// Which of the two tokens took bytes.
 #[derive(Clone, Copy)]
@@ -69,34 +69,8 @@ impl<A: Token, B: Token> Token for Branch<A, B> {
 
     ghost grows = { A.grows || B.grows };
 
-    fn step(&mut self, byte: u8) -> Result<bool, OutOfMemory> {
-        match self.place {
-            BranchTaken::Start => match self.first.step(byte) {
-                Ok(true) => {
-                    self.place = BranchTaken::First;
-                    Ok(true)
-                }
-                Ok(false) => match self.second.step(byte) {
-                    Ok(true) => {
-                        self.place = BranchTaken::Second;
-                        Ok(true)
-                    }
-                    Ok(false) => Ok(false),
-                    Err(e) => Err(e),
-                },
-                Err(e) => Err(e),
-            },
-            BranchTaken::First => self.first.step(byte),
-            BranchTaken::Second => self.second.step(byte),
-        }
-    }
-
-    fn run(&mut self, bytes: &[u8]) -> usize {
-        match self.place {
-            BranchTaken::Start => 0,
-            BranchTaken::First => self.first.run(bytes),
-            BranchTaken::Second => self.second.run(bytes),
-        }
+    fn push(&mut self, bytes: &[u8]) -> Pushed {
+        push_bytes(self, bytes)
     }
 
     fn allows(&self, byte: u8) -> bool {
@@ -150,4 +124,44 @@ impl<A: Token, B: Token> Token for Branch<A, B> {
 
     ghost holds_bytes = { λ s. choice_bytes A.means B.means (may_first s.place) (may_second s.place) s.first s.second
         (A.holds_bytes s.first) (B.holds_bytes s.second) };
+}
+
+impl<A: Token, B: Token> Steps for Branch<A, B> {
+    type Value = Either<A::Out, B::Out>;
+
+    ghost rests = { ⟦<Branch<A, B> as Token>⟧.means };
+
+    ghost room = { ⟦<Branch<A, B> as Token>⟧.size };
+
+    ghost grows = { ⟦<Branch<A, B> as Token>⟧.grows };
+
+    fn take_byte(&mut self, byte: u8) -> Result<bool, OutOfMemory> {
+        match self.place {
+            BranchTaken::Start => match self.first.step(byte) {
+                Ok(true) => {
+                    self.place = BranchTaken::First;
+                    Ok(true)
+                }
+                Ok(false) => match self.second.step(byte) {
+                    Ok(true) => {
+                        self.place = BranchTaken::Second;
+                        Ok(true)
+                    }
+                    Ok(false) => Ok(false),
+                    Err(e) => Err(e),
+                },
+                Err(e) => Err(e),
+            },
+            BranchTaken::First => self.first.step(byte),
+            BranchTaken::Second => self.second.step(byte),
+        }
+    }
+
+    fn take_run(&mut self, bytes: &[u8]) -> usize {
+        match self.place {
+            BranchTaken::Start => 0,
+            BranchTaken::First => push_count(&mut self.first, bytes),
+            BranchTaken::Second => push_count(&mut self.second, bytes),
+        }
+    }
 }

@@ -5,7 +5,7 @@ ghost use Rattle.cg_value.specs.Files.{KindText};
 ghost use Rattle.cg_value.specs.declared.kind.ReadForm.TheVariants.{CpuMax as CpuMaxForm};
 
 use cg_join::{Line, MapValue, QuotaAndPeriod, Sequence, one_line, quota_and_period};
-use cg_text::{ByteText, Limit, OutOfMemory, Token};
+use cg_text::{ByteText, Limit, Pushed, Token};
 use cg_value::Value;
 
 /// A line, turned into the file's value.
@@ -77,12 +77,8 @@ impl Token for CpuMaxFile {
 
     ghost holds_bytes = { λ s. ⟦<Text as Token>⟧.holds_bytes s.text };
 
-    fn step(&mut self, byte: u8) -> Result<bool, OutOfMemory> {
-        self.text.step(byte)
-    }
-
-    fn run(&mut self, bytes: &[u8]) -> usize {
-        self.text.run(bytes)
+    fn push(&mut self, bytes: &[u8]) -> Pushed {
+        self.text.push(bytes)
     }
 
     fn whole(&self, bytes: &[u8]) -> Option<(Value, usize)> {

@@ -6,10 +6,10 @@ ghost use Rattle.cg_value.specs.declared.kind.ReadForm.TheVariants.{DeviceLimits
 ghost use Rattle.cg_value.specs.ReadLine.{IsLimitLine};
 
 use cg_join::{
-    DeviceNameText, LabelText, LimitText, Lines, MakeToken, MapValue, Mapped, Sequence, WholeLines,
-    labelled, limit_in,
+    DeviceNameText, LabelText, LimitText, Lines, MakeToken, MapValue, Mapped, Sequence, labelled,
+    limit_in,
 };
-use cg_text::{Device, Items, Keyword, Limit, OutOfMemory, Token};
+use cg_text::{Device, Items, Keyword, Limit, Pushed, Token};
 use cg_value::{LimitLine, Value};
 use std::alloc::Global;
 
@@ -104,12 +104,8 @@ impl Token for LimitLineText {
 
     ghost holds_bytes = { λ s. ⟦<LineParts as Token>⟧.holds_bytes s.parts };
 
-    fn step(&mut self, byte: u8) -> Result<bool, OutOfMemory> {
-        self.parts.step(byte)
-    }
-
-    fn run(&mut self, bytes: &[u8]) -> usize {
-        self.parts.run(bytes)
+    fn push(&mut self, bytes: &[u8]) -> Pushed {
+        self.parts.push(bytes)
     }
 
     fn whole(&self, bytes: &[u8]) -> Option<(LimitLine, usize)> {
@@ -228,12 +224,8 @@ impl Token for DeviceLimitsFile {
 
     ghost holds_bytes = { λ s. ⟦<Text as Token>⟧.holds_bytes s.text };
 
-    fn step(&mut self, byte: u8) -> Result<bool, OutOfMemory> {
-        self.text.step(byte)
-    }
-
-    fn run(&mut self, bytes: &[u8]) -> usize {
-        self.text.run(bytes)
+    fn push(&mut self, bytes: &[u8]) -> Pushed {
+        self.text.push(bytes)
     }
 
     fn allows(&self, byte: u8) -> bool {
@@ -254,11 +246,5 @@ impl Token for DeviceLimitsFile {
 
     fn held_in(_value: &Value) -> u64 {
         0
-    }
-}
-
-impl WholeLines for DeviceLimitsFile {
-    fn take_line(&mut self, line: &[u8], end: u8) -> bool {
-        self.text.take_line(line, end)
     }
 }

@@ -9,9 +9,9 @@ ghost use Rattle.cg_file.specs.ParamFileLaws.{AreParamPairs};
 use cg_index::KeyedItems;
 use cg_join::{
     DeviceNameText, DistinctPairs, Lines, MakeToken, MapValue, Mapped, Pairing, ParamText,
-    Sequence, Spaced, WholeLines, WordStart, run_parts, spaced,
+    Sequence, Spaced, WordStart, spaced,
 };
-use cg_text::{Device, Items, Key, OutOfMemory, ParamValue, Token};
+use cg_text::{Device, Items, Key, ParamValue, Pushed, Token};
 use cg_value::{ParamLine, ParamPair, Value};
 use std::alloc::Global;
 
@@ -120,12 +120,8 @@ impl Token for ParamPairs {
 
     ghost holds_bytes = { λ s. ⟦<Pairs as Token>⟧.holds_bytes s.pairs };
 
-    fn step(&mut self, byte: u8) -> Result<bool, OutOfMemory> {
-        self.pairs.step(byte)
-    }
-
-    fn run(&mut self, bytes: &[u8]) -> usize {
-        run_parts(&mut self.pairs, bytes)
+    fn push(&mut self, bytes: &[u8]) -> Pushed {
+        self.pairs.push(bytes)
     }
 
     fn whole(&self, bytes: &[u8]) -> Option<(KeyedItems<ParamPair>, usize)> {
@@ -225,12 +221,8 @@ impl Token for ParamLineText {
 
     ghost holds_bytes = { λ s. ⟦<LineParts as Token>⟧.holds_bytes s.parts };
 
-    fn step(&mut self, byte: u8) -> Result<bool, OutOfMemory> {
-        self.parts.step(byte)
-    }
-
-    fn run(&mut self, bytes: &[u8]) -> usize {
-        self.parts.run(bytes)
+    fn push(&mut self, bytes: &[u8]) -> Pushed {
+        self.parts.push(bytes)
     }
 
     fn whole(&self, bytes: &[u8]) -> Option<(ParamLine, usize)> {
@@ -349,12 +341,8 @@ impl Token for DeviceParamsFile {
 
     ghost holds_bytes = { λ s. ⟦<Text as Token>⟧.holds_bytes s.text };
 
-    fn step(&mut self, byte: u8) -> Result<bool, OutOfMemory> {
-        self.text.step(byte)
-    }
-
-    fn run(&mut self, bytes: &[u8]) -> usize {
-        self.text.run(bytes)
+    fn push(&mut self, bytes: &[u8]) -> Pushed {
+        self.text.push(bytes)
     }
 
     fn allows(&self, byte: u8) -> bool {
@@ -375,11 +363,5 @@ impl Token for DeviceParamsFile {
 
     fn held_in(_value: &Value) -> u64 {
         0
-    }
-}
-
-impl WholeLines for DeviceParamsFile {
-    fn take_line(&mut self, line: &[u8], end: u8) -> bool {
-        self.text.take_line(line, end)
     }
 }

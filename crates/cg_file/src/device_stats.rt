@@ -10,9 +10,9 @@ use crate::pad::PadText;
 use cg_index::KeyedItems;
 use cg_join::{
     AmountText, DeviceNameText, DistinctPairs, Lines, MakeToken, MapValue, Mapped, Pairing,
-    Sequence, WholeLines, WordStart, run_parts,
+    Sequence, WordStart,
 };
-use cg_text::{Amount, Device, Items, Key, OutOfMemory, Token};
+use cg_text::{Amount, Device, Items, Key, Pushed, Token};
 use cg_value::{StatLine, StatPair, Value};
 use std::alloc::Global;
 
@@ -121,12 +121,8 @@ impl Token for StatPairs {
 
     ghost holds_bytes = { λ s. ⟦<Pairs as Token>⟧.holds_bytes s.pairs };
 
-    fn step(&mut self, byte: u8) -> Result<bool, OutOfMemory> {
-        self.pairs.step(byte)
-    }
-
-    fn run(&mut self, bytes: &[u8]) -> usize {
-        run_parts(&mut self.pairs, bytes)
+    fn push(&mut self, bytes: &[u8]) -> Pushed {
+        self.pairs.push(bytes)
     }
 
     fn whole(&self, bytes: &[u8]) -> Option<(KeyedItems<StatPair>, usize)> {
@@ -226,12 +222,8 @@ impl Token for StatLineText {
 
     ghost holds_bytes = { λ s. ⟦<LineParts as Token>⟧.holds_bytes s.parts };
 
-    fn step(&mut self, byte: u8) -> Result<bool, OutOfMemory> {
-        self.parts.step(byte)
-    }
-
-    fn run(&mut self, bytes: &[u8]) -> usize {
-        self.parts.run(bytes)
+    fn push(&mut self, bytes: &[u8]) -> Pushed {
+        self.parts.push(bytes)
     }
 
     fn whole(&self, bytes: &[u8]) -> Option<(StatLine, usize)> {
@@ -351,12 +343,8 @@ impl Token for DeviceStatsFile {
 
     ghost holds_bytes = { λ s. ⟦<Text as Token>⟧.holds_bytes s.text };
 
-    fn step(&mut self, byte: u8) -> Result<bool, OutOfMemory> {
-        self.text.step(byte)
-    }
-
-    fn run(&mut self, bytes: &[u8]) -> usize {
-        self.text.run(bytes)
+    fn push(&mut self, bytes: &[u8]) -> Pushed {
+        self.text.push(bytes)
     }
 
     fn allows(&self, byte: u8) -> bool {
@@ -377,11 +365,5 @@ impl Token for DeviceStatsFile {
 
     fn held_in(_value: &Value) -> u64 {
         0
-    }
-}
-
-impl WholeLines for DeviceStatsFile {
-    fn take_line(&mut self, line: &[u8], end: u8) -> bool {
-        self.text.take_line(line, end)
     }
 }

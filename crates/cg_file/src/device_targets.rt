@@ -6,10 +6,9 @@ ghost use Rattle.cg_value.specs.declared.kind.ReadForm.TheVariants.{DeviceTarget
 ghost use Rattle.cg_value.specs.ReadLine.{IsTargetLine};
 
 use cg_join::{
-    DeviceNameText, LabelText, Lines, MakeToken, MapValue, Mapped, Sequence, WholeLines,
-    decimal_in, labelled,
+    DeviceNameText, LabelText, Lines, MakeToken, MapValue, Mapped, Sequence, decimal_in, labelled,
 };
-use cg_text::{DecimalText, Device, Items, Keyword, OutOfMemory, Token};
+use cg_text::{DecimalText, Device, Items, Keyword, Pushed, Token};
 use cg_value::{TargetLine, Value};
 use std::alloc::Global;
 
@@ -85,12 +84,8 @@ impl Token for TargetLineText {
 
     ghost holds_bytes = { λ s. ⟦<LineParts as Token>⟧.holds_bytes s.parts };
 
-    fn step(&mut self, byte: u8) -> Result<bool, OutOfMemory> {
-        self.parts.step(byte)
-    }
-
-    fn run(&mut self, bytes: &[u8]) -> usize {
-        self.parts.run(bytes)
+    fn push(&mut self, bytes: &[u8]) -> Pushed {
+        self.parts.push(bytes)
     }
 
     fn whole(&self, bytes: &[u8]) -> Option<(TargetLine, usize)> {
@@ -209,12 +204,8 @@ impl Token for DeviceTargetsFile {
 
     ghost holds_bytes = { λ s. ⟦<Text as Token>⟧.holds_bytes s.text };
 
-    fn step(&mut self, byte: u8) -> Result<bool, OutOfMemory> {
-        self.text.step(byte)
-    }
-
-    fn run(&mut self, bytes: &[u8]) -> usize {
-        self.text.run(bytes)
+    fn push(&mut self, bytes: &[u8]) -> Pushed {
+        self.text.push(bytes)
     }
 
     fn allows(&self, byte: u8) -> bool {
@@ -235,11 +226,5 @@ impl Token for DeviceTargetsFile {
 
     fn held_in(_value: &Value) -> u64 {
         0
-    }
-}
-
-impl WholeLines for DeviceTargetsFile {
-    fn take_line(&mut self, line: &[u8], end: u8) -> bool {
-        self.text.take_line(line, end)
     }
 }

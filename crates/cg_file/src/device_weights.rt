@@ -6,10 +6,10 @@ ghost use Rattle.cg_value.specs.declared.kind.ReadForm.TheVariants.{DeviceWeight
 ghost use Rattle.cg_value.specs.ReadLine.{IsWeightLine};
 
 use cg_join::{
-    DeviceNameText, LabelText, Lines, MakeToken, MapValue, Mapped, Sequence, Spaced, WholeLines,
-    decimal_in, labelled, spaced,
+    DeviceNameText, LabelText, Lines, MakeToken, MapValue, Mapped, Sequence, Spaced, decimal_in,
+    labelled, spaced,
 };
-use cg_text::{ByteText, DecimalText, Device, Items, Keyword, OutOfMemory, Token};
+use cg_text::{ByteText, DecimalText, Device, Items, Keyword, Pushed, Token};
 use cg_value::{Value, WeightLine};
 use std::alloc::Global;
 
@@ -87,12 +87,8 @@ impl Token for WeightLineText {
 
     ghost holds_bytes = { λ s. ⟦<LineParts as Token>⟧.holds_bytes s.parts };
 
-    fn step(&mut self, byte: u8) -> Result<bool, OutOfMemory> {
-        self.parts.step(byte)
-    }
-
-    fn run(&mut self, bytes: &[u8]) -> usize {
-        self.parts.run(bytes)
+    fn push(&mut self, bytes: &[u8]) -> Pushed {
+        self.parts.push(bytes)
     }
 
     fn whole(&self, bytes: &[u8]) -> Option<(WeightLine, usize)> {
@@ -224,12 +220,8 @@ impl Token for DeviceWeightsFile {
 
     ghost holds_bytes = { λ s. ⟦<Text as Token>⟧.holds_bytes s.text };
 
-    fn step(&mut self, byte: u8) -> Result<bool, OutOfMemory> {
-        self.text.step(byte)
-    }
-
-    fn run(&mut self, bytes: &[u8]) -> usize {
-        self.text.run(bytes)
+    fn push(&mut self, bytes: &[u8]) -> Pushed {
+        self.text.push(bytes)
     }
 
     fn allows(&self, byte: u8) -> bool {
@@ -250,11 +242,5 @@ impl Token for DeviceWeightsFile {
 
     fn held_in(_value: &Value) -> u64 {
         0
-    }
-}
-
-impl WholeLines for DeviceWeightsFile {
-    fn take_line(&mut self, line: &[u8], end: u8) -> bool {
-        self.text.take_line(line, end)
     }
 }

@@ -4,8 +4,8 @@ ghost use Rattle.cg_text.specs.Token.{Spells};
 ghost use Rattle.cg_value.specs.Files.{KindText};
 ghost use Rattle.cg_value.specs.declared.kind.ReadForm.TheVariants.{Flat as FlatForm};
 
-use cg_join::{Collection, KeyedLines, MapValue, Mapped, NumberStart, WholeLines, WordStart};
-use cg_text::{DecimalText, Key, OutOfMemory, Token, WordText};
+use cg_join::{Collection, KeyedLines, MapValue, Mapped, NumberStart, WordStart};
+use cg_text::{DecimalText, Key, OutOfMemory, Pushed, Token, WordText};
 use cg_value::{Flat, FlatBuilder, FlatPair, Value};
 use std::alloc::Global;
 
@@ -164,12 +164,8 @@ impl Token for FlatFile {
 
     ghost holds_bytes = { λ s. ⟦<Text as Token>⟧.holds_bytes s.text };
 
-    fn step(&mut self, byte: u8) -> Result<bool, OutOfMemory> {
-        self.text.step(byte)
-    }
-
-    fn run(&mut self, bytes: &[u8]) -> usize {
-        self.text.run(bytes)
+    fn push(&mut self, bytes: &[u8]) -> Pushed {
+        self.text.push(bytes)
     }
 
     fn allows(&self, byte: u8) -> bool {
@@ -190,11 +186,5 @@ impl Token for FlatFile {
 
     fn held_in(_value: &Value) -> u64 {
         0
-    }
-}
-
-impl WholeLines for FlatFile {
-    fn take_line(&mut self, line: &[u8], end: u8) -> bool {
-        self.text.take_line(line, end)
     }
 }

@@ -6,10 +6,10 @@ ghost use Rattle.cg_value.specs.declared.kind.ReadForm.TheVariants.{FlatLimits a
 
 use cg_index::KeyedItems;
 use cg_join::{
-    KeyedLines, LimitText, MakePair, MakeToken, MakeValue, MapValue, Mapped, PairList, WholeLines,
-    WordStart, limit_in,
+    KeyedLines, LimitText, MakePair, MakeToken, MakeValue, MapValue, Mapped, PairList, WordStart,
+    limit_in,
 };
-use cg_text::{Key, Limit, OutOfMemory, Token};
+use cg_text::{Key, Limit, Pushed, Token};
 use cg_value::{FlatLimit, Value};
 use std::alloc::Global;
 
@@ -156,12 +156,8 @@ impl Token for FlatLimitsFile {
 
     ghost holds_bytes = { λ s. ⟦<Text as Token>⟧.holds_bytes s.text };
 
-    fn step(&mut self, byte: u8) -> Result<bool, OutOfMemory> {
-        self.text.step(byte)
-    }
-
-    fn run(&mut self, bytes: &[u8]) -> usize {
-        self.text.run(bytes)
+    fn push(&mut self, bytes: &[u8]) -> Pushed {
+        self.text.push(bytes)
     }
 
     fn allows(&self, byte: u8) -> bool {
@@ -182,11 +178,5 @@ impl Token for FlatLimitsFile {
 
     fn held_in(_value: &Value) -> u64 {
         0
-    }
-}
-
-impl WholeLines for FlatLimitsFile {
-    fn take_line(&mut self, line: &[u8], end: u8) -> bool {
-        self.text.take_line(line, end)
     }
 }

@@ -5,7 +5,7 @@ ghost use Rattle.cg_value.specs.Files.{KindText};
 ghost use Rattle.cg_value.specs.declared.kind.ReadForm.TheVariants.{Limit as LimitForm};
 
 use cg_join::{LimitText, Line, MapValue, Sequence, one_line};
-use cg_text::{ByteText, Limit, OutOfMemory, Token};
+use cg_text::{ByteText, Limit, Pushed, Token};
 use cg_value::Value;
 
 /// A line, turned into the file's value.
@@ -79,12 +79,8 @@ impl Token for LimitFile {
 
     ghost holds_bytes = { λ s. ⟦<Text as Token>⟧.holds_bytes s.text };
 
-    fn step(&mut self, byte: u8) -> Result<bool, OutOfMemory> {
-        self.text.step(byte)
-    }
-
-    fn run(&mut self, bytes: &[u8]) -> usize {
-        self.text.run(bytes)
+    fn push(&mut self, bytes: &[u8]) -> Pushed {
+        self.text.push(bytes)
     }
 
     fn whole(&self, bytes: &[u8]) -> Option<(Value, usize)> {

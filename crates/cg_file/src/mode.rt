@@ -6,7 +6,7 @@ ghost use Rattle.cg_value.specs.declared.kind.ReadForm.TheVariants.{Mode as Mode
 ghost use Rattle.cg_file.specs.OneLineMapped.{IsModeWord};
 
 use cg_join::{Choice, Either, Line, MapValue, Sequence, one_line};
-use cg_text::{ByteText, Keyword, KeywordText, OutOfMemory, Token};
+use cg_text::{ByteText, Keyword, KeywordText, Pushed, Token};
 use cg_value::{GroupMode, Value};
 
 /// One of two fixed texts.
@@ -102,12 +102,8 @@ impl Token for ModeFile {
 
     ghost holds_bytes = { λ s. ⟦<Text as Token>⟧.holds_bytes s.text };
 
-    fn step(&mut self, byte: u8) -> Result<bool, OutOfMemory> {
-        self.text.step(byte)
-    }
-
-    fn run(&mut self, bytes: &[u8]) -> usize {
-        self.text.run(bytes)
+    fn push(&mut self, bytes: &[u8]) -> Pushed {
+        self.text.push(bytes)
     }
 
     fn whole(&self, bytes: &[u8]) -> Option<(Value, usize)> {

@@ -7,9 +7,9 @@ ghost use Rattle.cg_value.specs.declared.kind.ReadForm.TheVariants.{Nested as Ne
 use cg_index::KeyedItems;
 use cg_join::{
     DistinctPairs, KeyedLines, MakePair, MapValue, Mapped, NumberStart, PairList, Pairing,
-    PairsStart, WholeLines, WordStart,
+    PairsStart, WordStart,
 };
-use cg_text::{DecimalText, Key, OutOfMemory, Token};
+use cg_text::{DecimalText, Key, Pushed, Token};
 use cg_value::{NestedLine, NestedPair, Value};
 use std::alloc::Global;
 
@@ -179,12 +179,8 @@ impl Token for NestedFile {
 
     ghost holds_bytes = { λ s. ⟦<Text as Token>⟧.holds_bytes s.text };
 
-    fn step(&mut self, byte: u8) -> Result<bool, OutOfMemory> {
-        self.text.step(byte)
-    }
-
-    fn run(&mut self, bytes: &[u8]) -> usize {
-        self.text.run(bytes)
+    fn push(&mut self, bytes: &[u8]) -> Pushed {
+        self.text.push(bytes)
     }
 
     fn allows(&self, byte: u8) -> bool {
@@ -205,11 +201,5 @@ impl Token for NestedFile {
 
     fn held_in(_value: &Value) -> u64 {
         0
-    }
-}
-
-impl WholeLines for NestedFile {
-    fn take_line(&mut self, line: &[u8], end: u8) -> bool {
-        self.text.take_line(line, end)
     }
 }

@@ -10,9 +10,9 @@ use crate::nested::NestedPairs;
 use cg_index::KeyedItems;
 use cg_join::{
     DistinctPairs, LabelText, Line, MapValue, NumberStart, Sequence, WordStart, decimal_in,
-    labelled, one_line, run_parts,
+    labelled, one_line,
 };
-use cg_text::{ByteText, DecimalText, Keyword, OutOfMemory, Token};
+use cg_text::{ByteText, DecimalText, Keyword, Pushed, Token};
 use cg_value::{NestedPair, Value};
 use std::alloc::Global;
 
@@ -59,12 +59,8 @@ impl Token for NodePairs {
 
     ghost holds_bytes = { λ s. ⟦<NestedPairs as Token>⟧.holds_bytes s.pairs };
 
-    fn step(&mut self, byte: u8) -> Result<bool, OutOfMemory> {
-        self.pairs.step(byte)
-    }
-
-    fn run(&mut self, bytes: &[u8]) -> usize {
-        run_parts(&mut self.pairs, bytes)
+    fn push(&mut self, bytes: &[u8]) -> Pushed {
+        self.pairs.push(bytes)
     }
 
     fn allows(&self, byte: u8) -> bool {
@@ -134,12 +130,8 @@ impl Token for NodesText {
 
     ghost holds_bytes = { λ s. ⟦<NodesParts as Token>⟧.holds_bytes s.parts };
 
-    fn step(&mut self, byte: u8) -> Result<bool, OutOfMemory> {
-        self.parts.step(byte)
-    }
-
-    fn run(&mut self, bytes: &[u8]) -> usize {
-        self.parts.run(bytes)
+    fn push(&mut self, bytes: &[u8]) -> Pushed {
+        self.parts.push(bytes)
     }
 
     fn allows(&self, byte: u8) -> bool {
@@ -232,12 +224,8 @@ impl Token for NodeStatsFile {
 
     ghost holds_bytes = { λ s. ⟦<Text as Token>⟧.holds_bytes s.text };
 
-    fn step(&mut self, byte: u8) -> Result<bool, OutOfMemory> {
-        self.text.step(byte)
-    }
-
-    fn run(&mut self, bytes: &[u8]) -> usize {
-        self.text.run(bytes)
+    fn push(&mut self, bytes: &[u8]) -> Pushed {
+        self.text.push(bytes)
     }
 
     fn allows(&self, byte: u8) -> bool {

@@ -4,8 +4,8 @@ ghost use Rattle.cg_text.specs.Token.{Spells};
 ghost use Rattle.cg_value.specs.Files.{KindText};
 ghost use Rattle.cg_value.specs.declared.kind.ReadForm.TheVariants.{Numbers as NumbersForm};
 
-use cg_join::{Lines, MapValue, Mapped, NumberStart, WholeLines};
-use cg_text::{DecimalText, Items, OutOfMemory, Token};
+use cg_join::{Lines, MapValue, Mapped, NumberStart};
+use cg_text::{DecimalText, Items, Pushed, Token};
 use cg_value::Value;
 use std::alloc::Global;
 
@@ -78,12 +78,8 @@ impl Token for NumbersFile {
 
     ghost holds_bytes = { λ s. ⟦<Text as Token>⟧.holds_bytes s.text };
 
-    fn step(&mut self, byte: u8) -> Result<bool, OutOfMemory> {
-        self.text.step(byte)
-    }
-
-    fn run(&mut self, bytes: &[u8]) -> usize {
-        self.text.run(bytes)
+    fn push(&mut self, bytes: &[u8]) -> Pushed {
+        self.text.push(bytes)
     }
 
     fn allows(&self, byte: u8) -> bool {
@@ -104,11 +100,5 @@ impl Token for NumbersFile {
 
     fn held_in(_value: &Value) -> u64 {
         0
-    }
-}
-
-impl WholeLines for NumbersFile {
-    fn take_line(&mut self, line: &[u8], end: u8) -> bool {
-        self.text.take_line(line, end)
     }
 }

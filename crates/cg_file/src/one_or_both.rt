@@ -5,7 +5,7 @@ ghost use Rattle.cg_join.specs.Join.{AreApart};
 ghost use Rattle.cg_join.specs.Repeat.{LacksEmpty};
 ghost use Rattle.cg_file.specs.OneOrBoth.{Differ, IsOneOrBoth, OneOrBothRest, ends_at, in_second, is_start, waits};
 
-use cg_text::{OutOfMemory, Token};
+use cg_text::{OutOfMemory, Pushed, Steps, Token, push_bytes, push_count};
 
 /// Which of the two tokens took bytes.
 #[derive(Clone, Copy)]
@@ -68,52 +68,8 @@ impl<A: Token, B: Token> Token for OneOrBoth<A, B> {
 
     ghost grows = { A.grows || B.grows };
 
-    fn step(&mut self, byte: u8) -> Result<bool, OutOfMemory> {
-        match self.place {
-            PartsTaken::Start => match self.first.step(byte) {
-                Ok(true) => {
-                    self.place = PartsTaken::First;
-                    Ok(true)
-                }
-                Ok(false) => match self.second.step(byte) {
-                    Ok(true) => {
-                        self.place = PartsTaken::Second;
-                        Ok(true)
-                    }
-                    Ok(false) => Ok(false),
-                    Err(e) => Err(e),
-                },
-                Err(e) => Err(e),
-            },
-            PartsTaken::First => match self.first.step(byte) {
-                Ok(true) => Ok(true),
-                Ok(false) => {
-                    if !self.first.can_end() {
-                        return Ok(false);
-                    }
-                    match self.second.step(byte) {
-                        Ok(true) => {
-                            self.place = PartsTaken::Both;
-                            Ok(true)
-                        }
-                        Ok(false) => Ok(false),
-                        Err(e) => Err(e),
-                    }
-                }
-                Err(e) => Err(e),
-            },
-            PartsTaken::Second => self.second.step(byte),
-            PartsTaken::Both => self.second.step(byte),
-        }
-    }
-
-    fn run(&mut self, bytes: &[u8]) -> usize {
-        match self.place {
-            PartsTaken::Start => 0,
-            PartsTaken::First => self.first.run(bytes),
-            PartsTaken::Second => self.second.run(bytes),
-            PartsTaken::Both => self.second.run(bytes),
-        }
+    fn push(&mut self, bytes: &[u8]) -> Pushed {
+        push_bytes(self, bytes)
     }
 
     fn allows(&self, byte: u8) -> bool {
@@ -176,4 +132,62 @@ impl<A: Token, B: Token> Token for OneOrBoth<A, B> {
 
     ghost holds_bytes = { λ s. one_bytes A.means B.means s.place s.first s.second (A.holds_bytes s.first)
         (B.holds_bytes s.second) };
+}
+
+impl<A: Token, B: Token> Steps for OneOrBoth<A, B> {
+    type Value = (Option<A::Out>, Option<B::Out>);
+
+    ghost rests = { ⟦<OneOrBoth<A, B> as Token>⟧.means };
+
+    ghost room = { ⟦<OneOrBoth<A, B> as Token>⟧.size };
+
+    ghost grows = { ⟦<OneOrBoth<A, B> as Token>⟧.grows };
+
+    fn take_byte(&mut self, byte: u8) -> Result<bool, OutOfMemory> {
+        match self.place {
+            PartsTaken::Start => match self.first.step(byte) {
+                Ok(true) => {
+                    self.place = PartsTaken::First;
+                    Ok(true)
+                }
+                Ok(false) => match self.second.step(byte) {
+                    Ok(true) => {
+                        self.place = PartsTaken::Second;
+                        Ok(true)
+                    }
+                    Ok(false) => Ok(false),
+                    Err(e) => Err(e),
+                },
+                Err(e) => Err(e),
+            },
+            PartsTaken::First => match self.first.step(byte) {
+                Ok(true) => Ok(true),
+                Ok(false) => {
+                    if !self.first.can_end() {
+                        return Ok(false);
+                    }
+                    match self.second.step(byte) {
+                        Ok(true) => {
+                            self.place = PartsTaken::Both;
+                            Ok(true)
+                        }
+                        Ok(false) => Ok(false),
+                        Err(e) => Err(e),
+                    }
+                }
+                Err(e) => Err(e),
+            },
+            PartsTaken::Second => self.second.step(byte),
+            PartsTaken::Both => self.second.step(byte),
+        }
+    }
+
+    fn take_run(&mut self, bytes: &[u8]) -> usize {
+        match self.place {
+            PartsTaken::Start => 0,
+            PartsTaken::First => push_count(&mut self.first, bytes),
+            PartsTaken::Second => push_count(&mut self.second, bytes),
+            PartsTaken::Both => push_count(&mut self.second, bytes),
+        }
+    }
 }

@@ -3,7 +3,7 @@ ghost use Rattle.std.specs.Prelude.{◌≡◌, IsFalse, IfSome};
 ghost use Rattle.cg_text.specs.Token.{Spells};
 ghost use Rattle.cg_file.specs.Pad.{IsPadFront, IsPadded, IsUnspaced, PadRest, is_known, pad_ends};
 
-use cg_text::{OutOfMemory, Token};
+use cg_text::{OutOfMemory, Pushed, Steps, Token, push_bytes, push_count};
 
 /// What is known of the pad.
 #[derive(Clone, Copy)]
@@ -73,39 +73,8 @@ impl<T: Token> Token for PadText<T> {
 
     ghost grows = { T.grows };
 
-    fn step(&mut self, byte: u8) -> Result<bool, OutOfMemory> {
-        match self.padding {
-            Padding::Before => {
-                if byte != b' ' {
-                    return Ok(false);
-                }
-                self.padding = Padding::Perhaps;
-                Ok(true)
-            }
-            Padding::Perhaps => {
-                if byte == b' ' {
-                    self.padding = Padding::Known(true);
-                    return Ok(true);
-                }
-                match self.token.step(byte) {
-                    Ok(true) => {
-                        self.padding = Padding::Known(false);
-                        Ok(true)
-                    }
-                    Ok(false) => Ok(false),
-                    Err(e) => Err(e),
-                }
-            }
-            Padding::Known(_) => self.token.step(byte),
-        }
-    }
-
-    fn run(&mut self, bytes: &[u8]) -> usize {
-        match self.padding {
-            Padding::Before => 0,
-            Padding::Perhaps => 0,
-            Padding::Known(_) => self.token.run(bytes),
-        }
+    fn push(&mut self, bytes: &[u8]) -> Pushed {
+        push_bytes(self, bytes)
     }
 
     fn whole(&self, bytes: &[u8]) -> Option<((bool, T::Out), usize)> {
@@ -166,4 +135,49 @@ impl<T: Token> Token for PadText<T> {
     ghost one_value = { λ s. pad_one (T.means s.token) s.ready s.padding s.unspaced (T.one_value s.token) };
 
     ghost holds_bytes = { λ s. pad_bytes (T.means s.token) s.ready s.padding (T.holds_bytes s.token) };
+}
+
+impl<T: Token> Steps for PadText<T> {
+    type Value = (bool, T::Out);
+
+    ghost rests = { ⟦<PadText<T> as Token>⟧.means };
+
+    ghost room = { ⟦<PadText<T> as Token>⟧.size };
+
+    ghost grows = { ⟦<PadText<T> as Token>⟧.grows };
+
+    fn take_byte(&mut self, byte: u8) -> Result<bool, OutOfMemory> {
+        match self.padding {
+            Padding::Before => {
+                if byte != b' ' {
+                    return Ok(false);
+                }
+                self.padding = Padding::Perhaps;
+                Ok(true)
+            }
+            Padding::Perhaps => {
+                if byte == b' ' {
+                    self.padding = Padding::Known(true);
+                    return Ok(true);
+                }
+                match self.token.step(byte) {
+                    Ok(true) => {
+                        self.padding = Padding::Known(false);
+                        Ok(true)
+                    }
+                    Ok(false) => Ok(false),
+                    Err(e) => Err(e),
+                }
+            }
+            Padding::Known(_) => self.token.step(byte),
+        }
+    }
+
+    fn take_run(&mut self, bytes: &[u8]) -> usize {
+        match self.padding {
+            Padding::Before => 0,
+            Padding::Perhaps => 0,
+            Padding::Known(_) => push_count(&mut self.token, bytes),
+        }
+    }
 }

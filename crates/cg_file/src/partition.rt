@@ -8,7 +8,7 @@ ghost use Rattle.cg_file.specs.PartitionMapped.{IsInvalidText, IsPartitionText, 
 
 use crate::branch::Branch;
 use cg_join::{Choice, Either, LabelText, Line, MapValue, Maybe, Sequence, labelled, one_line};
-use cg_text::{ByteText, Items, Keyword, KeywordText, OutOfMemory, ReasonText, Token};
+use cg_text::{ByteText, Items, Keyword, KeywordText, Pushed, ReasonText, Token};
 use cg_value::{Role, Value};
 use std::alloc::Global;
 
@@ -55,12 +55,8 @@ impl Token for WhyText {
 
     ghost holds_bytes = { λ s. ⟦<WhyParts as Token>⟧.holds_bytes s.parts };
 
-    fn step(&mut self, byte: u8) -> Result<bool, OutOfMemory> {
-        self.parts.step(byte)
-    }
-
-    fn run(&mut self, bytes: &[u8]) -> usize {
-        self.parts.run(bytes)
+    fn push(&mut self, bytes: &[u8]) -> Pushed {
+        self.parts.push(bytes)
     }
 
     fn allows(&self, byte: u8) -> bool {
@@ -127,12 +123,8 @@ impl Token for InvalidText {
 
     ghost holds_bytes = { λ s. ⟦<InvalidParts as Token>⟧.holds_bytes s.parts };
 
-    fn step(&mut self, byte: u8) -> Result<bool, OutOfMemory> {
-        self.parts.step(byte)
-    }
-
-    fn run(&mut self, bytes: &[u8]) -> usize {
-        self.parts.run(bytes)
+    fn push(&mut self, bytes: &[u8]) -> Pushed {
+        self.parts.push(bytes)
     }
 
     fn allows(&self, byte: u8) -> bool {
@@ -205,12 +197,8 @@ impl Token for RootText {
 
     ghost holds_bytes = { λ s. ⟦<RootParts as Token>⟧.holds_bytes s.parts };
 
-    fn step(&mut self, byte: u8) -> Result<bool, OutOfMemory> {
-        self.parts.step(byte)
-    }
-
-    fn run(&mut self, bytes: &[u8]) -> usize {
-        self.parts.run(bytes)
+    fn push(&mut self, bytes: &[u8]) -> Pushed {
+        self.parts.push(bytes)
     }
 
     fn allows(&self, byte: u8) -> bool {
@@ -335,12 +323,8 @@ impl Token for PartitionFile {
 
     ghost holds_bytes = { λ s. ⟦<Text as Token>⟧.holds_bytes s.text };
 
-    fn step(&mut self, byte: u8) -> Result<bool, OutOfMemory> {
-        self.text.step(byte)
-    }
-
-    fn run(&mut self, bytes: &[u8]) -> usize {
-        self.text.run(bytes)
+    fn push(&mut self, bytes: &[u8]) -> Pushed {
+        self.text.push(bytes)
     }
 
     fn allows(&self, byte: u8) -> bool {

@@ -10,7 +10,7 @@ use cg_join::{
     Averages as AveragesText, LabelText, Line, MapValue, Mapped, Sequence, averages, labelled,
     one_line,
 };
-use cg_text::{ByteText, Hundredths, Keyword, OutOfMemory, Token};
+use cg_text::{ByteText, Hundredths, Keyword, Pushed, Token};
 use cg_value::{Averages, Value};
 
 /// The values of the averages and of the total, each after its label.
@@ -93,12 +93,8 @@ impl Token for PressureLine {
 
     ghost holds_bytes = { λ s. ⟦<LineParts as Token>⟧.holds_bytes s.parts };
 
-    fn step(&mut self, byte: u8) -> Result<bool, OutOfMemory> {
-        self.parts.step(byte)
-    }
-
-    fn run(&mut self, bytes: &[u8]) -> usize {
-        self.parts.run(bytes)
+    fn push(&mut self, bytes: &[u8]) -> Pushed {
+        self.parts.push(bytes)
     }
 
     fn allows(&self, byte: u8) -> bool {
@@ -195,12 +191,8 @@ impl Token for PressureFile {
 
     ghost holds_bytes = { λ s. ⟦<Text as Token>⟧.holds_bytes s.text };
 
-    fn step(&mut self, byte: u8) -> Result<bool, OutOfMemory> {
-        self.text.step(byte)
-    }
-
-    fn run(&mut self, bytes: &[u8]) -> usize {
-        self.text.run(bytes)
+    fn push(&mut self, bytes: &[u8]) -> Pushed {
+        self.text.push(bytes)
     }
 
     fn allows(&self, byte: u8) -> bool {

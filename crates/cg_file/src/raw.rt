@@ -1,28 +1,25 @@
 //! A file of raw lines: any file outside the table.
-ghost use Rattle.std.specs.Prelude.{◌≡◌, ◌≤◌, ◌<◌, ◌+◌, ◌++◌, length, take, OnErr, OnOk};
-ghost use Rattle.cg_text.specs.Scan.{FollowsRun};
-ghost use Rattle.cg_file.specs.Front.{IsLineFront};
+ghost use Rattle.std.specs.Prelude.{◌≡◌, ◌<◌, ◌+◌, ◌++◌, length, take, OnErr, OnOk};
 ghost use Rattle.cg_text.specs.Token.{Spells};
 ghost use Rattle.cg_value.specs.Files.{KindText};
 ghost use Rattle.cg_value.specs.declared.kind.ReadForm.TheVariants.{Raw as RawForm};
 
-use cg_text::{OutOfMemory, Token, count_before};
+use cg_text::{OutOfMemory, Pushed, Steps, Token, count_before, push_bytes};
 use cg_value::{RawLines, Value, are_whole_lines};
-use memchr::memchr;
 use std::alloc::Global;
 
 /// For how many bytes there is room where a file begins.
 const ROOM: usize = 1024;
 
-/// Adds a line to the text. Where the text begins there is room for more lines at once, if memory is left for it.
-fn add_line(text: &mut Vec<u8>, line: &[u8]) -> Result<(), OutOfMemory>
-    ensures added { OnOk result (text.new.items ≡ text.old.items ++ line.now) }
+/// Adds bytes to the text. Where it begins there is room for more at once, if memory is left for it.
+fn append(text: &mut Vec<u8>, bytes: &[u8]) -> Result<(), OutOfMemory>
+    ensures added { OnOk result (text.new.items ≡ text.old.items ++ bytes.now) }
     ensures kept { OnErr result (text.new.items ≡ text.old.items) }
 {
     if text.is_empty() {
         let _ = text.try_reserve(ROOM);
     }
-    text.extend_from_slice(line)?;
+    text.extend_from_slice(bytes)?;
     Ok(())
 }
 
@@ -40,29 +37,6 @@ impl RawFile {
     {
         RawFile {
             text: Vec::new(alloc),
-        }
-    }
-
-    /// Takes a whole line with its newline from the front of `bytes`; or nothing, where there is none, it has a NUL or
-    /// no memory is left for it. Answers how many bytes it took.
-    pub(crate) fn take_front(&mut self, bytes: &[u8]) -> usize
-        ensures within { result ≤ length bytes.now }
-        ensures line { 0 < result → IsLineFront bytes.now result }
-        ensures taken { FollowsRun ⟦<RawFile as Token>⟧.means self.old (take result bytes.now) self.new }
-        ensures size { ⟦<RawFile as Token>⟧.size self.new ≤ ⟦<RawFile as Token>⟧.size self.old + result }
-        ensures same_size { result ≡ 0 → ⟦<RawFile as Token>⟧.size self.new ≡ ⟦<RawFile as Token>⟧.size self.old }
-    {
-        let end = match memchr(b'\n', bytes) {
-            Some(end) => end,
-            None => return 0,
-        };
-        let (line, _) = bytes.split_at(end + 1);
-        if memchr(0, line).is_some() {
-            return 0;
-        }
-        match add_line(&mut self.text, line) {
-            Ok(()) => end + 1,
-            Err(_) => 0,
         }
     }
 }
@@ -96,21 +70,8 @@ impl Token for RawFile {
 
     ghost holds_bytes = { λ s. raw_file_bytes s.text.items };
 
-    fn step(&mut self, byte: u8) -> Result<bool, OutOfMemory> {
-        if byte == 0 {
-            return Ok(false);
-        }
-        self.text.push(byte)?;
-        Ok(true)
-    }
-
-    fn run(&mut self, bytes: &[u8]) -> usize {
-        let count = count_before(0, bytes);
-        let (run, _) = bytes.split_at(count);
-        match self.text.extend_from_slice(run) {
-            Ok(()) => count,
-            Err(_) => 0,
-        }
+    fn push(&mut self, bytes: &[u8]) -> Pushed {
+        push_bytes(self, bytes)
     }
 
     fn allows(&self, byte: u8) -> bool {
@@ -134,5 +95,32 @@ impl Token for RawFile {
 
     fn held_in(_value: &Value) -> u64 {
         0
+    }
+}
+
+impl Steps for RawFile {
+    type Value = Value;
+
+    ghost rests = { ⟦<RawFile as Token>⟧.means };
+
+    ghost room = { ⟦<RawFile as Token>⟧.size };
+
+    ghost grows = { ⟦<RawFile as Token>⟧.grows };
+
+    fn take_byte(&mut self, byte: u8) -> Result<bool, OutOfMemory> {
+        if byte == 0 {
+            return Ok(false);
+        }
+        self.text.push(byte)?;
+        Ok(true)
+    }
+
+    fn take_run(&mut self, bytes: &[u8]) -> usize {
+        let count = count_before(0, bytes);
+        let (run, _) = bytes.split_at(count);
+        match append(&mut self.text, run) {
+            Ok(()) => count,
+            Err(_) => 0,
+        }
     }
 }

@@ -7,7 +7,7 @@ ghost use Rattle.cg_file.specs.WordsMapped.{AreSpacedWords, IsWordsText};
 
 use cg_index::KeyedItems;
 use cg_join::{DistinctWords, MapValue, Mapped, OrReady, Sequence, WordStart};
-use cg_text::{ByteText, Key, OutOfMemory, Token};
+use cg_text::{ByteText, Key, Pushed, Token};
 use cg_value::Value;
 use std::alloc::Global;
 
@@ -55,12 +55,8 @@ impl Token for SpacedWords {
 
     ghost holds_bytes = { λ s. ⟦<Spaced as Token>⟧.holds_bytes s.words };
 
-    fn step(&mut self, byte: u8) -> Result<bool, OutOfMemory> {
-        self.words.step(byte)
-    }
-
-    fn run(&mut self, bytes: &[u8]) -> usize {
-        self.words.run(bytes)
+    fn push(&mut self, bytes: &[u8]) -> Pushed {
+        self.words.push(bytes)
     }
 
     fn allows(&self, byte: u8) -> bool {
@@ -164,12 +160,8 @@ impl Token for WordsFile {
 
     ghost holds_bytes = { λ s. ⟦<Text as Token>⟧.holds_bytes s.text };
 
-    fn step(&mut self, byte: u8) -> Result<bool, OutOfMemory> {
-        self.text.step(byte)
-    }
-
-    fn run(&mut self, bytes: &[u8]) -> usize {
-        self.text.run(bytes)
+    fn push(&mut self, bytes: &[u8]) -> Pushed {
+        self.text.push(bytes)
     }
 
     fn allows(&self, byte: u8) -> bool {

@@ -5,6 +5,9 @@ use Rattle.cg_text.specs.DecimalLaws.{number_digits}
 use Rattle.cg_text.specs.Device.{IsDevice}
 use Rattle.cg_text.specs.Token.{HasOneText}
 use Rattle.cg_text.specs.declared.decimal.Progress.TheVariants.{Start}
+use Rattle.cg_text.specs.Pushed.{Stops}
+use Rattle.cg_text.specs.PushLaws.{stops_as}
+use Rattle.cg_text.specs.declared.pushed.Pushed.{Pushed}
 use Rattle.cg_text.specs.declared.values.Device.{Device}
 use Rattle.cg_join.specs.DeviceState.{numbers_of, HasNarrow}
 use Rattle.cg_join.specs.Spelling.{IsConcat, Apart}
@@ -70,6 +73,9 @@ same_device : (v w : Device) → numbers_of v ≡ numbers_of w → v ≡ w
 same_device v w e = ap device_of e
 
 -- What holds of the rests of numbers holds of those of a device.
+pub device_stops : (P : List ℕ → ℕ × (Unit {0} × ℕ) → Type 0) (bytes : List ℕ) (r : Pushed) → Stops P bytes r → Stops (λ rest device. P rest (numbers_of device)) bytes r
+device_stops P bytes = stops_as P (λ rest device. P rest (numbers_of device)) bytes (λ b. (λ h. (h.0, device_of h.1, h.2), λ h. (h.0, numbers_of h.1, h.2)))
+
 module _ (R : List ℕ → ℕ × (Unit {0} × ℕ) → Type 0) where
   pub device_completes : ((rest : List ℕ) × (v : ℕ × (Unit {0} × ℕ)) × R rest v) → (rest : List ℕ) × (device : Device) × R rest (numbers_of device)
   device_completes c = (c.0, device_of c.1, c.2)

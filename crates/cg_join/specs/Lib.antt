@@ -5,6 +5,7 @@ pub mod BeginsLaws
 pub mod ByteLaws
 pub mod Choice
 pub mod ChoiceLaws
+pub mod ChoicePushLaws
 pub mod ChoiceRunLaws
 pub mod ClampLaws
 pub mod ClampState
@@ -30,10 +31,8 @@ pub mod Keyed
 pub mod KeyedLaws
 pub mod KeyedState
 pub mod KeyedStateLaws
-pub mod LabelLaws
 pub mod LackLaws
 pub mod LackingLaws
-pub mod Lawful
 pub mod LimitLaws
 pub mod LimitState
 pub mod Line
@@ -64,6 +63,7 @@ pub mod RepeatLaws
 pub mod RunLaws
 pub mod ScanLaws
 pub mod SequenceLaws
+pub mod SequencePushLaws
 pub mod SettledLaws
 pub mod Spelling
 pub mod StartLaws

@@ -1,6 +1,5 @@
 -- What holds of joined tokens that take a run of bytes.
-use Rattle.std.proofs.Common.{◌≡◌, ℕ, ◌+◌, ◌<◌, ◌↔◌, inl, inr, Bool, true, List, [], ◌∷◌, ◌++◌, length, take, drop, Option, Some, None, sym, ◌∙◌, ap, append_assoc, append-nil, arith}
-use Rattle.std.proofs.Math.Seq.{take-add}
+use Rattle.std.proofs.Common.{◌≡◌, ℕ, ◌+◌, ◌<◌, ◌↔◌, inl, inr, Bool, true, List, [], ◌∷◌, ◌++◌, length, Option, Some, None, sym, ◌∙◌, ap, append_assoc, append-nil, arith}
 use Rattle.cg_text.specs.Scan.{FollowsRun}
 use Rattle.cg_text.specs.Token.{Completes}
 use Rattle.cg_join.specs.Join.{IsPair, AreApart}
@@ -9,6 +8,10 @@ use Rattle.cg_join.specs.Ready.{OrReadyRest}
 use Rattle.cg_join.specs.SequenceLaws.{cuts}
 
 module _ {S T V W : Type 0} (first : S → List ℕ → V → Type 0) (second : T → List ℕ → W → Type 0) where
+  pub apart_run : (s s' : S) (t : T) (run : List ℕ) → FollowsRun first s run s' → AreApart first second s t → AreApart first second s' t
+  apart_run s s' t run f apart front more back x v u w h k l =
+      apart (run ++ front) more back x v u w ((f front v).0 h) (rw (append_assoc run front (x ∷ more)) ((f (front ++ x ∷ more) u).0 k)) l
+
   run_first : (s s' : S) (t : T) (run : List ℕ) → AreApart first second s t → Completes first s' → FollowsRun first s run s' →
       (rest : List ℕ) (v : V) (w : W) (front back : List ℕ) → run ++ rest ≡ front ++ back → first s front v → second t back w → IsPair first second s' t rest v w
   run_first s s' t run apart c f rest v w front back e h k =
@@ -70,10 +73,3 @@ module _ {V W : Type 0} (whole : (List ℕ → V → Type 0) → List ℕ → W 
       let more = part_run Q P' run (fits P b g) c f rest w in
       let one = first P Q b g (run ++ c.0, c.1, (f c.0 c.1).0 c.2) (λ r v. (λ h. h, λ h. h)) (run ++ rest) w in
       (λ h. one.0 (more.0 h), λ h. more.1 (one.1 h))
-
--- One run after another.
-pub run_joined : {S V : Type 0} (means : S → List ℕ → V → Type 0) (old s new : S) (bytes : List ℕ) (used count : ℕ) →
-    FollowsRun means old (take used bytes) s → FollowsRun means s (take count (drop used bytes)) new → FollowsRun means old (take (used + count) bytes) new
-run_joined means old s new bytes used count f g rest v =
-    let more = take count (drop used bytes) in
-    rw (take-add used count bytes, append_assoc (take used bytes) more rest) (λ k. (f (more ++ rest) v).0 ((g rest v).0 k), λ k. (g rest v).1 ((f (more ++ rest) v).1 k))

@@ -37,6 +37,11 @@ least_most m n p h k = omega (arith, h, k)
 nothing_more : (m n : ℕ) → n ≡ 0 → m + n ≤ m
 nothing_more m n e = omega (arith, e)
 
+-- Nothing need follow the second.
+pub second_nil : {S T V W : Type 0} (first : S → List ℕ → V → Type 0) (second : T → List ℕ → W → Type 0) (b : Bool) (s : S) (t : T) (v : V) (w : W) → IsSequence first second b s t [] v w → second t [] w
+second_nil first second true s t v w h = h.1
+second_nil first second false s t v w h = (nil_pair first second s t v w h.front h.back h.whole h.begins h.ends).1
+
 -- Of one token after another.
 pub sequence_settled : {S T V W : Type 0} (first : S → List ℕ → V → Type 0) (second : T → List ℕ → W → Type 0) (b : Bool) (s : S) (t : T) (m n : ℕ) (f : V → ℕ) (g : W → ℕ) →
     ((v : V) → first s [] v → m ≤ f v) → ((w : W) → second t [] w → n ≤ g w) → (v : V) (w : W) → IsSequence first second b s t [] v w → m + n ≤ f v + g w

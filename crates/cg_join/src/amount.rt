@@ -10,7 +10,7 @@ use crate::make_token::MakeToken;
 use crate::mapped::{MapValue, Mapped};
 use crate::sequence::Sequence;
 use cg_text::{
-    Amount, ByteText, DecimalText, Hundredths, HundredthsText, Keyword, KeywordText, OutOfMemory,
+    Amount, ByteText, DecimalText, Hundredths, HundredthsText, Keyword, KeywordText, Pushed,
     Spelling, Token,
 };
 
@@ -121,13 +121,8 @@ impl Token for AmountText {
     ghost holds_bytes = { λ s. ⟦<Parts as Token>⟧.holds_bytes s.parts };
 
     #[inline(always)]
-    fn step(&mut self, byte: u8) -> Result<bool, OutOfMemory> {
-        self.parts.step(byte)
-    }
-
-    #[inline(always)]
-    fn run(&mut self, bytes: &[u8]) -> usize {
-        self.parts.run(bytes)
+    fn push(&mut self, bytes: &[u8]) -> Pushed {
+        self.parts.push(bytes)
     }
 
     #[inline(always)]

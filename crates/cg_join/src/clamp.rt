@@ -5,9 +5,7 @@ ghost use Rattle.cg_text.specs.Clamp.{IsClamp};
 
 use crate::choice::{Choice, Either};
 use crate::mapped::{MapValue, Mapped};
-use cg_text::{
-    Clamp, Hundredths, HundredthsText, Keyword, KeywordText, OutOfMemory, Spelling, Token,
-};
+use cg_text::{Clamp, Hundredths, HundredthsText, Keyword, KeywordText, Pushed, Spelling, Token};
 
 /// The clamp of a choice.
 #[derive(Clone, Copy)]
@@ -85,13 +83,8 @@ impl Token for ClampText {
     ghost holds_bytes = { λ s. ⟦<Parts as Token>⟧.holds_bytes s.parts };
 
     #[inline(always)]
-    fn step(&mut self, byte: u8) -> Result<bool, OutOfMemory> {
-        self.parts.step(byte)
-    }
-
-    #[inline(always)]
-    fn run(&mut self, bytes: &[u8]) -> usize {
-        self.parts.run(bytes)
+    fn push(&mut self, bytes: &[u8]) -> Pushed {
+        self.parts.push(bytes)
     }
 
     #[inline(always)]

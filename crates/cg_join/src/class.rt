@@ -6,7 +6,7 @@ ghost use Rattle.cg_join.specs.ClassState.{IsClassWord};
 
 use crate::choice::{Choice, Either};
 use crate::mapped::{MapValue, Mapped};
-use cg_text::{IoClass, Keyword, KeywordText, OutOfMemory, Token};
+use cg_text::{IoClass, Keyword, KeywordText, Pushed, Token};
 
 /// One of two words.
 type TwoWords = Choice<KeywordText, KeywordText>;
@@ -106,13 +106,8 @@ impl Token for ClassText {
     ghost holds_bytes = { λ s. ⟦<Parts as Token>⟧.holds_bytes s.parts };
 
     #[inline(always)]
-    fn step(&mut self, byte: u8) -> Result<bool, OutOfMemory> {
-        self.parts.step(byte)
-    }
-
-    #[inline(always)]
-    fn run(&mut self, bytes: &[u8]) -> usize {
-        self.parts.run(bytes)
+    fn push(&mut self, bytes: &[u8]) -> Pushed {
+        self.parts.push(bytes)
     }
 
     #[inline(always)]

@@ -5,7 +5,7 @@ ghost use Rattle.cg_text.specs.Device.{IsDevice};
 ghost use Rattle.cg_join.specs.DeviceState.{HasNarrow, numbers_of};
 
 use crate::sequence::Sequence;
-use cg_text::{ByteText, DecimalText, Device, OutOfMemory, Token};
+use cg_text::{ByteText, DecimalText, Device, Pushed, Token};
 
 type Tail = Sequence<ByteText, DecimalText>;
 
@@ -65,17 +65,8 @@ impl Token for DeviceText {
     ghost holds_bytes = { λ s rest v. ⟦<Parts as Token>⟧.holds_bytes s.parts rest (numbers_of v) };
 
     #[inline(always)]
-    fn step(&mut self, byte: u8) -> Result<bool, OutOfMemory> {
-        match self.parts.step(byte) {
-            Ok(true) => Ok(true),
-            Ok(false) => Ok(false),
-            Err(_) => unreachable!(),
-        }
-    }
-
-    #[inline(always)]
-    fn run(&mut self, bytes: &[u8]) -> usize {
-        self.parts.run(bytes)
+    fn push(&mut self, bytes: &[u8]) -> Pushed {
+        self.parts.push(bytes)
     }
 
     #[inline(always)]

@@ -8,7 +8,7 @@ use crate::device::DeviceText;
 use crate::fork::Fork;
 use crate::make_token::MakeToken;
 use crate::mapped::{MapValue, Mapped};
-use cg_text::{Device, Keyword, KeywordText, OutOfMemory, Token};
+use cg_text::{Device, Keyword, KeywordText, Pushed, Token};
 
 /// Makes tokens of `(unknown)`.
 #[derive(Clone, Copy, Drop)]
@@ -106,13 +106,8 @@ impl Token for DeviceNameText {
     ghost holds_bytes = { λ s. ⟦<Parts as Token>⟧.holds_bytes s.parts };
 
     #[inline(always)]
-    fn step(&mut self, byte: u8) -> Result<bool, OutOfMemory> {
-        self.parts.step(byte)
-    }
-
-    #[inline(always)]
-    fn run(&mut self, bytes: &[u8]) -> usize {
-        self.parts.run(bytes)
+    fn push(&mut self, bytes: &[u8]) -> Pushed {
+        self.parts.push(bytes)
     }
 
     #[inline(always)]

@@ -12,7 +12,7 @@ ghost use Rattle.cg_text.specs.WordState.{is_taken};
 use crate::make_token::MakeToken;
 use crate::words::{WordStart, has};
 use cg_index::{Cell, KeyedBuilder, KeyedItems};
-use cg_text::{Key, OutOfMemory, Token, WordText};
+use cg_text::{Key, OutOfMemory, Pushed, Steps, Token, WordText, push_bytes, push_count};
 use std::alloc::Global;
 use std::mem;
 
@@ -83,43 +83,8 @@ impl Token for DistinctWords {
 
     ghost grows = { true };
 
-    fn step(&mut self, byte: u8) -> Result<bool, OutOfMemory> {
-        // The last value is put in its place by `take`, which takes no memory.
-        match self.items.reserve() {
-            Ok(()) => {}
-            Err(e) => {
-                // A byte that is refused is refused without memory too.
-                let allowed = self.allows(byte);
-                return if allowed { Err(e) } else { Ok(false) };
-            }
-        }
-        match self.current.step(byte) {
-            Ok(true) => return Ok(true),
-            Ok(false) => {}
-            Err(e) => return Err(e),
-        }
-        if byte != self.separator {
-            return Ok(false);
-        }
-        if !self.current.can_end() {
-            return Ok(false);
-        }
-        if has(&self.items, &self.current) {
-            return Ok(false);
-        }
-        let next = self.start.start();
-        let done = mem::replace(&mut self.current, next);
-        let value = done.take();
-        self.items.push(value);
-        Ok(true)
-    }
-
-    fn run(&mut self, bytes: &[u8]) -> usize {
-        match self.items.reserve() {
-            Ok(()) => {}
-            Err(_) => return 0,
-        }
-        self.current.run(bytes)
+    fn push(&mut self, bytes: &[u8]) -> Pushed {
+        push_bytes(self, bytes)
     }
 
     fn allows(&self, byte: u8) -> bool {
@@ -169,4 +134,53 @@ impl Token for DistinctWords {
     ghost holds_bytes = { λ s rest all h. list_bytes (⟦<WordText as Token>⟧.means s.current)
         (SpellsWord s.start.controller) s.separator s.small (⟦<WordText as Token>⟧.holds_bytes s.current)
         (word_text_bytes s.start.controller) rest h.0.0 h.0.2 };
+}
+
+impl Steps for DistinctWords {
+    type Value = KeyedItems<Key>;
+
+    ghost rests = { ⟦<DistinctWords as Token>⟧.means };
+
+    ghost room = { ⟦<DistinctWords as Token>⟧.size };
+
+    ghost grows = { ⟦<DistinctWords as Token>⟧.grows };
+
+    fn take_byte(&mut self, byte: u8) -> Result<bool, OutOfMemory> {
+        // The last value is put in its place by `take`, which takes no memory.
+        match self.items.reserve() {
+            Ok(()) => {}
+            Err(e) => {
+                // A byte that is refused is refused without memory too.
+                let allowed = self.allows(byte);
+                return if allowed { Err(e) } else { Ok(false) };
+            }
+        }
+        match self.current.step(byte) {
+            Ok(true) => return Ok(true),
+            Ok(false) => {}
+            Err(e) => return Err(e),
+        }
+        if byte != self.separator {
+            return Ok(false);
+        }
+        if !self.current.can_end() {
+            return Ok(false);
+        }
+        if has(&self.items, &self.current) {
+            return Ok(false);
+        }
+        let next = self.start.start();
+        let done = mem::replace(&mut self.current, next);
+        let value = done.take();
+        self.items.push(value);
+        Ok(true)
+    }
+
+    fn take_run(&mut self, bytes: &[u8]) -> usize {
+        match self.items.reserve() {
+            Ok(()) => {}
+            Err(_) => return 0,
+        }
+        push_count(&mut self.current, bytes)
+    }
 }

@@ -1,5 +1,5 @@
 //! A token, or another one that begins otherwise.
-ghost use Rattle.std.specs.Prelude.{◌≡◌, IsTrue, IsFalse};
+ghost use Rattle.std.specs.Prelude.{◌≡◌, IsFalse};
 ghost use Rattle.cg_text.specs.Token.{Spells, NoneBegins};
 ghost use Rattle.cg_join.specs.Choice.{either_size};
 ghost use Rattle.cg_join.specs.ForkLaws.{IsFree_prop};
@@ -7,7 +7,7 @@ ghost use Rattle.cg_join.specs.Fork.{IsFork, IsForked, AllBegin, AreBehind, IsFr
 
 use crate::choice::Either;
 use crate::make_token::MakeToken;
-use cg_text::{OutOfMemory, Token};
+use cg_text::{OutOfMemory, Pushed, Steps, Token, push_bytes, push_count};
 
 /// A token; where such are allowed also another one, which begins with a byte with which no text of the first begins.
 /// The other one is made when it begins, and takes no memory.
@@ -71,36 +71,8 @@ impl<A: Token, B: Token, S: MakeToken<B>> Token for Fork<A, B, S> {
     ghost grows = { A.grows };
 
     #[inline(always)]
-    fn step(&mut self, byte: u8) -> Result<bool, OutOfMemory> {
-        if self.allowed && byte == self.byte {
-            self.token = Either::Right(begun(&self.start, byte));
-            self.allowed = false;
-            return Ok(true);
-        }
-        match &mut self.token {
-            Either::Left(token) => {
-                let taken = token.step(byte);
-                if let Ok(true) = taken {
-                    self.allowed = false;
-                }
-                taken
-            }
-            Either::Right(token) => token.step(byte),
-        }
-    }
-
-    #[inline(always)]
-    fn run(&mut self, bytes: &[u8]) -> usize {
-        match &mut self.token {
-            Either::Left(token) => {
-                let count = token.run(bytes);
-                if count > 0 {
-                    self.allowed = false;
-                }
-                count
-            }
-            Either::Right(token) => token.run(bytes),
-        }
+    fn push(&mut self, bytes: &[u8]) -> Pushed {
+        push_bytes(self, bytes)
     }
 
     #[inline(always)]
@@ -166,4 +138,47 @@ impl<A: Token, B: Token, S: MakeToken<B>> Token for Fork<A, B, S> {
 
     ghost holds_bytes = { λ s. fork_bytes A.means B.means (S.texts s.start) s.allowed s.token A.holds_bytes
         B.holds_bytes (S.text_bytes s.start) };
+}
+
+impl<A: Token, B: Token, S: MakeToken<B>> Steps for Fork<A, B, S> {
+    type Value = Either<A::Out, B::Out>;
+
+    ghost rests = { ⟦<Fork<A, B, S> as Token>⟧.means };
+
+    ghost room = { ⟦<Fork<A, B, S> as Token>⟧.size };
+
+    ghost grows = { ⟦<Fork<A, B, S> as Token>⟧.grows };
+
+    #[inline(always)]
+    fn take_byte(&mut self, byte: u8) -> Result<bool, OutOfMemory> {
+        if self.allowed && byte == self.byte {
+            self.token = Either::Right(begun(&self.start, byte));
+            self.allowed = false;
+            return Ok(true);
+        }
+        match &mut self.token {
+            Either::Left(token) => {
+                let taken = token.step(byte);
+                if let Ok(true) = taken {
+                    self.allowed = false;
+                }
+                taken
+            }
+            Either::Right(token) => token.step(byte),
+        }
+    }
+
+    #[inline(always)]
+    fn take_run(&mut self, bytes: &[u8]) -> usize {
+        match &mut self.token {
+            Either::Left(token) => {
+                let count = push_count(token, bytes);
+                if count > 0 {
+                    self.allowed = false;
+                }
+                count
+            }
+            Either::Right(token) => push_count(token, bytes),
+        }
+    }
 }

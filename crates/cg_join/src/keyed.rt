@@ -1,6 +1,6 @@
 //! Any number of lines of a key and what follows it, the keys all different: the flat keyed and the nested keyed
 //! files of cgroup v2 (cgroup-v2.rst, "Interface Files", "Format").
-ghost use Rattle.std.specs.Prelude.{◌≡◌, ◌+◌, ◌≤◌, ◌<◌, ◌↔◌, true, false, not, ◌&&◌, Some, [], ◌++◌, IsTrue, IsFalse, map, length, take, IfSome, OnErr};
+ghost use Rattle.std.specs.Prelude.{◌≡◌, ◌+◌, ◌≤◌, ◌<◌, ◌↔◌, true, false, not, ◌&&◌, Some, [], ◌∷◌, ◌++◌, IsTrue, IsFalse, map, length, take, IfSome, OnErr};
 ghost use Rattle.cg_text.specs.Scan.{FollowsRun};
 ghost use Rattle.cg_text.specs.Token.{Begins, Follows, IfRefused, IfTaken, NoneBegins, Same, Spells, UnlessTaken};
 ghost use Rattle.cg_text.specs.WordState.{is_taken};
@@ -19,11 +19,11 @@ use crate::make_token::MakeToken;
 use crate::make_value::MakeValue;
 use crate::pairing::renew;
 use crate::pairs::Stage;
-use crate::run::run_parts;
 use crate::store::{held_in_all, put};
-use crate::whole_lines::WholeLines;
 use crate::words::WordStart;
-use cg_text::{Key, OutOfMemory, Token, WordText, make_room};
+use cg_text::{
+    Key, OutOfMemory, Pushed, Steps, Token, WordText, make_room, push_bytes, push_count,
+};
 use std::alloc::Global;
 
 /// Any number of lines, also none, each a key, what follows it and an end: `KEY VAL` or `KEY SUB=VAL SUB=VAL`, and
@@ -246,7 +246,7 @@ impl<V: Token, B: MakeValue<V>, C: Collection<V>> KeyedLines<V, B, C> {
         ensures same_size { result ≡ 0 → ⟦<KeyedLines<V, B, C> as Token>⟧.size self.new ≡
             ⟦<KeyedLines<V, B, C> as Token>⟧.size self.old }
     {
-        let count = self.key.run(bytes);
+        let count = push_count(&mut self.key, bytes);
         if count > 0 {
             self.stage = Stage::InWord;
         }
@@ -263,7 +263,7 @@ impl<V: Token, B: MakeValue<V>, C: Collection<V>> KeyedLines<V, B, C> {
         ensures same_size { result ≡ 0 → ⟦<KeyedLines<V, B, C> as Token>⟧.size self.new ≡
             ⟦<KeyedLines<V, B, C> as Token>⟧.size self.old }
     {
-        run_parts(&mut self.value, bytes)
+        push_count(&mut self.value, bytes)
     }
 
     /// Whether the delimiter has ended a key.
@@ -323,20 +323,8 @@ impl<V: Token, B: MakeValue<V>, C: Collection<V>> Token for KeyedLines<V, B, C> 
 
     ghost grows = { true };
 
-    fn step(&mut self, byte: u8) -> Result<bool, OutOfMemory> {
-        match self.stage {
-            Stage::Before => self.step_key(byte),
-            Stage::InWord => self.step_key(byte),
-            Stage::InValue => self.step_value(byte),
-        }
-    }
-
-    fn run(&mut self, bytes: &[u8]) -> usize {
-        match self.stage {
-            Stage::Before => self.run_key(bytes),
-            Stage::InWord => self.run_key(bytes),
-            Stage::InValue => self.run_value(bytes),
-        }
+    fn push(&mut self, bytes: &[u8]) -> Pushed {
+        push_bytes(self, bytes)
     }
 
     fn allows(&self, byte: u8) -> bool {
@@ -408,8 +396,48 @@ impl<V: Token, B: MakeValue<V>, C: Collection<V>> Token for KeyedLines<V, B, C> 
         (B.text_bytes s.values) (is_delimited s.stage) };
 }
 
-impl<V: Token, B: MakeValue<V>, C: Collection<V>> WholeLines for KeyedLines<V, B, C> {
-    fn take_line(&mut self, line: &[u8], end: u8) -> bool {
+impl<V: Token, B: MakeValue<V>, C: Collection<V>> Steps for KeyedLines<V, B, C> {
+    type Value = C::Out;
+
+    ghost rests = { ⟦<KeyedLines<V, B, C> as Token>⟧.means };
+
+    ghost room = { ⟦<KeyedLines<V, B, C> as Token>⟧.size };
+
+    ghost grows = { ⟦<KeyedLines<V, B, C> as Token>⟧.grows };
+
+    fn take_byte(&mut self, byte: u8) -> Result<bool, OutOfMemory> {
+        match self.stage {
+            Stage::Before => self.step_key(byte),
+            Stage::InWord => self.step_key(byte),
+            Stage::InValue => self.step_value(byte),
+        }
+    }
+
+    fn take_run(&mut self, bytes: &[u8]) -> usize {
+        let (end, line) = match bytes.split_last() {
+            Some(parts) => parts,
+            None => return 0,
+        };
+        // A line that is all of the bytes is read at once.
+        if self.take_line(line, *end) {
+            return bytes.len();
+        }
+        self.take_part(bytes)
+    }
+}
+
+impl<V: Token, B: MakeValue<V>, C: Collection<V>> KeyedLines<V, B, C> {
+    /// Takes the line, and the byte `end` after it, where no line is begun; or leaves all as it is, which it may do
+    /// with any line. Answers whether it took them.
+    fn take_line(&mut self, line: &[u8], end: u8) -> bool
+        ensures taken { IsTrue result →
+            FollowsRun ⟦<KeyedLines<V, B, C> as Token>⟧.means self.old (line.now ++ end ∷ []) self.new }
+        ensures left { IsFalse result → Same ⟦<KeyedLines<V, B, C> as Token>⟧.means self.old self.new }
+        ensures size { ⟦<KeyedLines<V, B, C> as Token>⟧.size self.new ≤
+            ⟦<KeyedLines<V, B, C> as Token>⟧.size self.old + (length line.now + 1) }
+        ensures same_size { IsFalse result →
+            ⟦<KeyedLines<V, B, C> as Token>⟧.size self.new ≡ ⟦<KeyedLines<V, B, C> as Token>⟧.size self.old }
+    {
         if self.has_key() || end != self.end {
             return false;
         }
@@ -424,5 +452,21 @@ impl<V: Token, B: MakeValue<V>, C: Collection<V>> WholeLines for KeyedLines<V, B
         self.value = self.values.start();
         self.stage = Stage::Before;
         true
+    }
+
+    /// Takes bytes of the key or the value at hand.
+    fn take_part(&mut self, bytes: &[u8]) -> usize
+        ensures within { result ≤ length bytes.now }
+        ensures follows { FollowsRun ⟦<KeyedLines<V, B, C> as Token>⟧.means self.old (take result bytes.now) self.new }
+        ensures size { ⟦<KeyedLines<V, B, C> as Token>⟧.size self.new ≤
+            ⟦<KeyedLines<V, B, C> as Token>⟧.size self.old + result }
+        ensures same_size { result ≡ 0 →
+            ⟦<KeyedLines<V, B, C> as Token>⟧.size self.new ≡ ⟦<KeyedLines<V, B, C> as Token>⟧.size self.old }
+    {
+        match self.stage {
+            Stage::Before => self.run_key(bytes),
+            Stage::InWord => self.run_key(bytes),
+            Stage::InValue => self.run_value(bytes),
+        }
     }
 }

@@ -5,7 +5,7 @@ ghost use Rattle.cg_text.specs.Limit.{IsLimit};
 
 use crate::choice::{Choice, Either};
 use crate::mapped::{MapValue, Mapped};
-use cg_text::{DecimalText, Keyword, KeywordText, Limit, OutOfMemory, Token};
+use cg_text::{DecimalText, Keyword, KeywordText, Limit, Pushed, Token};
 
 /// The limit of a choice.
 #[derive(Clone, Copy)]
@@ -84,13 +84,8 @@ impl Token for LimitText {
     ghost holds_bytes = { λ s. ⟦<Parts as Token>⟧.holds_bytes s.parts };
 
     #[inline(always)]
-    fn step(&mut self, byte: u8) -> Result<bool, OutOfMemory> {
-        self.parts.step(byte)
-    }
-
-    #[inline(always)]
-    fn run(&mut self, bytes: &[u8]) -> usize {
-        self.parts.run(bytes)
+    fn push(&mut self, bytes: &[u8]) -> Pushed {
+        self.parts.push(bytes)
     }
 
     #[inline(always)]

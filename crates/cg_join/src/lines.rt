@@ -1,16 +1,15 @@
 //! Lines: any number of a token, each with an ending byte.
-ghost use Rattle.std.specs.Prelude.{◌≡◌, ◌+◌, ◌<◌, ◌↔◌, ℕ, List, true, false, not, IsFalse};
-ghost use Rattle.cg_text.specs.Token.{Spells, saturated};
+ghost use Rattle.std.specs.Prelude.{◌≡◌, ◌+◌, ◌≤◌, ◌<◌, ◌↔◌, ℕ, List, [], ◌∷◌, ◌++◌, true, false, not, IsTrue, IsFalse, length, take};
+ghost use Rattle.cg_text.specs.Scan.{FollowsRun};
+ghost use Rattle.cg_text.specs.Token.{Same, Spells};
 ghost use Rattle.cg_join.specs.Repeat.{items_size};
 ghost use Rattle.cg_join.specs.Line.{LacksByte};
 ghost use Rattle.cg_join.specs.Lines.{AreLines, AreLinesAfter};
 ghost use Rattle.cg_join.specs.LinesState.{at_hand};
 
 use crate::make_token::MakeToken;
-use crate::run::run_parts;
 use crate::store::{held_in_all, put};
-use crate::whole_lines::WholeLines;
-use cg_text::{Items, OutOfMemory, Token, make_room};
+use cg_text::{Items, OutOfMemory, Pushed, Steps, Token, make_room, push_bytes, push_count};
 use std::alloc::Global;
 use std::mem;
 
@@ -77,40 +76,8 @@ impl<T: Token, S: MakeToken<T>> Token for Lines<T, S> {
 
     ghost grows = { true };
 
-    fn step(&mut self, byte: u8) -> Result<bool, OutOfMemory> {
-        renew(&mut self.current, &self.start, self.begun);
-        if byte != self.end {
-            return match self.current.step(byte) {
-                Ok(true) => {
-                    self.begun = true;
-                    Ok(true)
-                }
-                Ok(false) => Ok(false),
-                Err(e) => Err(e),
-            };
-        }
-        if !self.current.can_end() {
-            return Ok(false);
-        }
-        match make_room(&mut self.items) {
-            Ok(()) => {}
-            Err(e) => return Err(e),
-        }
-        let next = self.start.start();
-        let done = mem::replace(&mut self.current, next);
-        let value = done.take();
-        put(&mut self.items, value);
-        self.begun = false;
-        Ok(true)
-    }
-
-    fn run(&mut self, bytes: &[u8]) -> usize {
-        renew(&mut self.current, &self.start, self.begun);
-        let count = run_parts(&mut self.current, bytes);
-        if count > 0 {
-            self.begun = true;
-        }
-        count
+    fn push(&mut self, bytes: &[u8]) -> Pushed {
+        push_bytes(self, bytes)
     }
 
     fn allows(&self, byte: u8) -> bool {
@@ -158,8 +125,67 @@ impl<T: Token, S: MakeToken<T>> Token for Lines<T, S> {
         (T.holds_bytes s.current) (S.text_bytes s.start) s.begun rest h.0 h.2 };
 }
 
-impl<T: Token, S: MakeToken<T>> WholeLines for Lines<T, S> {
-    fn take_line(&mut self, line: &[u8], end: u8) -> bool {
+impl<T: Token, S: MakeToken<T>> Steps for Lines<T, S> {
+    type Value = Items<T::Out>;
+
+    ghost rests = { ⟦<Lines<T, S> as Token>⟧.means };
+
+    ghost room = { ⟦<Lines<T, S> as Token>⟧.size };
+
+    ghost grows = { ⟦<Lines<T, S> as Token>⟧.grows };
+
+    fn take_byte(&mut self, byte: u8) -> Result<bool, OutOfMemory> {
+        renew(&mut self.current, &self.start, self.begun);
+        if byte != self.end {
+            return match self.current.step(byte) {
+                Ok(true) => {
+                    self.begun = true;
+                    Ok(true)
+                }
+                Ok(false) => Ok(false),
+                Err(e) => Err(e),
+            };
+        }
+        if !self.current.can_end() {
+            return Ok(false);
+        }
+        match make_room(&mut self.items) {
+            Ok(()) => {}
+            Err(e) => return Err(e),
+        }
+        let next = self.start.start();
+        let done = mem::replace(&mut self.current, next);
+        let value = done.take();
+        put(&mut self.items, value);
+        self.begun = false;
+        Ok(true)
+    }
+
+    fn take_run(&mut self, bytes: &[u8]) -> usize {
+        let (end, line) = match bytes.split_last() {
+            Some(parts) => parts,
+            None => return 0,
+        };
+        // A line that is all of the bytes is read at once.
+        if self.take_line(line, *end) {
+            return bytes.len();
+        }
+        self.take_part(bytes)
+    }
+}
+
+impl<T: Token, S: MakeToken<T>> Lines<T, S> {
+    /// Takes the line, and the byte `end` after it, where no line is begun; or leaves all as it is, which it may do
+    /// with any line. Answers whether it took them.
+    fn take_line(&mut self, line: &[u8], end: u8) -> bool
+        ensures taken { IsTrue result →
+            FollowsRun ⟦<Lines<T, S> as Token>⟧.means self.old (line.now ++ end ∷ []) self.new }
+        ensures left { IsFalse result → Same ⟦<Lines<T, S> as Token>⟧.means self.old self.new }
+        ensures size { ⟦<Lines<T, S> as Token>⟧.size self.new ≤
+            ⟦<Lines<T, S> as Token>⟧.size self.old + (length line.now + 1) }
+        ensures same_size { IsFalse result →
+            ⟦<Lines<T, S> as Token>⟧.size self.new ≡ ⟦<Lines<T, S> as Token>⟧.size self.old }
+    {
         if end != self.end || self.begun {
             return false;
         }
@@ -173,5 +199,21 @@ impl<T: Token, S: MakeToken<T>> WholeLines for Lines<T, S> {
         }
         put(&mut self.items, value);
         true
+    }
+
+    /// Takes bytes of the line at hand.
+    fn take_part(&mut self, bytes: &[u8]) -> usize
+        ensures within { result ≤ length bytes.now }
+        ensures follows { FollowsRun ⟦<Lines<T, S> as Token>⟧.means self.old (take result bytes.now) self.new }
+        ensures size { ⟦<Lines<T, S> as Token>⟧.size self.new ≤ ⟦<Lines<T, S> as Token>⟧.size self.old + result }
+        ensures same_size { result ≡ 0 →
+            ⟦<Lines<T, S> as Token>⟧.size self.new ≡ ⟦<Lines<T, S> as Token>⟧.size self.old }
+    {
+        renew(&mut self.current, &self.start, self.begun);
+        let count = push_count(&mut self.current, bytes);
+        if count > 0 {
+            self.begun = true;
+        }
+        count
     }
 }

@@ -4,7 +4,7 @@ ghost use Rattle.cg_text.specs.Token.{Spells};
 ghost use Rattle.cg_join.specs.Maybe.{IsMaybe, MaybeRest, maybe_size};
 ghost use Rattle.cg_join.specs.Repeat.{LacksEmpty};
 
-use cg_text::{OutOfMemory, Token};
+use cg_text::{OutOfMemory, Pushed, Steps, Token, push_bytes, push_count};
 
 /// A token's text with its value, or the empty text with none. No text of the token is empty.
 #[derive(Drop)]
@@ -46,24 +46,8 @@ impl<T: Token> Token for Maybe<T> {
     ghost grows = { T.grows };
 
     #[inline(always)]
-    fn step(&mut self, byte: u8) -> Result<bool, OutOfMemory> {
-        match self.token.step(byte) {
-            Ok(true) => {
-                self.begun = true;
-                Ok(true)
-            }
-            Ok(false) => Ok(false),
-            Err(e) => Err(e),
-        }
-    }
-
-    #[inline(always)]
-    fn run(&mut self, bytes: &[u8]) -> usize {
-        let count = self.token.run(bytes);
-        if count > 0 {
-            self.begun = true;
-        }
-        count
+    fn push(&mut self, bytes: &[u8]) -> Pushed {
+        push_bytes(self, bytes)
     }
 
     fn allows(&self, byte: u8) -> bool {
@@ -102,4 +86,35 @@ impl<T: Token> Token for Maybe<T> {
     ghost one_value = { λ s. maybe_one (T.means s.token) s.begun s.filled (T.one_value s.token) };
 
     ghost holds_bytes = { λ s. maybe_bytes (T.means s.token) s.begun (T.holds_bytes s.token) };
+}
+
+impl<T: Token> Steps for Maybe<T> {
+    type Value = Option<T::Out>;
+
+    ghost rests = { ⟦<Maybe<T> as Token>⟧.means };
+
+    ghost room = { ⟦<Maybe<T> as Token>⟧.size };
+
+    ghost grows = { ⟦<Maybe<T> as Token>⟧.grows };
+
+    #[inline(always)]
+    fn take_byte(&mut self, byte: u8) -> Result<bool, OutOfMemory> {
+        match self.token.step(byte) {
+            Ok(true) => {
+                self.begun = true;
+                Ok(true)
+            }
+            Ok(false) => Ok(false),
+            Err(e) => Err(e),
+        }
+    }
+
+    #[inline(always)]
+    fn take_run(&mut self, bytes: &[u8]) -> usize {
+        let count = push_count(&mut self.token, bytes);
+        if count > 0 {
+            self.begun = true;
+        }
+        count
+    }
 }

@@ -1,6 +1,6 @@
 //! Any number of pairs of a word and a value, the words all different.
 ghost use Rattle.std.specs.Prelude.{◌≡◌, ◌+◌, ◌≤◌, ◌<◌, true, false, [], map, length, IsTrue, IfSome, OnErr};
-ghost use Rattle.cg_text.specs.Token.{Begins, Follows, IfRefused, IfTaken, NoneBegins, Same, Spells, UnlessTaken, saturated};
+ghost use Rattle.cg_text.specs.Token.{Begins, Follows, IfRefused, IfTaken, NoneBegins, Same, Spells, UnlessTaken};
 ghost use Rattle.cg_join.specs.Repeat.{Stops, items_size};
 ghost use Rattle.cg_join.specs.Line.{LacksByte};
 ghost use Rattle.cg_join.specs.Distinct.{AreDistinct};
@@ -15,7 +15,7 @@ use crate::make_token::MakeToken;
 use crate::pairing::{Pairing, complete_last, held_in_pairs, is_old_word, renew};
 use crate::words::WordStart;
 use cg_index::{KeyedBuilder, KeyedItems};
-use cg_text::{OutOfMemory, Token, WordText};
+use cg_text::{OutOfMemory, Pushed, Steps, Token, WordText, push_bytes, push_count};
 use std::alloc::Global;
 use std::marker::PhantomData;
 
@@ -255,26 +255,8 @@ impl<V: Token, B: MakeToken<V>, F: Pairing<V>> Token for DistinctPairs<V, B, F> 
 
     ghost grows = { true };
 
-    fn step(&mut self, byte: u8) -> Result<bool, OutOfMemory> {
-        match self.stage {
-            Stage::Before => {
-                if byte != self.separator {
-                    return Ok(false);
-                }
-                self.stage = Stage::InWord;
-                Ok(true)
-            }
-            Stage::InWord => self.step_word(byte),
-            Stage::InValue => self.step_value(byte),
-        }
-    }
-
-    fn run(&mut self, bytes: &[u8]) -> usize {
-        match self.stage {
-            Stage::Before => 0,
-            Stage::InWord => self.word.run(bytes),
-            Stage::InValue => self.value.run(bytes),
-        }
+    fn push(&mut self, bytes: &[u8]) -> Pushed {
+        push_bytes(self, bytes)
     }
 
     fn whole(&self, bytes: &[u8]) -> Option<(KeyedItems<F::Pair>, usize)> {
@@ -404,4 +386,36 @@ impl<V: Token, B: MakeToken<V>, F: Pairing<V>> Token for DistinctPairs<V, B, F> 
         s.small_delimiter
         (word_text_bytes s.words.controller) (B.text_bytes s.values))
         rest all h.0 };
+}
+
+impl<V: Token, B: MakeToken<V>, F: Pairing<V>> Steps for DistinctPairs<V, B, F> {
+    type Value = KeyedItems<F::Pair>;
+
+    ghost rests = { ⟦<DistinctPairs<V, B, F> as Token>⟧.means };
+
+    ghost room = { ⟦<DistinctPairs<V, B, F> as Token>⟧.size };
+
+    ghost grows = { ⟦<DistinctPairs<V, B, F> as Token>⟧.grows };
+
+    fn take_byte(&mut self, byte: u8) -> Result<bool, OutOfMemory> {
+        match self.stage {
+            Stage::Before => {
+                if byte != self.separator {
+                    return Ok(false);
+                }
+                self.stage = Stage::InWord;
+                Ok(true)
+            }
+            Stage::InWord => self.step_word(byte),
+            Stage::InValue => self.step_value(byte),
+        }
+    }
+
+    fn take_run(&mut self, bytes: &[u8]) -> usize {
+        match self.stage {
+            Stage::Before => 0,
+            Stage::InWord => push_count(&mut self.word, bytes),
+            Stage::InValue => push_count(&mut self.value, bytes),
+        }
+    }
 }

@@ -7,8 +7,7 @@ use crate::bounded::decimal_in;
 use crate::choice::{Choice, Either};
 use crate::mapped::{MapValue, Mapped};
 use cg_text::{
-    DecimalText, Hundredths, HundredthsText, Key, NameText, OutOfMemory, ParamValue, Spelling,
-    Token,
+    DecimalText, Hundredths, HundredthsText, Key, NameText, ParamValue, Pushed, Spelling, Token,
 };
 use std::alloc::Global;
 
@@ -94,12 +93,8 @@ impl Token for ParamText {
 
     ghost holds_bytes = { λ s. ⟦<Parts as Token>⟧.holds_bytes s.parts };
 
-    fn step(&mut self, byte: u8) -> Result<bool, OutOfMemory> {
-        self.parts.step(byte)
-    }
-
-    fn run(&mut self, bytes: &[u8]) -> usize {
-        self.parts.run(bytes)
+    fn push(&mut self, bytes: &[u8]) -> Pushed {
+        self.parts.push(bytes)
     }
 
     fn whole(&self, bytes: &[u8]) -> Option<(ParamValue, usize)> {

@@ -1,12 +1,12 @@
 //! One or more of a token, with a byte between.
 ghost use Rattle.std.specs.Prelude.{◌≡◌, ◌+◌, ◌≤◌, ◌<◌, true, false, IsTrue, length, take, vec_len, vec_capacity};
 ghost use Rattle.cg_text.specs.Scan.{FollowsRun};
-ghost use Rattle.cg_text.specs.Token.{Spells, saturated};
+ghost use Rattle.cg_text.specs.Token.{Spells};
 ghost use Rattle.cg_join.specs.Repeat.{AreJoined, IsListAfter, LacksEmpty, Stops, items_size, out_size};
 
 use crate::make_token::MakeToken;
 use crate::store::{held_in_all, held_in_joined, put};
-use cg_text::{Items, OutOfMemory, Token, make_room};
+use cg_text::{Items, OutOfMemory, Pushed, Steps, Token, make_room, push_bytes, push_count};
 use std::alloc::Global;
 use std::mem;
 
@@ -102,41 +102,8 @@ impl<T: Token, S: MakeToken<T>> Token for Repeat<T, S> {
 
     ghost grows = { true };
 
-    fn step(&mut self, byte: u8) -> Result<bool, OutOfMemory> {
-        // The last value is put into the vector by `take`, which takes no memory.
-        match make_room(&mut self.items) {
-            Ok(()) => {}
-            Err(e) => {
-                // A byte that is refused is refused without memory too.
-                let allowed = self.allows(byte);
-                return if allowed { Err(e) } else { Ok(false) };
-            }
-        }
-        match self.current.step(byte) {
-            Ok(true) => return Ok(true),
-            Ok(false) => {}
-            Err(e) => return Err(e),
-        }
-        if byte != self.separator {
-            return Ok(false);
-        }
-        if !self.current.can_end() {
-            return Ok(false);
-        }
-        let next = self.start.start();
-        let done = mem::replace(&mut self.current, next);
-        let value = done.take();
-        put(&mut self.items, value);
-        Ok(true)
-    }
-
-    fn run(&mut self, bytes: &[u8]) -> usize {
-        let whole = self.take_items(bytes);
-        let (_, rest) = bytes.split_at(whole);
-        match make_room(&mut self.items) {
-            Ok(()) => whole + self.current.run(rest),
-            Err(_) => whole,
-        }
+    fn push(&mut self, bytes: &[u8]) -> Pushed {
+        push_bytes(self, bytes)
     }
 
     fn allows(&self, byte: u8) -> bool {
@@ -177,4 +144,51 @@ impl<T: Token, S: MakeToken<T>> Token for Repeat<T, S> {
 
     ghost holds_bytes = { λ s rest all h. list_bytes (T.means s.current) (S.texts s.start) s.separator s.small
         (T.holds_bytes s.current) (S.text_bytes s.start) rest h.0 h.2 };
+}
+
+impl<T: Token, S: MakeToken<T>> Steps for Repeat<T, S> {
+    type Value = Items<T::Out>;
+
+    ghost rests = { ⟦<Repeat<T, S> as Token>⟧.means };
+
+    ghost room = { ⟦<Repeat<T, S> as Token>⟧.size };
+
+    ghost grows = { ⟦<Repeat<T, S> as Token>⟧.grows };
+
+    fn take_byte(&mut self, byte: u8) -> Result<bool, OutOfMemory> {
+        // The last value is put into the vector by `take`, which takes no memory.
+        match make_room(&mut self.items) {
+            Ok(()) => {}
+            Err(e) => {
+                // A byte that is refused is refused without memory too.
+                let allowed = self.allows(byte);
+                return if allowed { Err(e) } else { Ok(false) };
+            }
+        }
+        match self.current.step(byte) {
+            Ok(true) => return Ok(true),
+            Ok(false) => {}
+            Err(e) => return Err(e),
+        }
+        if byte != self.separator {
+            return Ok(false);
+        }
+        if !self.current.can_end() {
+            return Ok(false);
+        }
+        let next = self.start.start();
+        let done = mem::replace(&mut self.current, next);
+        let value = done.take();
+        put(&mut self.items, value);
+        Ok(true)
+    }
+
+    fn take_run(&mut self, bytes: &[u8]) -> usize {
+        let whole = self.take_items(bytes);
+        let (_, rest) = bytes.split_at(whole);
+        match make_room(&mut self.items) {
+            Ok(()) => whole + push_count(&mut self.current, rest),
+            Err(_) => whole,
+        }
+    }
 }

@@ -1,9 +1,9 @@
 //! The vectors in which repetitions keep their values.
-ghost use Rattle.std.specs.Prelude.{◌≡◌, ◌+◌, ◌≤◌, ◌<◌, [], ◌++◌, ◌∷◌, OnOk, vec_len, vec_capacity};
+ghost use Rattle.std.specs.Prelude.{◌≡◌, ◌+◌, ◌<◌, [], ◌++◌, ◌∷◌, vec_len, vec_capacity};
 ghost use Rattle.cg_text.specs.Token.{saturated};
 ghost use Rattle.cg_join.specs.Repeat.{items_size, out_size};
 
-use cg_text::{OutOfMemory, Token};
+use cg_text::Token;
 
 /// Adds a value where there is room.
 pub(crate) fn put<X: Drop>(items: &mut Vec<X>, value: X)

@@ -9,10 +9,14 @@ use Rattle.cg_line.specs.Reads.{Reads}
 use Rattle.cg_line.specs.declared.reader.PushedRun.{PushedRun}
 use Rattle.cg_line.specs.declared.reader.ValueReader.{ValueReader}
 
+-- So many bytes are all where none is a newline, or end with the first one.
+abbrev pub EndsLine : List ℕ → ℕ → Type 0
+EndsLine bytes used = ((used ≡ length bytes) × Lacks 10 bytes) ⊎ ((line : List ℕ) × (take used bytes ≡ line ++ 10 ∷ []) × Lacks 10 line)
+
 -- Where a run of bytes of a text of the set ends, so many of which were taken: where no byte is left, or after its first
 -- newline; or before it at a byte with which no text of the set goes on, or with which one does and memory was refused.
 abbrev pub StopsAt : (List ℕ → Type 0) → List ℕ → List ℕ → ℕ → Option PushFault → Type 0
-StopsAt L taken bytes used None = ((used ≡ length bytes) × Lacks 10 bytes) ⊎ ((line : List ℕ) × (take used bytes ≡ line ++ 10 ∷ []) × Lacks 10 line)
+StopsAt L taken bytes used None = EndsLine bytes used
 StopsAt L taken bytes used (Some Refused) = (used < length bytes) × Lacks 10 (take used bytes) × (Next L (taken ++ take used bytes) (get_or bytes used 0) → ⊥)
 StopsAt L taken bytes used (Some OutOfMemory) = (used < length bytes) × Lacks 10 (take used bytes) × Next L (taken ++ take used bytes) (get_or bytes used 0)
 

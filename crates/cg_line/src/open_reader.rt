@@ -2,7 +2,6 @@
 #![tactic(auto, unfolding(crate::specs::OpenReads::open_held))]
 
 ghost use Rattle.std.specs.Prelude.{◌≡◌, ◌≤◌, ◌<◌, ◌+◌, ◌↔◌, ℕ, List, [], ◌∷◌, ◌++◌, length, take, IsTrue, IfNone, OnErr};
-ghost use Rattle.cg_file.specs.Front.{IsLineFront};
 ghost use Rattle.cg_value.specs.Files.{KindFile};
 ghost use Rattle.cg_value.specs.declared.kind.ReadForm.{ReadForm};
 ghost use Rattle.cg_line.specs.Place.{IsPlace, TakesLine};
@@ -62,24 +61,6 @@ impl OpenReader {
             }
             Err(fault) => Err(fault),
         }
-    }
-
-    /// Takes a whole line with its newline from the front of `bytes`, where no line is begun; or nothing, which it may
-    /// do with any line. Answers how many bytes it took.
-    #[inline(always)]
-    pub(crate) fn push_front(&mut self, bytes: &[u8]) -> usize
-        ensures within { result ≤ length bytes.now }
-        ensures line { 0 < result → IsLineFront bytes.now result }
-        ensures reads { (kind : ReadForm) (taken : List ℕ) → OpenReads self.old kind taken →
-            OpenReads self.new kind (taken ++ take result bytes.now) }
-        ensures held { open_held self.new ≤ open_held self.old + result }
-        ensures same_held { result ≡ 0 → open_held self.new ≡ open_held self.old }
-    {
-        let used = self.text.take_front(bytes);
-        if used > 0 {
-            self.in_line = false;
-        }
-        used
     }
 
     /// Takes bytes from the front of `bytes` as `push` would take one after another: until a newline was taken, none is

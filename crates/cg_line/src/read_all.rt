@@ -2,7 +2,7 @@
 ghost use Rattle.cg_line.specs.Decode.{IsReadWhole};
 
 use crate::push::{PushFault, push_run_to};
-use crate::text::LineText;
+use cg_text::Token;
 
 /// Why bytes are no text of a token.
 #[derive(Clone, Copy)]
@@ -15,7 +15,7 @@ pub(crate) enum TextFault {
 }
 
 /// The value of the text that the bytes are.
-pub(crate) fn read_all<T: LineText>(text: T, bytes: &[u8]) -> Result<T::Out, TextFault>
+pub(crate) fn read_all<T: Token>(text: T, bytes: &[u8]) -> Result<T::Out, TextFault>
     ensures { IsReadWhole (T.means text) bytes.now result }
 {
     let mut text = text;

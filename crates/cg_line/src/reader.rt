@@ -1,7 +1,6 @@
 //! Readers of one file.
 ghost use Rattle.std.specs.Prelude.{◌≡◌, ◌≤◌, ◌<◌, ◌+◌, ◌↔◌, ℕ, List, [], ◌∷◌, ◌++◌, length, take, MatchOption, MatchResult, IsTrue, IfNone, IfSome, IfOk, IfErr, OnErr};
 ghost use Rattle.cg_text.specs.Bytes.{HasByte};
-ghost use Rattle.cg_file.specs.Front.{IsLineFront};
 ghost use Rattle.cg_text.specs.Texts.{Lacks, Next};
 ghost use Rattle.cg_text.specs.Token.{saturated};
 ghost use Rattle.cg_value.specs.Files.{ReadLines, KindText, KindFile};
@@ -266,23 +265,6 @@ impl ValueReader {
             },
             State::Whole(_) => Err(PushFault::Refused),
             State::Open(reader) => reader.push(byte),
-        }
-    }
-
-    /// Takes a whole line with its newline from the front of `bytes`, where no line is begun; or nothing, which it may
-    /// do with any line. Answers how many bytes it took.
-    #[inline(always)]
-    pub fn push_front(&mut self, bytes: &[u8]) -> usize
-        ensures within { result ≤ length bytes.now }
-        ensures line { 0 < result → IsLineFront bytes.now result }
-        ensures reads { (kind : ReadForm) (taken : List ℕ) → Reads self.old kind taken →
-            Reads self.new kind (taken ++ take result bytes.now) }
-        ensures held { held_by self.new ≤ held_by self.old + result }
-        ensures same_held { result ≡ 0 → held_by self.new ≡ held_by self.old }
-    {
-        match &mut self.state {
-            State::Open(reader) => reader.push_front(bytes),
-            _ => 0,
         }
     }
 

@@ -1,59 +1,10 @@
 //! Tokens over the whole text of a file, or of a write.
-ghost use Rattle.std.specs.Prelude.{◌≡◌, ◌≤◌, ◌<◌, ◌+◌, ◌↔◌, ℕ, [], IsTrue, length, take};
+ghost use Rattle.std.specs.Prelude.{◌<◌, ◌↔◌, ℕ, [], IsTrue};
 ghost use Rattle.cg_text.specs.Bytes.{HasByte};
-ghost use Rattle.cg_text.specs.Scan.{FollowsRun};
-ghost use Rattle.cg_text.specs.Texts.{Lacks, Next, TextOf};
-ghost use Rattle.cg_file.specs.Front.{IsLineFront};
+ghost use Rattle.cg_text.specs.Texts.{Next, TextOf};
 ghost use Rattle.cg_line.specs.Rests.{SomeNext};
 
-use cg_file::AnyFile;
 use cg_text::{ByteSet, Token};
-use cg_write::AnyWrite;
-
-/// A token over whole texts, which takes lines and bytes of lines at once.
-pub(crate) trait LineText: Token {
-    /// Takes a whole line with its newline from the front of `bytes`, where no line is begun; or nothing, which it may
-    /// do with any line. Answers how many bytes it took.
-    fn take_front(&mut self, bytes: &[u8]) -> usize
-        ensures within { result ≤ length bytes.now }
-        ensures line { 0 < result → IsLineFront bytes.now result }
-        ensures follows { FollowsRun Self.means self.old (take result bytes.now) self.new }
-        ensures size { Self.size self.new ≤ Self.size self.old + result }
-        ensures same_size { result ≡ 0 → Self.size self.new ≡ Self.size self.old };
-
-    /// Takes bytes from the front of `bytes`, none of them a newline, and answers how many. It may leave some that
-    /// `step` would take.
-    fn scan(&mut self, bytes: &[u8]) -> usize
-        ensures within { result ≤ length bytes.now }
-        ensures plain { Lacks 10 (take result bytes.now) }
-        ensures follows { FollowsRun Self.means self.old (take result bytes.now) self.new }
-        ensures size { Self.size self.new ≤ Self.size self.old + result }
-        ensures same_size { result ≡ 0 → Self.size self.new ≡ Self.size self.old };
-}
-
-impl LineText for AnyFile {
-    #[inline(always)]
-    fn take_front(&mut self, bytes: &[u8]) -> usize {
-        self.take_front(bytes)
-    }
-
-    #[inline(always)]
-    fn scan(&mut self, bytes: &[u8]) -> usize {
-        self.run(bytes)
-    }
-}
-
-impl LineText for AnyWrite {
-    #[inline(always)]
-    fn take_front(&mut self, _bytes: &[u8]) -> usize {
-        0
-    }
-
-    #[inline(always)]
-    fn scan(&mut self, bytes: &[u8]) -> usize {
-        self.run(bytes)
-    }
-}
 
 /// The bytes that may come next.
 pub(crate) fn allowed_by<T: Token>(text: &T) -> ByteSet

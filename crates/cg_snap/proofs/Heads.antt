@@ -1,6 +1,7 @@
 -- The head of one more record of the present entry, taken at once.
-use Rattle.std.proofs.Common.{◌≡◌, ℕ, suc, ◌+◌, ◌<◌, ◌≤◌, get_or, List, [], ◌∷◌, ◌++◌, take, drop, length, All, refl, sym, ap, subst, ◌∙◌, append_assoc, arith, inr, Some, false, true}
+use Rattle.std.proofs.Common.{◌≡◌, ℕ, suc, ◌+◌, ◌<◌, ◌≤◌, get_or, List, [], ◌∷◌, ◌++◌, take, drop, length, All, refl, sym, ap, subst, ◌∙◌, append_assoc, arith, inl, inr, Some, false, true}
 use Rattle.std.proofs.Math.Seq.{take-add}
+use Rattle.std.specs.List.{AllByRecursion}
 use Rattle.std.proofs.lemmas.List.{append-nil, length-append, take-append-le, take_all}
 use Rattle.cg_text.specs.Texts.{Lacks}
 use Rattle.cg_text.specs.TextsLaws.{lacks_both}
@@ -9,7 +10,6 @@ use Rattle.cg_value.specs.Entry.{EntryData, IsPathByte}
 use Rattle.cg_value.specs.Lines.{unlines}
 use Rattle.cg_value.specs.declared.kind.ReadForm.{ReadForm}
 use Rattle.cg_value.specs.declared.profile.Profile.{Profile}
-use Rattle.cg_line.specs.Place.{TakesLine}
 use Rattle.cg_line.specs.Reads.{Reads, reads_viable}
 use Rattle.cg_line.specs.declared.reader.ValueReader.{ValueReader}
 use Rattle.cg_snap.specs.Course.{AreFew, AreOfRecord}
@@ -21,8 +21,8 @@ use Rattle.cg_snap.specs.declared.present.CurrentEntry.{CurrentEntry}
 use Rattle.cg_snap.proofs.Nuls.{full_is}
 use Rattle.cg_snap.proofs.PathRuns.{cut_at}
 use Rattle.cg_snap.proofs.Runs.{few_push, line_few, path_few}
-use Rattle.cg_snap.proofs.States.{at_false, takes_more}
-use Rattle.cg_snap.proofs.Steps.{bytes_no_newline, line_whole, path_run, same_path}
+use Rattle.cg_snap.proofs.States.{at_false}
+use Rattle.cg_snap.proofs.Steps.{bytes_no_newline, line_run, line_whole, path_run, same_path}
 
 -- The head of a piece that begins with a path and a NUL.
 pub head_is : (path rest piece : List ℕ) (n : ℕ) → piece ≡ path ++ 0 ∷ rest → n ≡ length path + 1 → take n piece ≡ path ++ 0 ∷ []
@@ -52,16 +52,6 @@ module _ (profile : Profile) (x : CurrentEntry) (p : List ℕ) (es : List EntryD
   pub head_plain : Lacks 10 (x.path.items ++ 0 ∷ [])
   head_plain = lacks_both 10 x.path.items (0 ∷ []) (bytes_no_newline x.path.items head_bytes) ((λ e. absurd (omega (arith, e))), tt)
 
-  pub head_taken : (begun : List ℕ) (y : CurrentEntry) (piece : List ℕ) (count max : ℕ) → begun ≡ [] →
-      y.path.items ≡ x.path.items → y.lines ≡ x.lines → ((kind : ReadForm) (taken : List ℕ) → Reads x.reader kind taken → Reads y.reader kind taken) → Repeats x piece max →
-      ((kind : ReadForm) (taken : List ℕ) → Reads y.reader kind taken → TakesLine kind taken) →
-      count ≡ length x.path.items + 1 → HasConsumedInLine profile begun y (p ++ take count piece) es
-  head_taken begun y piece count max n e c r t takes m =
-      let a = after_path in
-      let line = same_path profile x.path.items begun x y (p ++ x.path.items) es 0 a refl n refl e c (r a.kind (unlines a.lines) a.reads) (takes_more a.kind a.lines (takes a.kind (unlines a.lines) (r a.kind (unlines a.lines) a.reads))) in
-      let whole : p ++ take count piece ≡ (p ++ x.path.items) ++ 0 ∷ [] = ap (λ (q : List ℕ). p ++ q) (head_is x.path.items t.rest piece count t.begins m) ∙ sym (append_assoc p x.path.items (0 ∷ [])) in
-      subst (λ (q : List ℕ). HasConsumedInLine profile begun y q es) (sym whole) line
-
   pub head_few : (max : ℕ) → max ≤ 18446744073709551615 → x.in_line ≡ false → x.lines < max → AreFew (IsManyRecords profile max) p (x.path.items ++ 0 ∷ [])
   head_few max u i few =
       let path = x.path.items in
@@ -80,6 +70,38 @@ few_both Many p (c ∷ a) b f g = (f.0, few_both Many (p ++ c ∷ []) a b f.1 (s
 pub record_is : (path rest bytes line : List ℕ) (count used : ℕ) → bytes ≡ path ++ 0 ∷ rest → count ≡ length path + 1 → take used (drop count bytes) ≡ line ++ 10 ∷ [] →
     take (count + used) bytes ≡ (path ++ 0 ∷ []) ++ (line ++ 10 ∷ [])
 record_is path rest bytes line count used e m l = take-add count used bytes ∙ (ap (λ (q : List ℕ). q ++ take used (drop count bytes)) (head_is path rest bytes count e m) ∙ ap (λ (q : List ℕ). (path ++ 0 ∷ []) ++ q) l)
+
+pub part_is : (path rest bytes back : List ℕ) (count used : ℕ) → bytes ≡ path ++ 0 ∷ rest → count ≡ length path + 1 → back ≡ drop count bytes → take (count + used) bytes ≡ (path ++ 0 ∷ []) ++ take used back
+part_is path rest bytes back count used e m b = take-add count used bytes ∙ (ap (λ (q : List ℕ). q ++ take used (drop count bytes)) (head_is path rest bytes count e m) ∙ ap (λ (q : List ℕ). (path ++ 0 ∷ []) ++ take used q) (sym b))
+
+-- Bytes of the record's line, without its newline, were taken after its head.
+module _ (profile : Profile) (x : CurrentEntry) (now : ValueReader) (p : List ℕ) (es : List EntryData) (h : HasConsumedInPath profile [] x p es) (part : List ℕ) (plain : Lacks 10 part)
+    (reads : (kind : ReadForm) (taken : List ℕ) → Reads x.reader kind taken → Reads now kind (taken ++ part))
+    (goes : (kind : ReadForm) (lines : List (List ℕ)) → AllByRecursion (Lacks 10) lines → Reads x.reader kind (unlines lines) → CanEndLine kind lines []) where
+  abbrev line_at_head : CurrentEntry
+  line_at_head = record { path = x.path; reader = x.reader; lines = x.lines; in_line = true; sound = x.sound }
+
+  at_head : HasConsumedInLine profile [] line_at_head (p ++ (x.path.items ++ 0 ∷ [])) es
+  at_head =
+      let a = after_path profile x p es h in
+      let nul = same_path profile x.path.items [] x line_at_head (p ++ x.path.items) es 0 a refl refl refl refl refl a.reads (goes a.kind a.lines a.plain a.reads) in
+      subst (λ (q : List ℕ). HasConsumedInLine profile [] line_at_head q es) (append_assoc p x.path.items (0 ∷ [])) nul
+
+  pub part_taken : (y : CurrentEntry) (bytes : List ℕ) → bytes ≡ (x.path.items ++ 0 ∷ []) ++ part → y.path.items ≡ x.path.items → y.lines ≡ x.lines → y.reader ≡ now → HasConsumedInLine profile [] y (p ++ bytes) es
+  part_taken y bytes e path lines reader =
+      let l = at_head in
+      let after : Reads y.reader l.kind ((unlines l.lines ++ l.line) ++ part) =
+      subst (λ (o : ValueReader). Reads o l.kind ((unlines l.lines ++ l.line) ++ part)) (sym reader) (reads l.kind (unlines l.lines ++ l.line) l.reads) in
+      let whole = line_run profile [] line_at_head y (p ++ (x.path.items ++ 0 ∷ [])) es part l plain path lines after in
+      subst (λ (q : List ℕ). HasConsumedInLine profile [] y q es) (append_assoc p (x.path.items ++ 0 ∷ []) part ∙ ap (λ (q : List ℕ). p ++ q) (sym e)) whole
+
+  pub part_few : (bytes : List ℕ) (max : ℕ) → bytes ≡ (x.path.items ++ 0 ∷ []) ++ part → max ≤ 18446744073709551615 → x.in_line ≡ false → x.lines < max → AreFew (IsManyRecords profile max) p bytes
+  part_few bytes max e u i few = subst (AreFew (IsManyRecords profile max) p) (sym e)
+      (few_both (IsManyRecords profile max) p (x.path.items ++ 0 ∷ []) part (head_few profile x p es h max u i few)
+      (line_few profile max [] line_at_head (p ++ (x.path.items ++ 0 ∷ [])) part es at_head refl (inl plain)))
+
+  pub part_plain : (bytes : List ℕ) → bytes ≡ (x.path.items ++ 0 ∷ []) ++ part → AreOfRecord bytes
+  part_plain bytes e = inl (subst (Lacks 10) (sym e) (lacks_both 10 (x.path.items ++ 0 ∷ []) part (head_plain profile x p es h) plain))
 
 module _ (profile : Profile) (x : CurrentEntry) (now : ValueReader) (p : List ℕ) (es : List EntryData) (h : HasConsumedInPath profile [] x p es) (line : List ℕ) (plain : Lacks 10 line)
     (reads : (kind : ReadForm) (taken : List ℕ) → Reads x.reader kind taken → Reads now kind (taken ++ (line ++ 10 ∷ []))) where

@@ -1,5 +1,5 @@
 -- What a decoder stands for after one more byte, and that each state can be completed.
-use Rattle.std.proofs.Common.{◌≡◌, ◌≢◌, ℕ, suc, zero, ◌+◌, Some, List, [], ◌∷◌, ◌++◌, length, All, refl, sym, ap, subst, ◌∙◌, append_assoc, arith, inl, inr, ◌⊎◌}
+use Rattle.std.proofs.Common.{◌≡◌, ◌≢◌, ℕ, suc, zero, ◌+◌, ◌<◌, Some, List, [], ◌∷◌, ◌++◌, length, All, refl, sym, ap, subst, ◌∙◌, append_assoc, arith, inl, inr, ◌⊎◌}
 use Rattle.std.specs.List.{AllByRecursion}
 use Rattle.std.proofs.lemmas.List.{append-nil, length_push}
 use Rattle.std.proofs.lemmas.Bool.{cases_eq}
@@ -215,11 +215,9 @@ last_of b [] = ([], b, refl)
 last_of b (c ∷ q) = let r = last_of c q in (b ∷ r.0, r.1, ap (λ (t : List ℕ). b ∷ t) r.2)
 
 -- Where some bytes of a line came, it can end.
-pub run_can_end : (kind : ReadForm) (ls : List (List ℕ)) (line q : List ℕ) → Lacks 10 line → Lacks 10 q →
-    AllByRecursion (Lacks 10) ls → CanEndLine kind ls line → Viable (KindFile kind) (unlines ls ++ (line ++ q)) →
-    CanEndLine kind ls (line ++ q)
-run_can_end kind ls line [] w n a g v = rw (append-nil line) g
-run_can_end kind ls line (b ∷ q) w n a g v =
+run_goes : (kind : ReadForm) (ls : List (List ℕ)) (line : List ℕ) (b : ℕ) (q : List ℕ) → Lacks 10 line → Lacks 10 (b ∷ q) →
+    AllByRecursion (Lacks 10) ls → Viable (KindFile kind) (unlines ls ++ (line ++ b ∷ q)) → CanEndLine kind ls (line ++ b ∷ q)
+run_goes kind ls line b q w n a v =
     let l = last_of b q in
     let same : line ++ (b ∷ q) ≡ (line ++ l.0) ++ l.1 ∷ [] = ap (λ (t : List ℕ). line ++ t) l.2 ∙ sym (append_assoc line l.0 (l.1 ∷ [])) in
     let whole : Lacks 10 ((line ++ l.0) ++ l.1 ∷ []) = subst (Lacks 10) same (lacks_both 10 line (b ∷ q) w n) in
@@ -230,6 +228,20 @@ run_can_end kind ls line (b ∷ q) w n a g v =
     lacks_left : (c : ℕ) (xs ys : List ℕ) → Lacks c (xs ++ ys) → Lacks c xs
     lacks_left c [] ys p = tt
     lacks_left c (x ∷ xs) ys p = (p.0, lacks_left c xs ys p.1)
+
+pub run_can_end : (kind : ReadForm) (ls : List (List ℕ)) (line q : List ℕ) → Lacks 10 line → Lacks 10 q →
+    AllByRecursion (Lacks 10) ls → CanEndLine kind ls line → Viable (KindFile kind) (unlines ls ++ (line ++ q)) →
+    CanEndLine kind ls (line ++ q)
+run_can_end kind ls line [] w n a g v = rw (append-nil line) g
+run_can_end kind ls line (b ∷ q) w n a g v = run_goes kind ls line b q w n a v
+
+-- So can one of which none came yet, where some may come.
+pub run_begins : (kind : ReadForm) (ls : List (List ℕ)) (q : List ℕ) → 0 < length q → Lacks 10 q → AllByRecursion (Lacks 10) ls → Viable (KindFile kind) (unlines ls ++ q) → CanEndLine kind ls []
+run_begins kind ls [] some n a v = absurd (omega (arith, some))
+run_begins kind ls (b ∷ q) some n a v =
+    let g = run_goes kind ls [] b q tt n a v in
+    let same : (b ∷ q) ++ (g.0 ++ 10 ∷ []) ≡ ((b ∷ q) ++ g.0) ++ 10 ∷ [] = sym (append_assoc (b ∷ q) g.0 (10 ∷ [])) in
+    ((b ∷ q) ++ g.0, lacks_both 10 (b ∷ q) g.0 n g.1, subst (λ (t : List ℕ). Viable (KindFile kind) (unlines ls ++ t)) same g.2)
 
 told_more : (n : ℕ) → saturated (n + 1) ≡ saturated (saturated n + 1)
 told_more n = omega arith

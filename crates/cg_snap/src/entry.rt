@@ -1,8 +1,11 @@
 //! The records of one entry.
-ghost use Rattle.std.specs.Prelude.{◌≡◌, ◌+◌, ◌≤◌, ◌↔◌, ◌++◌, ℕ, List, [], Some, true, false, IsTrue, MatchOption, length, take};
+ghost use Rattle.std.specs.Prelude.{◌≡◌, ◌+◌, ◌≤◌, ◌<◌, ◌↔◌, ◌⊎◌, ◌++◌, ℕ, List, [], Some, true, false, IsTrue, IsFalse, MatchOption, length, take};
 ghost use Rattle.cg_value.specs.Entry.{EntryData};
 ghost use Rattle.cg_value.specs.Print.{print_lines};
+ghost use Rattle.cg_value.specs.declared.kind.ReadForm.{ReadForm};
 ghost use Rattle.cg_value.specs.declared.profile.Profile.{Profile};
+ghost use Rattle.cg_line.specs.Place.{TakesLine};
+ghost use Rattle.cg_line.specs.Reads.{Reads};
 ghost use Rattle.cg_snap.specs.Course.{AreFew, AreOfRecord, GoesForward, IsLineEvent, Leaves};
 ghost use Rattle.cg_snap.specs.DecoderState.{HasConsumed, HasConsumedInPath};
 ghost use Rattle.cg_snap.specs.HeadState.{Repeats};
@@ -14,7 +17,7 @@ use crate::event::{Event, Progress};
 use crate::path::ends_line;
 use crate::present::CurrentEntry;
 use crate::stop::{Stop, Why};
-use cg_line::PushFault;
+use cg_line::{PushFault, ValueReader};
 use cg_value::{Entry, Value};
 
 /// Whether the bytes begin with the entry's path and a NUL, and one more record isn't one too many.
@@ -29,8 +32,18 @@ fn repeats(present: &CurrentEntry, bytes: &[u8], max_lines: u64) -> bool
     path == present.path.as_slice()
 }
 
+/// Whether so many bytes of a line were taken, or, where none were, one may begin.
+fn has_line(reader: &ValueReader, used: usize) -> bool
+    ensures line { IsTrue result → (0 < used) ⊎ ((used ≡ 0) × ((kind : ReadForm) (taken : List ℕ) →
+        Reads reader.now kind taken → TakesLine kind taken)) }
+    ensures none { IsFalse result → used ≡ 0 }
+{
+    used > 0 || reader.takes_line()
+}
+
 /// Takes the path of one more record with its NUL, where the bytes begin with them, no path and no line is begun, and
-/// one more record may come; with its line, where that is there whole. Answers how many bytes it took, 0 where none.
+/// one more record may come; and bytes of its line, to the newline at the most. Answers how many bytes it took, 0 where
+/// none.
 pub(crate) fn take_again(present: &mut CurrentEntry, bytes: &[u8], max_lines: u64) -> usize
     requires { present.old.in_line ≡ false }
     ensures taken { (profile : Profile) (p : List ℕ) (es : List EntryData) →
@@ -50,16 +63,17 @@ pub(crate) fn take_again(present: &mut CurrentEntry, bytes: &[u8], max_lines: u6
     }
     let head = present.path.len() + 1;
     let (_, rest) = bytes.split_at(head);
-    let line = present.reader.push_front(rest);
-    if line > 0 {
+    let run = present.reader.push_run(rest);
+    let used = run.used;
+    if ends_line(rest, used) {
         present.lines = present.lines.saturating_add(1);
-        return head + line;
+        return head + used;
     }
-    if !present.reader.takes_line() {
+    if !has_line(&present.reader, used) {
         return 0;
     }
     present.in_line = true;
-    head
+    head + used
 }
 
 /// What bytes of a line come to, by why the reader took no more of them, and the place of the next one in the stream.

@@ -48,6 +48,8 @@ pub mod RangesLaws
 pub mod RangesState
 pub mod Param
 pub mod PlainLaws
+pub mod PushLaws
+pub mod Pushed
 pub mod Raw
 pub mod RawLaws
 pub mod RawState

@@ -1,5 +1,5 @@
 -- What holds of tokens that take a run of bytes.
-use Rattle.std.proofs.Common.{◌≡◌, ℕ, ◌+◌, ◌<◌, List, [], ◌∷◌, ◌++◌, length, take, get_or, append_assoc, add-one}
+use Rattle.std.proofs.Common.{◌≡◌, ℕ, ◌+◌, ◌<◌, List, [], ◌∷◌, ◌++◌, length, take, get_or, append_assoc}
 use Rattle.std.proofs.lemmas.List.{take_more}
 use Rattle.cg_text.specs.Scan.{FollowsRun}
 use Rattle.cg_text.specs.Token.{Follows, Same}
@@ -17,7 +17,3 @@ module _ {S V : Type 0} (means : S → List ℕ → V → Type 0) where
   -- A state that means the same.
   pub run_same : (old s new : S) (run : List ℕ) → FollowsRun means old run s → Same means s new → FollowsRun means old run new
   run_same old s new run a e rest v = (λ k. (a rest v).0 ((e rest v).0 k), λ k. (e rest v).1 ((a rest v).1 k))
-
-  -- A byte was taken, and then a run.
-  pub run_after : (old s new : S) (byte : ℕ) (bytes more : List ℕ) (n : ℕ) → bytes ≡ byte ∷ more → Follows means old byte s → FollowsRun means s (take n more) new → FollowsRun means old (take (n + 1) bytes) new
-  run_after old s new byte bytes more n e a f rest v = rw (e, add-one) (λ k. (a (take n more ++ rest) v).0 ((f rest v).0 k), λ k. (f rest v).1 ((a (take n more ++ rest) v).1 k))

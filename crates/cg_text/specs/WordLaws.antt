@@ -203,12 +203,23 @@ word_run controller taken run rest word = (
   λ h. record { whole = h.whole ∙ sym (append_assoc taken run rest); is_word = h.is_word },
 )
 
--- What taking a run that may fail leaves.
-pub front_extended : (controller b : Bool) (taken run other new : List ℕ) → new ≡ cond b (taken ++ other) taken → other ≡ run → IsWordFront controller taken → AreWordBytes run → (IsTrue controller → 0 < length taken) → IsWordFront controller new
-front_extended controller true taken run other new e o f w c = rw (e, o) (front_run controller taken run f w c)
-front_extended controller false taken run other new e o f w c = rw e f
-
 -- Some bytes were taken, by the count of them.
 pub some_held : (taken : List ℕ) (n : ℕ) (empty : Bool) → n ≡ length taken → empty ≡ nat_eq n 0 → empty ≡ false → 0 < length taken
 some_held [] n empty e f g = absurd (let t : empty ≡ true = f ∙ eq-eqb n 0 e in cc)
 some_held (x ∷ xs) n empty e f g = omega arith
+
+-- A byte that lengthens what was taken, and bytes of words after it.
+front_first : (controller : Bool) (taken : List ℕ) (c : ℕ) (run : List ℕ) → IsWordFront controller taken → Lengthens controller taken c → AreWordBytes run → IsWordFront controller (taken ++ c ∷ run)
+front_first controller taken c run h l w =
+    let one : IsWordFront controller (taken ++ c ∷ []) = front_pushed controller true taken (taken ++ c ∷ []) c refl h l in
+    let some : 0 < length (taken ++ c ∷ []) = omega (arith, length-append taken (c ∷ [])) in
+    rw (← append_assoc taken (c ∷ []) run) (front_run controller (taken ++ c ∷ []) run one w (λ _. some))
+
+-- The same of bytes in front of others, if there was room for them.
+pub front_taken : (controller b : Bool) (taken bytes other new : List ℕ) (n : ℕ) → new ≡ cond b (taken ++ other) taken → other ≡ take n bytes → IsWordFront controller taken → Lengthens controller taken (get_or bytes 0 0) →
+    AreWordBytes (take n bytes) → IsWordFront controller new
+front_taken controller false taken bytes other new n e f h l w = rw e h
+front_taken controller true taken [] other new zero e f h l w = rw (e, f, append-nil taken) h
+front_taken controller true taken [] other new (suc n) e f h l w = rw (e, f, append-nil taken) h
+front_taken controller true taken (c ∷ cs) other new zero e f h l w = rw (e, f, append-nil taken) h
+front_taken controller true taken (c ∷ cs) other new (suc n) e f h l w = rw (e, f) (front_first controller taken c (take n cs) h l w.1)

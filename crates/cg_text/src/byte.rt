@@ -4,6 +4,8 @@ ghost use Rattle.cg_text.specs.Token.{Spells};
 ghost use Rattle.cg_text.specs.ByteLaws.{left};
 
 use crate::memory::OutOfMemory;
+use crate::pushed::Pushed;
+use crate::steps::{Steps, push_bytes};
 use crate::token::Token;
 
 /// The text of one byte.
@@ -49,13 +51,8 @@ impl Token for ByteText {
 
     ghost grows = { false };
 
-    fn step(&mut self, byte: u8) -> Result<bool, OutOfMemory> {
-        if !self.taken && byte == self.byte {
-            self.taken = true;
-            Ok(true)
-        } else {
-            Ok(false)
-        }
+    fn push(&mut self, bytes: &[u8]) -> Pushed {
+        push_bytes(self, bytes)
     }
 
     fn whole(&self, bytes: &[u8]) -> Option<((), usize)> {
@@ -93,4 +90,23 @@ impl Token for ByteText {
     ghost one_value = { λ s rest v w h k. refl };
 
     ghost holds_bytes = { λ s rest v h. byte_bytes s.taken s.byte rest s.small h };
+}
+
+impl Steps for ByteText {
+    type Value = ();
+
+    ghost rests = { ⟦<ByteText as Token>⟧.means };
+
+    ghost room = { ⟦<ByteText as Token>⟧.size };
+
+    ghost grows = { ⟦<ByteText as Token>⟧.grows };
+
+    fn take_byte(&mut self, byte: u8) -> Result<bool, OutOfMemory> {
+        if !self.taken && byte == self.byte {
+            self.taken = true;
+            Ok(true)
+        } else {
+            Ok(false)
+        }
+    }
 }

@@ -1,5 +1,5 @@
 //! Bytes in front of a byte.
-ghost use Rattle.std.specs.Prelude.{◌≤◌, length, take};
+ghost use Rattle.std.specs.Prelude.{◌≡◌, ◌<◌, ◌≤◌, length, slice_index, take};
 ghost use Rattle.cg_text.specs.Texts.{Lacks};
 
 use memchr::memchr;
@@ -9,6 +9,7 @@ use memchr::memchr;
 pub fn count_before(byte: u8, bytes: &[u8]) -> usize
     ensures within { result ≤ length bytes.now }
     ensures lacks { Lacks byte (take result bytes.now) }
+    ensures stops { result < length bytes.now → slice_index bytes.now result ≡ byte }
 {
     match memchr(byte, bytes) {
         Some(place) => place,

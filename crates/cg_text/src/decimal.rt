@@ -6,7 +6,7 @@ ghost use Rattle.cg_text.specs.Scan.{FollowsRun};
 ghost use Rattle.cg_text.specs.declared.decimal.Progress.TheVariants.{Start};
 ghost use Rattle.cg_text.specs.Token.{Follows, NoneBegins, Spells};
 
-use crate::memory::OutOfMemory;
+use crate::pushed::Pushed;
 use crate::token::Token;
 
 /// What was taken of a number.
@@ -190,46 +190,36 @@ impl Token for DecimalText {
 
     ghost grows = { false };
 
-    fn step(&mut self, byte: u8) -> Result<bool, OutOfMemory> {
-        match after(self.lo, self.hi, self.progress, byte) {
-            Some(progress) => {
-                self.progress = progress;
-                Ok(true)
-            }
-            None => Ok(false),
-        }
-    }
-
-    fn run(&mut self, bytes: &[u8]) -> usize {
-        if let Progress::Start = self.progress {
-            let (progress, count) = begun_digits(self.lo, self.hi, bytes);
-            if count > 0 {
-                self.progress = progress;
-                return count;
-            }
-        }
-        let (first, rest) = match bytes.split_first() {
-            Some(parts) => parts,
-            None => return 0,
+    fn push(&mut self, bytes: &[u8]) -> Pushed {
+        let (begun, count) = match self.progress {
+            Progress::Start => begun_digits(self.lo, self.hi, bytes),
+            _ => after_digits(self.lo, self.hi, self.progress, bytes),
         };
-        let begun = match after(self.lo, self.hi, self.progress, *first) {
-            Some(progress) => progress,
-            None => return 0,
-        };
-        let (progress, count) = after_digits(self.lo, self.hi, begun, rest);
-        self.progress = progress;
-        count + 1
+        self.progress = begun;
+        let mut used = count;
+        while used < bytes.len() {
+            match after(self.lo, self.hi, self.progress, bytes[used]) {
+                Some(progress) => self.progress = progress,
+                None => return Pushed::Refused(used),
+            }
+            used += 1;
+        }
+        Pushed::All
     }
 
     #[inline(always)]
     fn whole(&self, bytes: &[u8]) -> Option<(u64, usize)> {
+        // A `max` stands where a number may, so mostly the first byte tells.
+        if bytes.is_empty() || !bytes[0].is_ascii_digit() {
+            return None;
+        }
         if let Progress::Start = self.progress {
             if let Some(found) = number_in_front(self.lo, self.hi, bytes) {
                 return Some(found);
             }
         }
         let mut token = *self;
-        let count = token.run(bytes);
+        let count = token.push(bytes).used(bytes);
         if token.can_end() {
             Some((token.take(), count))
         } else {

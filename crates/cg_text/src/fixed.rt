@@ -4,6 +4,8 @@ ghost use Rattle.cg_text.specs.Token.{Spells, AreBytes};
 ghost use Rattle.cg_text.specs.TokenLaws.{AreBytes_prop};
 
 use crate::memory::OutOfMemory;
+use crate::pushed::Pushed;
+use crate::steps::{Steps, push_bytes};
 use crate::token::Token;
 
 /// The one text.
@@ -41,13 +43,8 @@ impl Token for FixedText {
 
     ghost grows = { false };
 
-    fn step(&mut self, byte: u8) -> Result<bool, OutOfMemory> {
-        if self.at < self.text.len() && self.text[self.at] == byte {
-            self.at += 1;
-            Ok(true)
-        } else {
-            Ok(false)
-        }
+    fn push(&mut self, bytes: &[u8]) -> Pushed {
+        push_bytes(self, bytes)
     }
 
     fn allows(&self, byte: u8) -> bool {
@@ -77,4 +74,23 @@ impl Token for FixedText {
     ghost one_value = { λ s rest v w h k. refl };
 
     ghost holds_bytes = { λ s rest v h. fixed_bytes s.at s.text.now rest s.bytes h };
+}
+
+impl Steps for FixedText {
+    type Value = ();
+
+    ghost rests = { ⟦<FixedText as Token>⟧.means };
+
+    ghost room = { ⟦<FixedText as Token>⟧.size };
+
+    ghost grows = { ⟦<FixedText as Token>⟧.grows };
+
+    fn take_byte(&mut self, byte: u8) -> Result<bool, OutOfMemory> {
+        if self.at < self.text.len() && self.text[self.at] == byte {
+            self.at += 1;
+            Ok(true)
+        } else {
+            Ok(false)
+        }
+    }
 }

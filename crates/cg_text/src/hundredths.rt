@@ -8,6 +8,8 @@ ghost use Rattle.cg_text.specs.Token.{Follows, NoneBegins, Spells};
 
 use crate::decimal::{self, Progress};
 use crate::memory::OutOfMemory;
+use crate::pushed::Pushed;
+use crate::steps::{Steps, push_bytes};
 use crate::token::Token;
 use crate::values::Hundredths;
 
@@ -157,19 +159,13 @@ impl Token for HundredthsText {
     ghost grows = { false };
 
     #[inline(always)]
-    fn step(&mut self, byte: u8) -> Result<bool, OutOfMemory> {
-        match after(self.form, self.most, self.part, byte) {
-            Some(part) => {
-                self.part = part;
-                Ok(true)
-            }
-            None => Ok(false),
-        }
+    fn push(&mut self, bytes: &[u8]) -> Pushed {
+        push_bytes(self, bytes)
     }
 
     fn whole(&self, bytes: &[u8]) -> Option<(Hundredths, usize)> {
         let mut token = *self;
-        let count = token.run(bytes);
+        let count = token.push(bytes).used(bytes);
         if token.can_end() {
             Some((token.take(), count))
         } else {
@@ -221,4 +217,25 @@ impl Token for HundredthsText {
     ghost one_value = { λ s. hundredths_one s.form s.most s.part };
 
     ghost holds_bytes = { λ s. hundredths_bytes s.form s.most s.part };
+}
+
+impl Steps for HundredthsText {
+    type Value = Hundredths;
+
+    ghost rests = { ⟦<HundredthsText as Token>⟧.means };
+
+    ghost room = { ⟦<HundredthsText as Token>⟧.size };
+
+    ghost grows = { ⟦<HundredthsText as Token>⟧.grows };
+
+    #[inline(always)]
+    fn take_byte(&mut self, byte: u8) -> Result<bool, OutOfMemory> {
+        match after(self.form, self.most, self.part, byte) {
+            Some(part) => {
+                self.part = part;
+                Ok(true)
+            }
+            None => Ok(false),
+        }
+    }
 }

@@ -1,5 +1,5 @@
 //! Keys: the words of a line.
-ghost use Rattle.std.specs.Prelude.{◌≡◌, IsTrue, ◌↔◌, ◌≤◌, IfOk, length, take};
+ghost use Rattle.std.specs.Prelude.{◌≡◌, IsTrue, ◌↔◌, ◌<◌, ◌≤◌, IfOk, length, slice_index, take};
 ghost use Rattle.cg_text.specs.Word.{IsWord, IsWordByte, AreWordBytes};
 ghost use Rattle.cg_text.specs.Key.{IsKeyMade};
 ghost use Rattle.cg_text.specs.KeyState.{stored, IsStored};
@@ -63,6 +63,7 @@ pub(crate) fn is_word_byte(byte: u8) -> bool
 pub(crate) fn word_front(bytes: &[u8]) -> (usize, u32)
     ensures within { result.0 ≤ length bytes.now }
     ensures words { AreWordBytes (take result.0 bytes.now) }
+    ensures stops { result.0 < length bytes.now → IsWordByte (slice_index bytes.now result.0) → ⊥ }
     ensures hash { result.1 ≡ hash_of (take result.0 bytes.now) }
 {
     let mut hash = 0;

@@ -4,6 +4,8 @@ ghost use Rattle.cg_text.specs.Token.{Spells};
 ghost use Rattle.cg_text.specs.Keyword.{text_of};
 
 use crate::memory::OutOfMemory;
+use crate::pushed::Pushed;
+use crate::steps::{Steps, push_bytes};
 use crate::token::Token;
 
 /// A text of the grammar that is always the same: a word, or a label with the space before it and the `=` behind it
@@ -147,14 +149,8 @@ impl Token for KeywordText {
 
     ghost grows = { false };
 
-    fn step(&mut self, byte: u8) -> Result<bool, OutOfMemory> {
-        let text = self.keyword.text();
-        if self.at < text.len() && text[self.at] == byte {
-            self.at += 1;
-            Ok(true)
-        } else {
-            Ok(false)
-        }
+    fn push(&mut self, bytes: &[u8]) -> Pushed {
+        push_bytes(self, bytes)
     }
 
     #[inline(always)]
@@ -199,4 +195,24 @@ impl Token for KeywordText {
     ghost one_value = { λ s rest v w h k. refl };
 
     ghost holds_bytes = { λ s rest v h. fixed_bytes s.at (text_of s.keyword) rest (keyword_bytes s.keyword) h };
+}
+
+impl Steps for KeywordText {
+    type Value = ();
+
+    ghost rests = { ⟦<KeywordText as Token>⟧.means };
+
+    ghost room = { ⟦<KeywordText as Token>⟧.size };
+
+    ghost grows = { ⟦<KeywordText as Token>⟧.grows };
+
+    fn take_byte(&mut self, byte: u8) -> Result<bool, OutOfMemory> {
+        let text = self.keyword.text();
+        if self.at < text.len() && text[self.at] == byte {
+            self.at += 1;
+            Ok(true)
+        } else {
+            Ok(false)
+        }
+    }
 }

@@ -6,8 +6,8 @@ ghost use Rattle.cg_text.specs.GivenRanges.{GivesOnly, only_ranges_prop};
 ghost use Rattle.cg_text.specs.LooseState.{IsLooseRest};
 ghost use Rattle.cg_text.specs.Numbers.{AreRanges};
 
-use crate::memory::OutOfMemory;
 use crate::numbers::{NumberSet, join};
+use crate::pushed::Pushed;
 use crate::ranges::RangesText;
 use crate::token::Token;
 use std::alloc::Global;
@@ -47,12 +47,8 @@ impl Token for LooseListText {
 
     ghost grows = { ⟦<RangesText as Token>⟧.grows };
 
-    fn step(&mut self, byte: u8) -> Result<bool, OutOfMemory> {
-        self.list.step(byte)
-    }
-
-    fn run(&mut self, bytes: &[u8]) -> usize {
-        self.list.run(bytes)
+    fn push(&mut self, bytes: &[u8]) -> Pushed {
+        self.list.push(bytes)
     }
 
     fn allows(&self, byte: u8) -> bool {

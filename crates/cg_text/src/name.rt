@@ -7,7 +7,9 @@ ghost use Rattle.cg_text.specs.Token.{Spells};
 
 use crate::key::Key;
 use crate::memory::OutOfMemory;
-use crate::token::Token;
+use crate::pushed::Pushed;
+use crate::steps::{Steps, push_bytes};
+use crate::token::{Token, push_count};
 use crate::word::WordText;
 use std::alloc::Global;
 
@@ -61,19 +63,8 @@ impl Token for NameText {
 
     ghost grows = { true };
 
-    fn step(&mut self, byte: u8) -> Result<bool, OutOfMemory> {
-        if !self.may_begin(byte) {
-            return Ok(false);
-        }
-        self.word.step(byte)
-    }
-
-    fn run(&mut self, bytes: &[u8]) -> usize {
-        // The first byte goes by `step`.
-        if !self.word.can_end() {
-            return 0;
-        }
-        self.word.run(bytes)
+    fn push(&mut self, bytes: &[u8]) -> Pushed {
+        push_bytes(self, bytes)
     }
 
     fn whole(&self, bytes: &[u8]) -> Option<(Key, usize)> {
@@ -112,4 +103,29 @@ impl Token for NameText {
     ghost one_value = { λ s rest v w h k. word_one s.word.controller s.word.bytes.items rest v w h.0 k.0 };
 
     ghost holds_bytes = { λ s rest v h. word_bytes s.word.controller s.word.bytes.items rest v h.0 };
+}
+
+impl Steps for NameText {
+    type Value = Key;
+
+    ghost rests = { ⟦<NameText as Token>⟧.means };
+
+    ghost room = { ⟦<NameText as Token>⟧.size };
+
+    ghost grows = { ⟦<NameText as Token>⟧.grows };
+
+    fn take_byte(&mut self, byte: u8) -> Result<bool, OutOfMemory> {
+        if !self.may_begin(byte) {
+            return Ok(false);
+        }
+        self.word.step(byte)
+    }
+
+    fn take_run(&mut self, bytes: &[u8]) -> usize {
+        // The first byte goes by `take_byte`.
+        if !self.word.can_end() {
+            return 0;
+        }
+        push_count(&mut self.word, bytes)
+    }
 }

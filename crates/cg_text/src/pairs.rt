@@ -10,6 +10,8 @@ ghost use Rattle.cg_text.specs.declared.pairs.PairPart.TheVariants.{InKey as Key
 use crate::byte::behind_space;
 use crate::decimal::{DecimalText, number_in_front};
 use crate::memory::OutOfMemory;
+use crate::pushed::Pushed;
+use crate::steps::{Steps, push_bytes};
 use crate::token::Token;
 use crate::values::Limit;
 
@@ -393,15 +395,8 @@ impl Token for LimitPairsText {
 
     ghost grows = { false };
 
-    fn step(&mut self, byte: u8) -> Result<bool, OutOfMemory> {
-        match after(self.given, self.part, byte) {
-            Some((given, part)) => {
-                self.given = given;
-                self.part = part;
-                Ok(true)
-            }
-            None => Ok(false),
-        }
+    fn push(&mut self, bytes: &[u8]) -> Pushed {
+        push_bytes(self, bytes)
     }
 
     fn whole(&self, bytes: &[u8]) -> Option<(LimitPairs, usize)> {
@@ -449,4 +444,25 @@ impl Token for LimitPairsText {
     ghost one_value = { λ s. limits_one s.given s.part };
 
     ghost holds_bytes = { λ s. limits_bytes s.given s.part };
+}
+
+impl Steps for LimitPairsText {
+    type Value = LimitPairs;
+
+    ghost rests = { ⟦<LimitPairsText as Token>⟧.means };
+
+    ghost room = { ⟦<LimitPairsText as Token>⟧.size };
+
+    ghost grows = { ⟦<LimitPairsText as Token>⟧.grows };
+
+    fn take_byte(&mut self, byte: u8) -> Result<bool, OutOfMemory> {
+        match after(self.given, self.part, byte) {
+            Some((given, part)) => {
+                self.given = given;
+                self.part = part;
+                Ok(true)
+            }
+            None => Ok(false),
+        }
+    }
 }

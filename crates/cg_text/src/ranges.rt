@@ -8,7 +8,9 @@ ghost use Rattle.cg_text.specs.DecimalState.{decimal_ends};
 use crate::decimal::DecimalText;
 use crate::items::Items;
 use crate::memory::{OutOfMemory, make_room};
-use crate::token::Token;
+use crate::pushed::Pushed;
+use crate::steps::{Steps, push_bytes};
+use crate::token::{Token, push_count};
 use std::alloc::Global;
 
 /// Ranges as they come: in a strict list maximal and in order, in a loose one any.
@@ -156,45 +158,8 @@ impl Token for RangesText {
 
     ghost grows = { true };
 
-    fn step(&mut self, byte: u8) -> Result<bool, OutOfMemory> {
-        match list_byte(self.strict, self.most, self.low, self.number, byte) {
-            ListByte::Digit(number) => {
-                open(&mut self.ranges)?;
-                self.number = number;
-                Ok(true)
-            }
-            ListByte::Comma(end, number) => {
-                let begin = match self.low {
-                    Some(low) => low,
-                    None => end as u32,
-                };
-                close(&mut self.ranges, begin, end as u32)?;
-                self.low = None;
-                self.number = number;
-                Ok(true)
-            }
-            ListByte::Dash(end, number) => {
-                self.low = Some(end as u32);
-                self.number = number;
-                Ok(true)
-            }
-            ListByte::Refused => Ok(false),
-        }
-    }
-
-    fn run(&mut self, bytes: &[u8]) -> usize {
-        let mut number = self.number;
-        let count = number.run(bytes);
-        if count == 0 {
-            return 0;
-        }
-        match open(&mut self.ranges) {
-            Ok(()) => {
-                self.number = number;
-                count
-            }
-            Err(_) => 0,
-        }
+    fn push(&mut self, bytes: &[u8]) -> Pushed {
+        push_bytes(self, bytes)
     }
 
     fn allows(&self, byte: u8) -> bool {
@@ -246,4 +211,55 @@ impl Token for RangesText {
 
     ghost holds_bytes = { λ s rest all h. rest_bytes s.strict s.ranges.items s.most s.low (number_rest s.number)
         (number_digits s.number.lo s.number.hi s.number.progress) (λ rs. all ≡ front s.ranges.items ++ rs) rest h };
+}
+
+impl Steps for RangesText {
+    type Value = Items<(u32, u32)>;
+
+    ghost rests = { ⟦<RangesText as Token>⟧.means };
+
+    ghost room = { ⟦<RangesText as Token>⟧.size };
+
+    ghost grows = { ⟦<RangesText as Token>⟧.grows };
+
+    fn take_byte(&mut self, byte: u8) -> Result<bool, OutOfMemory> {
+        match list_byte(self.strict, self.most, self.low, self.number, byte) {
+            ListByte::Digit(number) => {
+                open(&mut self.ranges)?;
+                self.number = number;
+                Ok(true)
+            }
+            ListByte::Comma(end, number) => {
+                let begin = match self.low {
+                    Some(low) => low,
+                    None => end as u32,
+                };
+                close(&mut self.ranges, begin, end as u32)?;
+                self.low = None;
+                self.number = number;
+                Ok(true)
+            }
+            ListByte::Dash(end, number) => {
+                self.low = Some(end as u32);
+                self.number = number;
+                Ok(true)
+            }
+            ListByte::Refused => Ok(false),
+        }
+    }
+
+    fn take_run(&mut self, bytes: &[u8]) -> usize {
+        let mut number = self.number;
+        let count = push_count(&mut number, bytes);
+        if count == 0 {
+            return 0;
+        }
+        match open(&mut self.ranges) {
+            Ok(()) => {
+                self.number = number;
+                count
+            }
+            Err(_) => 0,
+        }
+    }
 }

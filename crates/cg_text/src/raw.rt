@@ -1,12 +1,12 @@
 //! Raw lines.
-ghost use Rattle.std.specs.Prelude.{◌≡◌, ◌<◌, ◌≤◌, ◌↔◌, true, IsTrue, length, take};
+ghost use Rattle.std.specs.Prelude.{◌≡◌, ◌<◌, ◌≤◌, ◌↔◌, true, IsTrue, length, slice_index, take};
 ghost use Rattle.cg_text.specs.Raw.{IsRawLine};
 ghost use Rattle.cg_text.specs.RawState.{IsRawByte, IsRawRest};
 ghost use Rattle.cg_text.specs.Token.{Spells};
 
 use crate::count::count_before;
 use crate::items::Items;
-use crate::memory::OutOfMemory;
+use crate::pushed::Pushed;
 use crate::token::Token;
 use std::alloc::Global;
 
@@ -27,6 +27,7 @@ pub(crate) fn is_raw_byte(byte: u8) -> bool
 fn raw_length(bytes: &[u8]) -> usize
     ensures within { result ≤ length bytes.now }
     ensures raw { IsRawLine (take result bytes.now) }
+    ensures stops { result < length bytes.now → IsRawByte (slice_index bytes.now result) → ⊥ }
 {
     let (line, _) = bytes.split_at(count_before(b'\n', bytes));
     count_before(0, line)
@@ -60,20 +61,24 @@ impl Token for RawText {
 
     ghost grows = { true };
 
-    fn step(&mut self, byte: u8) -> Result<bool, OutOfMemory> {
-        if !is_raw_byte(byte) {
-            return Ok(false);
-        }
-        self.bytes.push(byte)?;
-        Ok(true)
-    }
-
-    fn run(&mut self, bytes: &[u8]) -> usize {
+    fn push(&mut self, bytes: &[u8]) -> Pushed {
         let count = raw_length(bytes);
+        if count == 0 {
+            return if bytes.is_empty() {
+                Pushed::All
+            } else {
+                Pushed::Refused(0)
+            };
+        }
         let (run, _) = bytes.split_at(count);
         match self.bytes.extend_from_slice(run) {
-            Ok(()) => count,
-            Err(_) => 0,
+            Ok(()) => {}
+            Err(_) => return Pushed::Starved(0),
+        }
+        if count == bytes.len() {
+            Pushed::All
+        } else {
+            Pushed::Refused(count)
         }
     }
 

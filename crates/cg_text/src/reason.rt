@@ -7,7 +7,9 @@ ghost use Rattle.cg_text.specs.Token.{Spells};
 
 use crate::items::Items;
 use crate::memory::OutOfMemory;
+use crate::pushed::Pushed;
 use crate::raw::is_raw_byte;
+use crate::steps::{Steps, push_bytes};
 use crate::token::Token;
 use std::alloc::Global;
 
@@ -46,12 +48,8 @@ impl Token for ReasonText {
 
     ghost grows = { true };
 
-    fn step(&mut self, byte: u8) -> Result<bool, OutOfMemory> {
-        if !is_raw_byte(byte) {
-            return Ok(false);
-        }
-        self.bytes.push(byte)?;
-        Ok(true)
+    fn push(&mut self, bytes: &[u8]) -> Pushed {
+        push_bytes(self, bytes)
     }
 
     fn allows(&self, byte: u8) -> bool {
@@ -85,4 +83,22 @@ impl Token for ReasonText {
     ghost one_value = { λ s rest. reason_one (s.bytes.items ++ rest) };
 
     ghost holds_bytes = { λ s rest v h. reason_bytes s.bytes.items rest v h };
+}
+
+impl Steps for ReasonText {
+    type Value = Items<u8>;
+
+    ghost rests = { ⟦<ReasonText as Token>⟧.means };
+
+    ghost room = { ⟦<ReasonText as Token>⟧.size };
+
+    ghost grows = { ⟦<ReasonText as Token>⟧.grows };
+
+    fn take_byte(&mut self, byte: u8) -> Result<bool, OutOfMemory> {
+        if !is_raw_byte(byte) {
+            return Ok(false);
+        }
+        self.bytes.push(byte)?;
+        Ok(true)
+    }
 }

@@ -9,6 +9,8 @@ ghost use Rattle.cg_text.specs.Token.{Follows, NoneBegins, Spells};
 use crate::decimal::DecimalText;
 use crate::digit::after_digit;
 use crate::memory::OutOfMemory;
+use crate::pushed::Pushed;
+use crate::steps::{Steps, push_bytes};
 use crate::token::Token;
 
 /// What was taken of a number.
@@ -113,14 +115,8 @@ impl Token for SignedText {
 
     ghost grows = { false };
 
-    fn step(&mut self, byte: u8) -> Result<bool, OutOfMemory> {
-        match after(self.taken, byte) {
-            Some(taken) => {
-                self.taken = taken;
-                Ok(true)
-            }
-            None => Ok(false),
-        }
+    fn push(&mut self, bytes: &[u8]) -> Pushed {
+        push_bytes(self, bytes)
     }
 
     fn allows(&self, byte: u8) -> bool {
@@ -167,4 +163,24 @@ impl Token for SignedText {
     ghost one_value = { λ s. signed_one s.taken };
 
     ghost holds_bytes = { λ s. signed_bytes s.taken };
+}
+
+impl Steps for SignedText {
+    type Value = i64;
+
+    ghost rests = { ⟦<SignedText as Token>⟧.means };
+
+    ghost room = { ⟦<SignedText as Token>⟧.size };
+
+    ghost grows = { ⟦<SignedText as Token>⟧.grows };
+
+    fn take_byte(&mut self, byte: u8) -> Result<bool, OutOfMemory> {
+        match after(self.taken, byte) {
+            Some(taken) => {
+                self.taken = taken;
+                Ok(true)
+            }
+            None => Ok(false),
+        }
+    }
 }

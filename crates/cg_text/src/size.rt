@@ -9,6 +9,8 @@ ghost use Rattle.cg_text.specs.Token.{Follows, NoneBegins, Spells};
 use crate::decimal::DecimalText;
 use crate::digit::after_digit;
 use crate::memory::OutOfMemory;
+use crate::pushed::Pushed;
+use crate::steps::{Steps, push_bytes};
 use crate::token::Token;
 
 /// What was taken of a size.
@@ -107,20 +109,14 @@ impl Token for SizeText {
 
     ghost grows = { false };
 
-    fn step(&mut self, byte: u8) -> Result<bool, OutOfMemory> {
-        match after(self.taken, byte) {
-            Some(taken) => {
-                self.taken = taken;
-                Ok(true)
-            }
-            None => Ok(false),
-        }
+    fn push(&mut self, bytes: &[u8]) -> Pushed {
+        push_bytes(self, bytes)
     }
 
     #[inline(always)]
     fn whole(&self, bytes: &[u8]) -> Option<(u64, usize)> {
         let mut token = *self;
-        let count = token.run(bytes);
+        let count = token.push(bytes).used(bytes);
         if token.can_end() {
             Some((token.take(), count))
         } else {
@@ -166,4 +162,24 @@ impl Token for SizeText {
     ghost one_value = { λ s. size_one s.taken };
 
     ghost holds_bytes = { λ s. size_bytes s.taken };
+}
+
+impl Steps for SizeText {
+    type Value = u64;
+
+    ghost rests = { ⟦<SizeText as Token>⟧.means };
+
+    ghost room = { ⟦<SizeText as Token>⟧.size };
+
+    ghost grows = { ⟦<SizeText as Token>⟧.grows };
+
+    fn take_byte(&mut self, byte: u8) -> Result<bool, OutOfMemory> {
+        match after(self.taken, byte) {
+            Some(taken) => {
+                self.taken = taken;
+                Ok(true)
+            }
+            None => Ok(false),
+        }
+    }
 }

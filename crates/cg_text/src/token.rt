@@ -1,11 +1,13 @@
 //! What every token keeps.
 ghost use Rattle.std.specs.Prelude.{◌≡◌, ℕ, ◌+◌, ◌≤◌, ◌↔◌, Bool, List, [], IsTrue, IsFalse, IfSome, OnErr, length, take};
+ghost use Rattle.cg_text.specs.Pushed.{IfStarved, IsWithin, Stops, run_of, used_of};
 ghost use Rattle.cg_text.specs.Scan.{FollowsRun};
 ghost use Rattle.cg_text.specs.Token.{Follows, Begins, NoneBegins, Ends, Same, Completes, HasOneValue, HoldsBytes, IfTaken, IfRefused, IsFront, UnlessTaken, saturated};
 
 use crate::memory::OutOfMemory;
+use crate::pushed::Pushed;
 
-/// A token: it takes the text of one value, a byte at a time, and gives what the text spells.
+/// A token: it takes the text of one value, in pieces of any size, and gives what the text spells.
 pub trait Token: Drop + Sized {
     type Out: Drop;
 
@@ -39,6 +41,16 @@ pub trait Token: Drop + Sized {
     /// A rest holds bytes.
     ghost holds_bytes: { (s : Self) → HoldsBytes means s };
 
+    /// Takes bytes from the front as long as some text goes on with them, and says why it took no more. Memory is
+    /// wanted last: only for a byte with which some rest begins.
+    fn push(&mut self, bytes: &[u8]) -> Pushed
+        ensures within { IsWithin result bytes.now }
+        ensures follows { FollowsRun means self.old (run_of result bytes.now) self.new }
+        ensures stops { Stops (means self.new) bytes.now result }
+        ensures memory { IfStarved result (IsTrue grows) }
+        ensures size { size self.new ≤ size self.old + used_of result bytes.now }
+        ensures same_size { used_of result bytes.now ≡ 0 → size self.new ≡ size self.old };
+
     /// Takes the byte, or refuses it. A token that refuses, or is refused memory, is unchanged. Memory is wanted last:
     /// only for a byte with which some rest begins.
     fn step(&mut self, byte: u8) -> Result<bool, OutOfMemory>
@@ -48,24 +60,13 @@ pub trait Token: Drop + Sized {
         ensures same_size { UnlessTaken result (size self.new ≡ size self.old) }
         ensures size { size self.new ≤ size self.old + 1 }
         ensures memory { OnErr result (IsTrue grows) }
-        ensures last { OnErr result (Begins means self.old byte) };
-
-    /// Takes bytes from the front of `bytes` as `step` would take them one after another, and answers how many. It may
-    /// leave some that `step` would take.
-    fn run(&mut self, bytes: &[u8]) -> usize
-        ensures within { result ≤ length bytes.now }
-        ensures follows { FollowsRun means self.old (take result bytes.now) self.new }
-        ensures size { size self.new ≤ size self.old + result }
-        ensures same_size { result ≡ 0 → size self.new ≡ size self.old }
+        ensures last { OnErr result (Begins means self.old byte) }
     {
-        for (i, byte) in bytes.iter().enumerate() {
-            match self.step(*byte) {
-                Ok(true) => {}
-                Ok(false) => return i,
-                Err(_) => return i,
-            }
+        match self.push(&[byte]) {
+            Pushed::All => Ok(true),
+            Pushed::Refused(_) => Ok(false),
+            Pushed::Starved(_) => Err(OutOfMemory),
         }
-        bytes.len()
     }
 
     /// The value of a rest with which `bytes` begins, and the rest's length. It may find none where there is one, and a
@@ -99,4 +100,15 @@ pub trait Token: Drop + Sized {
     /// The sum of the lengths of the vectors in a value.
     fn held_in(value: &Self::Out) -> u64
         ensures { result ≡ saturated (value_size value.now) };
+}
+
+/// Takes bytes from the front as `push` does, and answers only how many.
+#[inline(always)]
+pub fn push_count<T: Token>(token: &mut T, bytes: &[u8]) -> usize
+    ensures within { result ≤ length bytes.now }
+    ensures follows { FollowsRun T.means token.old (take result bytes.now) token.new }
+    ensures size { T.size token.new ≤ T.size token.old + result }
+    ensures same_size { result ≡ 0 → T.size token.new ≡ T.size token.old }
+{
+    token.push(bytes).used(bytes)
 }

@@ -9,6 +9,8 @@ ghost use Rattle.cg_text.specs.DecimalState.{decimal_ends};
 use crate::byte::behind_space;
 use crate::decimal::{DecimalText, number_in_front};
 use crate::memory::OutOfMemory;
+use crate::pushed::Pushed;
+use crate::steps::{Steps, push_bytes};
 use crate::token::Token;
 
 /// A stall within a window, in microseconds.
@@ -96,19 +98,8 @@ impl Token for TriggerText {
 
     ghost grows = { false };
 
-    fn step(&mut self, byte: u8) -> Result<bool, OutOfMemory> {
-        match self.turn(byte) {
-            TimesByte::Digit(number) => {
-                self.number = number;
-                Ok(true)
-            }
-            TimesByte::Space(stall, number) => {
-                self.stall = Some(stall);
-                self.number = number;
-                Ok(true)
-            }
-            TimesByte::Refused => Ok(false),
-        }
+    fn push(&mut self, bytes: &[u8]) -> Pushed {
+        push_bytes(self, bytes)
     }
 
     fn whole(&self, bytes: &[u8]) -> Option<(Times, usize)> {
@@ -177,4 +168,29 @@ impl Token for TriggerText {
 
     ghost holds_bytes = { λ s. times_bytes s.stall (number_rest s.number)
         (number_digits s.number.lo s.number.hi s.number.progress) };
+}
+
+impl Steps for TriggerText {
+    type Value = Times;
+
+    ghost rests = { ⟦<TriggerText as Token>⟧.means };
+
+    ghost room = { ⟦<TriggerText as Token>⟧.size };
+
+    ghost grows = { ⟦<TriggerText as Token>⟧.grows };
+
+    fn take_byte(&mut self, byte: u8) -> Result<bool, OutOfMemory> {
+        match self.turn(byte) {
+            TimesByte::Digit(number) => {
+                self.number = number;
+                Ok(true)
+            }
+            TimesByte::Space(stall, number) => {
+                self.stall = Some(stall);
+                self.number = number;
+                Ok(true)
+            }
+            TimesByte::Refused => Ok(false),
+        }
+    }
 }

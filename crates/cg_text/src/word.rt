@@ -6,7 +6,7 @@ ghost use Rattle.cg_text.specs.WordLaws.{IsWordFront_prop};
 ghost use Rattle.cg_text.specs.Token.{Spells};
 
 use crate::key::{Key, is_word_byte, word_front};
-use crate::memory::OutOfMemory;
+use crate::pushed::Pushed;
 use crate::token::Token;
 use std::alloc::Global;
 
@@ -73,24 +73,23 @@ impl Token for WordText {
 
     ghost grows = { true };
 
-    fn step(&mut self, byte: u8) -> Result<bool, OutOfMemory> {
-        if !may_stand(self.controller, self.bytes.is_empty(), byte) {
-            return Ok(false);
+    fn push(&mut self, bytes: &[u8]) -> Pushed {
+        if bytes.is_empty() {
+            return Pushed::All;
         }
-        self.bytes.push(byte)?;
-        Ok(true)
-    }
-
-    fn run(&mut self, bytes: &[u8]) -> usize {
-        // Where a word of a controller begins, the byte goes by `step`.
-        if self.controller && self.bytes.is_empty() {
-            return 0;
+        if !may_stand(self.controller, self.bytes.is_empty(), bytes[0]) {
+            return Pushed::Refused(0);
         }
         let (count, _) = word_front(bytes);
         let (run, _) = bytes.split_at(count);
         match self.bytes.extend_from_slice(run) {
-            Ok(()) => count,
-            Err(_) => 0,
+            Ok(()) => {}
+            Err(_) => return Pushed::Starved(0),
+        }
+        if count == bytes.len() {
+            Pushed::All
+        } else {
+            Pushed::Refused(count)
         }
     }
 

@@ -1,7 +1,5 @@
 //! The text of a write of any kind (cgroup-v2.rst, "Interface Files").
-ghost use Rattle.std.specs.Prelude.{◌≡◌, ◌+◌, ◌≤◌, length, take, true, IfSome};
-ghost use Rattle.cg_text.specs.Scan.{FollowsRun};
-ghost use Rattle.cg_text.specs.Texts.{Lacks};
+ghost use Rattle.std.specs.Prelude.{◌≡◌, ◌+◌, take, true, IfSome};
 ghost use Rattle.cg_text.specs.Token.{Spells};
 ghost use Rattle.cg_value.specs.Kind.{IsWriteForm};
 ghost use Rattle.cg_value.specs.Settings.{WriteText};
@@ -23,8 +21,7 @@ use crate::set::SetWrite;
 use crate::signed::SignedWrite;
 use crate::size_limit::SizeLimitWrite;
 use crate::trigger::TriggerWrite;
-use cg_join::{run_line, run_parts};
-use cg_text::{OutOfMemory, Token};
+use cg_text::{Pushed, Token, push_count};
 use cg_value::{Setting, WriteForm, WriteKind};
 use std::alloc::Global;
 
@@ -128,7 +125,7 @@ fn value_of<T: Token>(token: T, text: &[u8]) -> Option<T::Out>
         _ => {}
     }
     let mut token = token;
-    if run_parts(&mut token, text) == text.len() && token.can_end() {
+    if push_count(&mut token, text) == text.len() && token.can_end() {
         Some(token.take())
     } else {
         None
@@ -178,18 +175,6 @@ impl AnyWrite {
     {
         setting_of(alloc, kind.form(), text)
     }
-
-    /// Takes bytes from the front of `bytes`, none of them a newline, and answers how many. It may leave some that
-    /// `step` would take: it stops before a byte that is refused, or for which memory is.
-    pub fn run(&mut self, bytes: &[u8]) -> usize
-        ensures within { result ≤ length bytes.now }
-        ensures plain { Lacks 10 (take result bytes.now) }
-        ensures follows { FollowsRun ⟦<AnyWrite as Token>⟧.means self.old (take result bytes.now) self.new }
-        ensures size { ⟦<AnyWrite as Token>⟧.size self.new ≤ ⟦<AnyWrite as Token>⟧.size self.old + result }
-        ensures same_size { result ≡ 0 → ⟦<AnyWrite as Token>⟧.size self.new ≡ ⟦<AnyWrite as Token>⟧.size self.old }
-    {
-        with_text!(self, text => run_line(text, bytes))
-    }
 }
 
 impl Token for AnyWrite {
@@ -219,8 +204,8 @@ impl Token for AnyWrite {
 
     ghost holds_bytes = { write_holds_bytes };
 
-    fn step(&mut self, byte: u8) -> Result<bool, OutOfMemory> {
-        with_text!(self, text => text.step(byte))
+    fn push(&mut self, bytes: &[u8]) -> Pushed {
+        with_text!(self, text => text.push(bytes))
     }
 
     fn allows(&self, byte: u8) -> bool {

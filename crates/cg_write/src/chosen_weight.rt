@@ -4,7 +4,7 @@ ghost use Rattle.cg_text.specs.Token.{Spells};
 ghost use Rattle.cg_write.specs.Texts.{IsChosen};
 
 use cg_join::{Choice, Either, MapValue, Mapped, decimal_in};
-use cg_text::{DecimalText, Keyword, KeywordText, OutOfMemory, Token};
+use cg_text::{DecimalText, Keyword, KeywordText, Pushed, Token};
 
 /// The value, without how it is spelled.
 #[derive(Clone, Copy)]
@@ -79,12 +79,8 @@ impl Token for ChosenText {
 
     ghost holds_bytes = { λ s. ⟦<Parts as Token>⟧.holds_bytes s.parts };
 
-    fn step(&mut self, byte: u8) -> Result<bool, OutOfMemory> {
-        self.parts.step(byte)
-    }
-
-    fn run(&mut self, bytes: &[u8]) -> usize {
-        self.parts.run(bytes)
+    fn push(&mut self, bytes: &[u8]) -> Pushed {
+        self.parts.push(bytes)
     }
 
     fn whole(&self, bytes: &[u8]) -> Option<(Option<u64>, usize)> {

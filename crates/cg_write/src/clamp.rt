@@ -5,7 +5,7 @@ ghost use Rattle.cg_value.specs.Settings.{WriteText};
 ghost use Rattle.cg_value.specs.declared.kind.WriteForm.TheVariants.{Clamp as ClampForm};
 
 use cg_join::{ClampText, Line, MapValue, Sequence, one_line};
-use cg_text::{ByteText, Clamp, OutOfMemory, Spelling, Token};
+use cg_text::{ByteText, Clamp, Pushed, Spelling, Token};
 use cg_value::Setting;
 
 /// The line, turned into the setting.
@@ -76,12 +76,8 @@ impl Token for ClampWrite {
 
     ghost holds_bytes = { λ s. ⟦<Text as Token>⟧.holds_bytes s.text };
 
-    fn step(&mut self, byte: u8) -> Result<bool, OutOfMemory> {
-        self.text.step(byte)
-    }
-
-    fn run(&mut self, bytes: &[u8]) -> usize {
-        self.text.run(bytes)
+    fn push(&mut self, bytes: &[u8]) -> Pushed {
+        self.text.push(bytes)
     }
 
     fn whole(&self, bytes: &[u8]) -> Option<(Setting, usize)> {

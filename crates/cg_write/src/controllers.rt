@@ -7,7 +7,7 @@ ghost use Rattle.cg_write.specs.Texts.{AreJoinedToggles};
 
 use crate::toggle::{ToggleStart, ToggleText};
 use cg_join::{Line, MapValue, Repeat, Sequence, one_line};
-use cg_text::{ByteText, Items, OutOfMemory, Token};
+use cg_text::{ByteText, Items, Pushed, Token};
 use cg_value::{Setting, Toggle};
 use std::alloc::Global;
 
@@ -91,12 +91,8 @@ impl Token for ControllersWrite {
 
     ghost holds_bytes = { λ s. ⟦<Text as Token>⟧.holds_bytes s.text };
 
-    fn step(&mut self, byte: u8) -> Result<bool, OutOfMemory> {
-        self.text.step(byte)
-    }
-
-    fn run(&mut self, bytes: &[u8]) -> usize {
-        self.text.run(bytes)
+    fn push(&mut self, bytes: &[u8]) -> Pushed {
+        self.text.push(bytes)
     }
 
     fn allows(&self, byte: u8) -> bool {

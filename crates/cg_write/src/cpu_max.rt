@@ -6,7 +6,7 @@ ghost use Rattle.cg_value.specs.declared.kind.WriteForm.TheVariants.{CpuMax as C
 
 use crate::followed::second_of;
 use cg_join::{Line, MapValue, Sequence, WrittenQuota, one_line, written_quota};
-use cg_text::{ByteText, Limit, OutOfMemory, Token};
+use cg_text::{ByteText, Limit, Pushed, Token};
 use cg_value::Setting;
 
 /// The line, turned into the setting.
@@ -82,12 +82,8 @@ impl Token for CpuMaxWrite {
 
     ghost holds_bytes = { λ s. ⟦<Text as Token>⟧.holds_bytes s.text };
 
-    fn step(&mut self, byte: u8) -> Result<bool, OutOfMemory> {
-        self.text.step(byte)
-    }
-
-    fn run(&mut self, bytes: &[u8]) -> usize {
-        self.text.run(bytes)
+    fn push(&mut self, bytes: &[u8]) -> Pushed {
+        self.text.push(bytes)
     }
 
     fn whole(&self, bytes: &[u8]) -> Option<(Setting, usize)> {

@@ -4,7 +4,7 @@ ghost use Rattle.cg_text.specs.Token.{Spells};
 ghost use Rattle.cg_write.specs.Texts.{IsDefault};
 
 use cg_join::{Choice, Either, LabelText, MapValue, Mapped, Spaced, decimal_in, labelled, spaced};
-use cg_text::{DecimalText, Keyword, OutOfMemory, Token};
+use cg_text::{DecimalText, Keyword, Pushed, Token};
 
 /// The value, without how it is spelled.
 #[derive(Clone, Copy)]
@@ -81,12 +81,8 @@ impl Token for DefaultText {
 
     ghost holds_bytes = { λ s. ⟦<Parts as Token>⟧.holds_bytes s.parts };
 
-    fn step(&mut self, byte: u8) -> Result<bool, OutOfMemory> {
-        self.parts.step(byte)
-    }
-
-    fn run(&mut self, bytes: &[u8]) -> usize {
-        self.parts.run(bytes)
+    fn push(&mut self, bytes: &[u8]) -> Pushed {
+        self.parts.push(bytes)
     }
 
     fn whole(&self, bytes: &[u8]) -> Option<(u64, usize)> {

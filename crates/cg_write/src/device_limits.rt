@@ -6,7 +6,7 @@ ghost use Rattle.cg_value.specs.declared.kind.WriteForm.TheVariants.{DeviceLimit
 ghost use Rattle.cg_write.specs.Texts.{IsSpacedLimits};
 
 use cg_join::{DeviceText, Line, MapValue, Sequence, Spaced, one_line, spaced};
-use cg_text::{ByteText, Device, LimitPairs, LimitPairsText, OutOfMemory, Token};
+use cg_text::{ByteText, Device, LimitPairs, LimitPairsText, Pushed, Token};
 use cg_value::Setting;
 
 type Parts = Sequence<DeviceText, Spaced<LimitPairsText>>;
@@ -52,12 +52,8 @@ impl Token for DeviceLimitsText {
 
     ghost holds_bytes = { λ s. ⟦<Parts as Token>⟧.holds_bytes s.parts };
 
-    fn step(&mut self, byte: u8) -> Result<bool, OutOfMemory> {
-        self.parts.step(byte)
-    }
-
-    fn run(&mut self, bytes: &[u8]) -> usize {
-        self.parts.run(bytes)
+    fn push(&mut self, bytes: &[u8]) -> Pushed {
+        self.parts.push(bytes)
     }
 
     fn whole(&self, bytes: &[u8]) -> Option<((Device, ((), LimitPairs)), usize)> {
@@ -161,12 +157,8 @@ impl Token for DeviceLimitsWrite {
 
     ghost holds_bytes = { λ s. ⟦<Text as Token>⟧.holds_bytes s.text };
 
-    fn step(&mut self, byte: u8) -> Result<bool, OutOfMemory> {
-        self.text.step(byte)
-    }
-
-    fn run(&mut self, bytes: &[u8]) -> usize {
-        self.text.run(bytes)
+    fn push(&mut self, bytes: &[u8]) -> Pushed {
+        self.text.push(bytes)
     }
 
     fn whole(&self, bytes: &[u8]) -> Option<(Setting, usize)> {

@@ -5,7 +5,7 @@ ghost use Rattle.cg_value.specs.Settings.{WriteText};
 ghost use Rattle.cg_value.specs.declared.kind.WriteForm.TheVariants.{DeviceTarget as DeviceTargetForm};
 
 use cg_join::{DeviceTarget, Line, MapValue, Sequence, device_target, one_line};
-use cg_text::{ByteText, Device, OutOfMemory, Token};
+use cg_text::{ByteText, Device, Pushed, Token};
 use cg_value::Setting;
 
 /// The line, turned into the setting.
@@ -78,12 +78,8 @@ impl Token for DeviceTargetWrite {
 
     ghost holds_bytes = { λ s. ⟦<Text as Token>⟧.holds_bytes s.text };
 
-    fn step(&mut self, byte: u8) -> Result<bool, OutOfMemory> {
-        self.text.step(byte)
-    }
-
-    fn run(&mut self, bytes: &[u8]) -> usize {
-        self.text.run(bytes)
+    fn push(&mut self, bytes: &[u8]) -> Pushed {
+        self.text.push(bytes)
     }
 
     fn whole(&self, bytes: &[u8]) -> Option<(Setting, usize)> {

@@ -8,7 +8,7 @@ ghost use Rattle.cg_write.specs.Texts.{IsAnyWeight, IsDeviceAndWeight};
 use crate::chosen_weight::ChosenText;
 use crate::default_weight::DefaultText;
 use cg_join::{Choice, DeviceText, Either, Line, MapValue, Sequence, Spaced, one_line, spaced};
-use cg_text::{ByteText, Device, OutOfMemory, Token};
+use cg_text::{ByteText, Device, Pushed, Token};
 use cg_value::Setting;
 
 /// A device, a space and its weight.
@@ -67,12 +67,8 @@ impl Token for AnyWeightText {
 
     ghost holds_bytes = { λ s. ⟦<Parts as Token>⟧.holds_bytes s.parts };
 
-    fn step(&mut self, byte: u8) -> Result<bool, OutOfMemory> {
-        self.parts.step(byte)
-    }
-
-    fn run(&mut self, bytes: &[u8]) -> usize {
-        self.parts.run(bytes)
+    fn push(&mut self, bytes: &[u8]) -> Pushed {
+        self.parts.push(bytes)
     }
 
     fn whole(&self, bytes: &[u8]) -> Option<(Either<u64, (Device, ((), Option<u64>))>, usize)> {
@@ -174,12 +170,8 @@ impl Token for DeviceWeightWrite {
 
     ghost holds_bytes = { λ s. ⟦<Text as Token>⟧.holds_bytes s.text };
 
-    fn step(&mut self, byte: u8) -> Result<bool, OutOfMemory> {
-        self.text.step(byte)
-    }
-
-    fn run(&mut self, bytes: &[u8]) -> usize {
-        self.text.run(bytes)
+    fn push(&mut self, bytes: &[u8]) -> Pushed {
+        self.text.push(bytes)
     }
 
     fn whole(&self, bytes: &[u8]) -> Option<(Setting, usize)> {

@@ -5,7 +5,7 @@ ghost use Rattle.cg_value.specs.Settings.{WriteText};
 ghost use Rattle.cg_value.specs.declared.kind.WriteForm.TheVariants.{Number as NumberForm};
 
 use cg_join::{Line, MapValue, Sequence, decimal_in, one_line};
-use cg_text::{ByteText, DecimalText, OutOfMemory, Token};
+use cg_text::{ByteText, DecimalText, Pushed, Token};
 use cg_value::Setting;
 
 /// The line, turned into the setting.
@@ -77,12 +77,8 @@ impl Token for NumberWrite {
 
     ghost holds_bytes = { λ s. ⟦<Text as Token>⟧.holds_bytes s.text };
 
-    fn step(&mut self, byte: u8) -> Result<bool, OutOfMemory> {
-        self.text.step(byte)
-    }
-
-    fn run(&mut self, bytes: &[u8]) -> usize {
-        self.text.run(bytes)
+    fn push(&mut self, bytes: &[u8]) -> Pushed {
+        self.text.push(bytes)
     }
 
     fn whole(&self, bytes: &[u8]) -> Option<(Setting, usize)> {

@@ -5,7 +5,7 @@ ghost use Rattle.cg_value.specs.Settings.{WriteText};
 ghost use Rattle.cg_value.specs.declared.kind.WriteForm.TheVariants.{Raw as RawForm};
 
 use cg_join::{Line, MapValue, Sequence, one_line};
-use cg_text::{ByteText, Items, OutOfMemory, RawText, Token};
+use cg_text::{ByteText, Items, Pushed, RawText, Token};
 use cg_value::Setting;
 use std::alloc::Global;
 
@@ -77,12 +77,8 @@ impl Token for RawWrite {
 
     ghost holds_bytes = { λ s. ⟦<Text as Token>⟧.holds_bytes s.text };
 
-    fn step(&mut self, byte: u8) -> Result<bool, OutOfMemory> {
-        self.text.step(byte)
-    }
-
-    fn run(&mut self, bytes: &[u8]) -> usize {
-        self.text.run(bytes)
+    fn push(&mut self, bytes: &[u8]) -> Pushed {
+        self.text.push(bytes)
     }
 
     fn allows(&self, byte: u8) -> bool {

@@ -10,7 +10,9 @@ use cg_join::{
     Choice, Either, LabelText, Line, MapValue, Mapped, Maybe, Sequence, decimal_in, labelled,
     one_line,
 };
-use cg_text::{ByteText, DecimalText, Keyword, KeywordText, Limit, OutOfMemory, SizeText, Token};
+use cg_text::{
+    ByteText, DecimalText, Keyword, KeywordText, Limit, OutOfMemory, Pushed, SizeText, Token,
+};
 use cg_value::Setting;
 
 /// The swappiness of a choice.
@@ -140,12 +142,13 @@ impl Token for ReclaimWrite {
 
     ghost holds_bytes = { λ s. ⟦<Text as Token>⟧.holds_bytes s.text };
 
-    fn step(&mut self, byte: u8) -> Result<bool, OutOfMemory> {
-        self.text.step(byte)
+    fn push(&mut self, bytes: &[u8]) -> Pushed {
+        self.text.push(bytes)
     }
 
-    fn run(&mut self, bytes: &[u8]) -> usize {
-        self.text.run(bytes)
+    // The body of the trait, which the borrow checker doesn't cover here: it can't read a type inside of the text.
+    fn step(&mut self, byte: u8) -> Result<bool, OutOfMemory> {
+        self.text.step(byte)
     }
 
     fn whole(&self, bytes: &[u8]) -> Option<(Setting, usize)> {

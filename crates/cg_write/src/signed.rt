@@ -5,7 +5,7 @@ ghost use Rattle.cg_value.specs.Settings.{WriteText};
 ghost use Rattle.cg_value.specs.declared.kind.WriteForm.TheVariants.{Signed as SignedForm};
 
 use cg_join::{Line, MapValue, Sequence, one_line};
-use cg_text::{ByteText, OutOfMemory, SignedText, Token};
+use cg_text::{ByteText, Pushed, SignedText, Token};
 use cg_value::Setting;
 
 /// The line, turned into the setting.
@@ -80,12 +80,8 @@ impl Token for SignedWrite {
 
     ghost holds_bytes = { λ s. ⟦<Text as Token>⟧.holds_bytes s.text };
 
-    fn step(&mut self, byte: u8) -> Result<bool, OutOfMemory> {
-        self.text.step(byte)
-    }
-
-    fn run(&mut self, bytes: &[u8]) -> usize {
-        self.text.run(bytes)
+    fn push(&mut self, bytes: &[u8]) -> Pushed {
+        self.text.push(bytes)
     }
 
     fn allows(&self, byte: u8) -> bool {

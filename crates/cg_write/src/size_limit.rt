@@ -6,7 +6,7 @@ ghost use Rattle.cg_value.specs.declared.kind.WriteForm.TheVariants.{SizeLimit a
 ghost use Rattle.cg_write.specs.Texts.{IsSizeOrMax};
 
 use cg_join::{Choice, Either, Line, MapValue, Sequence, one_line};
-use cg_text::{ByteText, Keyword, KeywordText, Limit, OutOfMemory, SizeText, Token};
+use cg_text::{ByteText, Keyword, KeywordText, Limit, Pushed, SizeText, Token};
 use cg_value::Setting;
 
 /// A size in bytes, or the word `max`.
@@ -91,12 +91,8 @@ impl Token for SizeLimitWrite {
 
     ghost holds_bytes = { λ s. ⟦<Text as Token>⟧.holds_bytes s.text };
 
-    fn step(&mut self, byte: u8) -> Result<bool, OutOfMemory> {
-        self.text.step(byte)
-    }
-
-    fn run(&mut self, bytes: &[u8]) -> usize {
-        self.text.run(bytes)
+    fn push(&mut self, bytes: &[u8]) -> Pushed {
+        self.text.push(bytes)
     }
 
     fn whole(&self, bytes: &[u8]) -> Option<(Setting, usize)> {

@@ -4,7 +4,7 @@ ghost use Rattle.cg_text.specs.Token.{Spells};
 ghost use Rattle.cg_write.specs.Texts.{IsSign, IsToggle};
 
 use cg_join::{Choice, Either, MakeToken, MapValue, Mapped, Sequence};
-use cg_text::{ByteText, Key, OutOfMemory, Token, WordText};
+use cg_text::{ByteText, Key, Pushed, Token, WordText};
 use cg_value::Toggle;
 use std::alloc::Global;
 
@@ -95,12 +95,8 @@ impl Token for ToggleText {
     ghost holds_bytes = { λ s. ⟦<Parts as Token>⟧.holds_bytes s.parts };
 
     #[inline(always)]
-    fn step(&mut self, byte: u8) -> Result<bool, OutOfMemory> {
-        self.parts.step(byte)
-    }
-
-    fn run(&mut self, bytes: &[u8]) -> usize {
-        self.parts.run(bytes)
+    fn push(&mut self, bytes: &[u8]) -> Pushed {
+        self.parts.push(bytes)
     }
 
     fn whole(&self, bytes: &[u8]) -> Option<(Toggle, usize)> {

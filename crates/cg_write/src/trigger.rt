@@ -6,7 +6,7 @@ ghost use Rattle.cg_value.specs.declared.kind.WriteForm.TheVariants.{Trigger as 
 ghost use Rattle.cg_write.specs.Texts.{IsThreshold};
 
 use cg_join::{Choice, Either, Line, MapValue, Sequence, Spaced, one_line, spaced};
-use cg_text::{ByteText, Keyword, KeywordText, OutOfMemory, Times, Token, TriggerText};
+use cg_text::{ByteText, Keyword, KeywordText, Pushed, Times, Token, TriggerText};
 use cg_value::Setting;
 
 /// `some` or `full`.
@@ -103,12 +103,8 @@ impl Token for TriggerWrite {
 
     ghost holds_bytes = { λ s. ⟦<Text as Token>⟧.holds_bytes s.text };
 
-    fn step(&mut self, byte: u8) -> Result<bool, OutOfMemory> {
-        self.text.step(byte)
-    }
-
-    fn run(&mut self, bytes: &[u8]) -> usize {
-        self.text.run(bytes)
+    fn push(&mut self, bytes: &[u8]) -> Pushed {
+        self.text.push(bytes)
     }
 
     fn whole(&self, bytes: &[u8]) -> Option<(Setting, usize)> {

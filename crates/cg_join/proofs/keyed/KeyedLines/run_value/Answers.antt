@@ -13,7 +13,7 @@ invariant_of-self g c =
     record {
       key_delimiter = old.key_delimiter;
       key_end = old.key_end;
-      value_end = lacks_run old.end (g.V.Token.means old.value) (g.V.Token.means c.run_parts.new.token) (take c.run_parts.result c.args.bytes.now) c.run_parts.ensures.follows old.value_end;
+      value_end = lacks_run old.end (g.V.Token.means old.value) (g.V.Token.means c.push_count.new.token) (take c.push_count.result c.args.bytes.now) c.push_count.ensures.follows old.value_end;
       apart = old.apart;
       small_delimiter = old.small_delimiter;
       small_end = old.small_end;
@@ -36,6 +36,6 @@ returns-clause-follows g c =
     let bare_value = g.B.MakeValue.bare_value old.values in
     let K = word_text.ghosts.means old.key in
     let R = IsKeyed k v (SpellsWord old.keys.controller) (g.B.MakeToken.texts old.values) bare_value old.delimiter in
-    let new = c.run_parts.new.token in
+    let new = c.push_count.new.token in
     rw c.requires (line_value_run k v given items R bare_value old.delimiter old.end K old.ended.items (g.V.Token.means old.value) (g.V.Token.means new)
-    (take c.run_parts.result c.args.bytes.now) old.value_end (g.V.Token.completes new) c.run_parts.ensures.follows)
+    (take c.push_count.result c.args.bytes.now) old.value_end (g.V.Token.completes new) c.push_count.ensures.follows)

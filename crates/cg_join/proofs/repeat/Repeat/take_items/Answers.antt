@@ -1,6 +1,6 @@
 use Rattle.std.proofs.Common.{arith}
 use Rattle.cg_join.specs.Repeat.{IsListAfter}
-use Rattle.cg_join.specs.RunLaws.{run_joined}
+use Rattle.cg_text.specs.PushLaws.{run_joined}
 use Rattle.cg_join.proofs.repeat.Repeat.take_items.Goals as goal
 
 pub returns-then-count-eq0-clause-follows : goal.returns-then-count-eq0-clause-follows
