@@ -1,5 +1,5 @@
 -- Texts of several values, one after another (cgroup-v2.rst, cpu.max, io.max, io.latency and io.weight; psi.rst, the averages).
-use Rattle.std.specs.Prelude.{ℕ, List, [], ◌∷◌, Option}
+use Rattle.std.specs.Prelude.{◌≡◌, ℕ, Bool, IsTrue, List, [], ◌∷◌, Option, codes}
 use Rattle.cg_text.specs.Decimal.{IsDecimal}
 use Rattle.cg_text.specs.Device.{IsDevice}
 use Rattle.cg_text.specs.Hundredths.{IsHundredths}
@@ -11,6 +11,7 @@ use Rattle.cg_text.specs.declared.keyword.Keyword.TheVariants as keyword
 use Rattle.cg_text.specs.declared.values.Device.{Device}
 use Rattle.cg_text.specs.declared.values.Hundredths.{Hundredths}
 use Rattle.cg_text.specs.declared.values.Limit.{Limit}
+use Rattle.cg_text.specs.declared.values.Limit.TheVariants.{Max, At}
 use Rattle.cg_join.specs.Maybe.{IsMaybe}
 use Rattle.cg_join.specs.Spelling.{IsConcat}
 use Rattle.cg_join.specs.TextBytes.{IsFixed}
@@ -26,6 +27,11 @@ IsLimitIn lo hi text v = IsLimit lo hi v text
 
 abbrev pub IsAnyLimit : List ℕ → Limit → Type 0
 IsAnyLimit text v = IsLimit 0 18446744073709551615 v text
+
+-- A number from lo to hi or, where it may be, max.
+abbrev pub IsLimitWhere : Bool → ℕ → ℕ → List ℕ → Limit → Type 0
+IsLimitWhere max lo hi text Max = IsTrue max × (text ≡ codes "max")
+IsLimitWhere max lo hi text (At n) = IsDecimal lo hi n text
 
 abbrev pub IsADevice : List ℕ → Device → Type 0
 IsADevice text v = IsDevice v text

@@ -2,7 +2,9 @@
 ghost use Rattle.std.specs.Prelude.{◌≡◌, ◌≤◌, ◌<◌, MatchOption, ⊤, false, refl};
 ghost use Rattle.cg_text.specs.Token.{Spells};
 ghost use Rattle.cg_text.specs.Limit.{IsLimit};
+ghost use Rattle.cg_join.specs.Composites.{IsLimitWhere};
 
+use crate::bounded::decimal_in;
 use crate::choice::{Choice, Either};
 use crate::mapped::{MapValue, Mapped};
 use cg_text::{DecimalText, Keyword, KeywordText, Limit, Pushed, Token};
@@ -56,6 +58,19 @@ impl LimitText {
                 parts: Mapped::new(Choice::new(number, KeywordText::new(Keyword::Max))),
             }),
             None => None,
+        }
+    }
+
+    /// A token of the numbers from `lo` to `hi` and, where `max`, of `max` too.
+    pub fn conditional(lo: u64, hi: u64, max: bool) -> LimitText
+        requires { lo ≤ hi }
+        ensures spells { Spells ⟦<LimitText as Token>⟧.means result (IsLimitWhere max lo hi) }
+        ensures size { ⟦<LimitText as Token>⟧.size result ≡ 0 }
+    {
+        let number = decimal_in(lo, hi);
+        let word = KeywordText::new(Keyword::Max);
+        LimitText {
+            parts: Mapped::new(Choice::conditional(number, word, max)),
         }
     }
 }

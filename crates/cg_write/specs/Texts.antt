@@ -14,14 +14,14 @@ use Rattle.cg_text.specs.declared.pairs.LimitPairs.{LimitPairs}
 use Rattle.cg_text.specs.declared.trigger.Times.{Times}
 use Rattle.cg_text.specs.declared.values.Device.{Device}
 use Rattle.cg_text.specs.declared.values.Limit.{Limit}
-use Rattle.cg_join.specs.Composites.{IsADevice, IsLabelled, IsNumberIn, IsSpaced}
+use Rattle.cg_join.specs.Composites.{IsADevice, IsLabelled, IsLimitWhere, IsNumberIn, IsSpaced}
 use Rattle.cg_join.specs.Maybe.{IsMaybe}
 use Rattle.cg_join.specs.Repeat.{AreJoined}
-use Rattle.cg_join.specs.Spelling.{IsAllowed, IsConcat, IsEither}
+use Rattle.cg_join.specs.Spelling.{IsConcat, IsEither}
 use Rattle.cg_join.specs.TextBytes.{IsFixed}
 use Rattle.cg_join.specs.WordStartLaws.{SpellsWord}
 use Rattle.cg_join.specs.declared.choice.Either.{Either}
-use Rattle.cg_value.specs.WriteLine.{IsDefaultWrite, IsSwappiness, sign_of}
+use Rattle.cg_value.specs.WriteLine.{IsDefaultWrite, sign_of}
 use Rattle.cg_value.specs.declared.setting.Toggle.{Toggle}
 
 -- Which of two words.
@@ -43,10 +43,7 @@ IsSizeOrMax text v = IsEither IsASize (IsFixed (text_of word.Max)) text v
 
 -- A swappiness, a number or, where it may be, max; after its label; and a size, alone or with it.
 abbrev pub IsASwappiness : Bool → List ℕ → Limit → Type 0
-IsASwappiness max text v = IsSwappiness max v text
-
-abbrev pub IsNumberOrMax : Bool → List ℕ → Either ℕ (Unit {0}) → Type 0
-IsNumberOrMax max text v = IsEither (IsNumberIn 0 200) (IsAllowed max (IsFixed (text_of word.Max))) text v
+IsASwappiness max text v = IsLimitWhere max 0 200 text v
 
 abbrev pub IsLabelledSwappiness : Bool → List ℕ → Unit {0} × Limit → Type 0
 IsLabelledSwappiness max text v = IsLabelled word.Swappiness (IsASwappiness max) text v

@@ -3,61 +3,15 @@ ghost use Rattle.std.specs.Prelude.{◌≡◌};
 ghost use Rattle.cg_text.specs.Token.{Spells};
 ghost use Rattle.cg_value.specs.Settings.{WriteText};
 ghost use Rattle.cg_value.specs.declared.kind.WriteForm.TheVariants.{Reclaim as ReclaimForm};
-ghost use Rattle.cg_write.specs.Texts.{IsASwappiness, IsWrittenReclaim};
+ghost use Rattle.cg_write.specs.Texts.{IsWrittenReclaim};
 
 use crate::followed::second_of;
-use cg_join::{
-    Choice, Either, LabelText, Line, MapValue, Mapped, Maybe, Sequence, decimal_in, labelled,
-    one_line,
-};
-use cg_text::{
-    ByteText, DecimalText, Keyword, KeywordText, Limit, OutOfMemory, Pushed, SizeText, Token,
-};
+use cg_join::{LabelText, LimitText, Line, MapValue, Maybe, Sequence, labelled, one_line};
+use cg_text::{ByteText, Keyword, Limit, Pushed, SizeText, Token};
 use cg_value::Setting;
 
-/// The swappiness of a choice.
-#[derive(Clone, Copy)]
-struct ToSwappiness;
-
-impl MapValue<Choice<DecimalText, KeywordText>> for ToSwappiness {
-    type To = Limit;
-
-    ghost use Rattle.cg_join.specs.LimitState.{limit_of};
-    ghost use Rattle.std.proofs.Common.{arith};
-
-    ghost mapped = { limit_of };
-
-    ghost value_size = { λ _. 0 };
-
-    fn map_value(value: Either<u64, ()>) -> Limit {
-        match value {
-            Either::Left(number) => Limit::At(number),
-            Either::Right(_) => Limit::Max,
-        }
-    }
-
-    fn held_in(_value: &Limit) -> u64 {
-        0
-    }
-
-    ghost adds_no_memory = { λ v. Prim.omega arith };
-}
-
-/// A number, or `max`.
-type SwappinessText = Mapped<Choice<DecimalText, KeywordText>, ToSwappiness>;
-
-/// A number of at most 200, or, where `max`, also `max`.
-fn swappiness_text(max: bool) -> SwappinessText
-    ensures spells { Spells ⟦<SwappinessText as Token>⟧.means result (IsASwappiness max) }
-    ensures size { ⟦<SwappinessText as Token>⟧.size result ≡ 0 }
-{
-    let number = decimal_in(0, 200);
-    let word = KeywordText::new(Keyword::Max);
-    Mapped::new(Choice::conditional(number, word, max))
-}
-
 /// A size, and perhaps ` swappiness=` and a swappiness.
-type ReclaimText = Sequence<SizeText, Maybe<LabelText<SwappinessText>>>;
+type ReclaimText = Sequence<SizeText, Maybe<LabelText<LimitText>>>;
 
 /// A size, and perhaps ` swappiness=` and a swappiness.
 fn reclaim_text(max: bool) -> ReclaimText
@@ -65,7 +19,7 @@ fn reclaim_text(max: bool) -> ReclaimText
     ensures size { ⟦<ReclaimText as Token>⟧.size result ≡ 0 }
 {
     let size = SizeText::new();
-    let swappiness = labelled(Keyword::Swappiness, swappiness_text(max));
+    let swappiness = labelled(Keyword::Swappiness, LimitText::conditional(0, 200, max));
     Sequence::new(size, Maybe::new(swappiness))
 }
 
@@ -144,11 +98,6 @@ impl Token for ReclaimWrite {
 
     fn push(&mut self, bytes: &[u8]) -> Pushed {
         self.text.push(bytes)
-    }
-
-    // The body of the trait, which the borrow checker doesn't cover here: it can't read a type inside of the text.
-    fn step(&mut self, byte: u8) -> Result<bool, OutOfMemory> {
-        self.text.step(byte)
     }
 
     fn whole(&self, bytes: &[u8]) -> Option<(Setting, usize)> {

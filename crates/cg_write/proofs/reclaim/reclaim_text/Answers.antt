@@ -10,10 +10,10 @@ new-requires-clause-filled c = filled_spelled c.labelled-swappiness.ensures.spel
 
 pub new-requires-2 : goal.new-requires-2
 new-requires-2 c =
-    let swappiness = maybe_spells (label_spells c.swappiness_text.ensures.spells c.labelled-swappiness.ensures.spells) c.new.ensures.spells in
+    let swappiness = maybe_spells (label_spells c.conditional.ensures.spells c.labelled-swappiness.ensures.spells) c.new.ensures.spells in
     apart_spells c.new-size.ensures.spells swappiness (reclaim_apart c.args.max)
 
 pub returns-clause-spells : goal.returns-clause-spells
 returns-clause-spells c =
-    let swappiness = maybe_spells (label_spells c.swappiness_text.ensures.spells c.labelled-swappiness.ensures.spells) c.new.ensures.spells in
+    let swappiness = maybe_spells (label_spells c.conditional.ensures.spells c.labelled-swappiness.ensures.spells) c.new.ensures.spells in
     sequence_spells c.new-size.ensures.spells swappiness c.new-2.ensures.spells
