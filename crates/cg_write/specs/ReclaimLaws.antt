@@ -56,8 +56,8 @@ swappiness_lacking max = record { is = λ front more v h. at_limit front more v 
 both_are : (max : Bool) (v : ℕ) (w : Limit) (text : List ℕ) →
     HasParts IsSize (codes " swappiness=") (λ w t. IsASwappiness max t w) v w text ↔ IsReclaim max v (Some w) text
 both_are max v w text = (
-    λ h. record { front = h.front; back = h.back; text_is = h.text_is; front_is = h.front_is; back_is = (swappiness_is max w h.back).0 h.back_is },
-    λ h. record { front = h.front; back = h.back; text_is = h.text_is; front_is = h.front_is; back_is = (swappiness_is max w h.back).1 h.back_is },
+  λ h. record { front = h.front; back = h.back; text_is = h.text_is; front_is = h.front_is; back_is = (swappiness_is max w h.back).0 h.back_is },
+  λ h. record { front = h.front; back = h.back; text_is = h.text_is; front_is = h.front_is; back_is = (swappiness_is max w h.back).1 h.back_is },
 )
 
 pub reclaim_is : (max : Bool) (text : List ℕ) (x : ℕ × Option Limit) → IsMappedText (IsWrittenReclaim max) perhaps_both text x ↔ IsReclaim max (x.0) (x.1) text
