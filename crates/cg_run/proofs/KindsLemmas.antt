@@ -3,17 +3,11 @@ use Rattle.std.proofs.Common.{◌≡◌, ℕ, None, ◌+◌, ◌<◌, ◌≤◌,
 use Rattle.std.proofs.lemmas.List.{get_or-map, length-map, take_more, take_all, take-append-le}
 use Rattle.std.proofs.Math.Seq.{take-append-add}
 use Rattle.cg_value.specs.Table.{row, rows}
-use Rattle.cg_value.specs.TableRows.{longest, row_at}
+use Rattle.cg_value.specs.TableRows.{row_at}
 use Rattle.cg_value.specs.declared.profile.Profile.{Profile}
 use Rattle.cg_value.specs.declared.profile.Profile.TheVariants.{One, Two, Kernel}
 use Rattle.cg_run.specs.Kinds.{kinds_line, kinds_lines}
 use Rattle.cg_run.specs.Run.{joined}
-
--- The longest name of a row.
-pub longest_name : (profile : Profile) → longest (rows profile) ≤ 31
-longest_name One = omega arith
-longest_name Two = omega arith
-longest_name Kernel = omega arith
 
 -- No profile has more rows than these.
 pub few_rows : (profile : Profile) → length (rows profile) ≤ 86
