@@ -17,7 +17,9 @@ use cg_run::{Command, CutSource, Outcome, parse_words, run, status};
 use cg_snap::{
     Event, Limits, Progress, Pulled, SnapshotDecoder, Stop, StreamFault, Why, decode_snapshot,
 };
-use cg_text::{Items, Key, KeyFault, NumberSet, OutOfMemory, StrictListText, Token};
+use cg_text::{
+    Items, Key, KeyFault, NumberSet, OutOfMemory, Pushed, StrictListText, Token, WordText,
+};
 use cg_value::{
     Entry, Flat, FlatRefused, PlanItem, Profile, Setting, Value, read_kind, write_kind,
 };
@@ -522,6 +524,20 @@ fn tokens(rt: HostRuntime) -> Result<(), Fail> {
     let is_taken = takes_starved(rt.alloc(), &mut token, b"0-3,5")?;
     assert!(rt; is_taken);
     assert!(rt; token.can_end());
+    Ok(())
+}
+
+/// Of a word, the bytes at hand are taken all at once; where there is no room for them, none of them is.
+#[test]
+fn words(rt: HostRuntime) -> Result<(), Fail> {
+    let word = b"hierarchical_memory_limit.and_what_comes_behind_it";
+    let mut token = WordText::new(rt.alloc(), false);
+    let held = hog(rt.alloc())?;
+    let starved = token.push(word);
+    let is_begun = token.can_end();
+    drop(held);
+    assert!(rt; starved == Pushed::Starved(0) && !is_begun, "{starved:?}");
+    assert!(rt; token.push(word) == Pushed::All && token.can_end());
     Ok(())
 }
 
