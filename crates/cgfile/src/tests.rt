@@ -5,5 +5,6 @@ mod entries;
 mod held;
 mod snapshots;
 mod starved;
+mod starved_bytes;
 mod starved_streams;
 mod values;
