@@ -31,7 +31,6 @@ use cg_value::{ReadForm, ReadKind, Value};
 use std::alloc::Global;
 
 /// The text of a file of any kind, a variant for each.
-#[derive(Drop)]
 pub enum AnyFile {
     Number(NumberFile),
     Signed(SignedFile),
@@ -85,6 +84,14 @@ macro_rules! with_text {
             AnyFile::Raw($text) => $call,
         }
     };
+}
+
+/// Drops the token of the kind. By hand, as a derived `drop` is proved anew in each crate above, with all that is below
+/// it, and a written one here alone.
+impl Drop for AnyFile {
+    fn drop(self) {
+        with_text!(self, _text => {})
+    }
 }
 
 /// The text of a file of one of the kinds.

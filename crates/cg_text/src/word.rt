@@ -95,7 +95,7 @@ impl Token for WordText {
 
     #[inline(always)]
     fn whole(&self, bytes: &[u8]) -> Option<(Key, usize)> {
-        // Where something was taken, the bytes go by `step`.
+        // Where something was taken, the bytes are pushed.
         if !self.bytes.is_empty()
             || bytes.is_empty()
             || !may_stand(self.controller, true, bytes[0])

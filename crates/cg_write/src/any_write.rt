@@ -26,7 +26,6 @@ use cg_value::{Setting, WriteForm, WriteKind};
 use std::alloc::Global;
 
 /// The text of a write of any kind, a variant for each.
-#[derive(Drop)]
 pub enum AnyWrite {
     /// A number.
     Number(NumberWrite),
@@ -87,6 +86,14 @@ macro_rules! with_text {
             AnyWrite::Raw($text) => $call,
         }
     };
+}
+
+/// Drops the token of the kind. By hand, as a derived `drop` is proved anew in each crate above, with all that is below
+/// it, and a written one here alone.
+impl Drop for AnyWrite {
+    fn drop(self) {
+        with_text!(self, _text => {})
+    }
 }
 
 /// The text of a write of one of the kinds.
