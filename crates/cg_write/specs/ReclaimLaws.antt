@@ -1,6 +1,5 @@
 -- What holds of the lines of sizes to reclaim.
 use Rattle.std.proofs.Common.{ℕ, ◌↔◌, Bool, List, ◌∷◌, ◌++◌, Option, Some, refl, arith, codes}
-use Rattle.cg_text.specs.Decimal.{IsDecimal}
 use Rattle.cg_text.specs.Keyword.{text_of}
 use Rattle.cg_text.specs.Size.{IsSize}
 use Rattle.cg_text.specs.Token.{HasOneText}

@@ -1,4 +1,4 @@
-use Rattle.std.proofs.Common.{◌≡◌, ◌++◌, ◌∷◌, ◌≤◌, ◌<◌, ◌-◌, ◌⊎◌, [], List, ℕ, length, take, None, refl, sym, ap, subst, ◌∙◌, ◌+◌, inl, arith, append_assoc}
+use Rattle.std.proofs.Common.{◌≡◌, ◌++◌, ◌∷◌, ◌≤◌, ◌-◌, ◌⊎◌, [], List, ℕ, length, take, None, refl, sym, ap, subst, ◌∙◌, ◌+◌, inl, arith, append_assoc}
 use Rattle.std.proofs.lemmas.Bool.{MatchBool-at_false}
 use Rattle.std.proofs.lemmas.List.{length-take-le, take-take}
 use Rattle.cg_value.specs.declared.profile.Profile.{Profile}
