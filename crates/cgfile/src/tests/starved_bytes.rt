@@ -1,5 +1,5 @@
-//! Single bytes and whole words, given to readers and tokens with the heap starved: after each refusal one block is given
-//! back, and the byte is given again.
+//! Bytes and a word, given to readers and tokens with the heap starved: after each refusal one block is given back, and
+//! the byte is given again.
 use crate::tests::starved::hog;
 use cg_line::{PushFault, SettingReader, ValueReader};
 use cg_text::{Items, Pushed, StrictListText, Token, WordText};
