@@ -2,8 +2,8 @@
 use Rattle.std.proofs.Common.{◌↔◌, IsTrue}
 use Rattle.cg_text.specs.Token.{Completes, Ends, HasOneValue, HoldsBytes}
 use Rattle.cg_file.specs.AnyFile.{file_ends, file_rests}
-use Rattle.cg_file.specs.contracts.clamp.ClampFileToken.TheImpl as clamp
-use Rattle.cg_file.specs.contracts.class.ClassFileToken.TheImpl as class
+use Rattle.cg_file.specs.contracts.clamp.ToClampNamedTokenClampFile.TheImpl as clamp
+use Rattle.cg_file.specs.contracts.class.ToClassNamedTokenClassFile.TheImpl as class
 use Rattle.cg_file.specs.contracts.cpu_max.CpuMaxFileToken.TheImpl as cpu_max
 use Rattle.cg_file.specs.contracts.device_limits.DeviceLimitsFileToken.TheImpl as device_limits
 use Rattle.cg_file.specs.contracts.device_params.DeviceParamsFileToken.TheImpl as device_params
@@ -12,29 +12,29 @@ use Rattle.cg_file.specs.contracts.device_targets.DeviceTargetsFileToken.TheImpl
 use Rattle.cg_file.specs.contracts.device_weights.DeviceWeightsFileToken.TheImpl as device_weights
 use Rattle.cg_file.specs.contracts.flat.FlatFileToken.TheImpl as flat
 use Rattle.cg_file.specs.contracts.flat_limits.FlatLimitsFileToken.TheImpl as flat_limits
-use Rattle.cg_file.specs.contracts.limit.LimitFileToken.TheImpl as limit
-use Rattle.cg_file.specs.contracts.mode.ModeFileToken.TheImpl as mode
+use Rattle.cg_file.specs.contracts.limit.ToLimitNamedTokenLimitFile.TheImpl as limit
+use Rattle.cg_file.specs.contracts.mode.ToModeNamedTokenModeFile.TheImpl as mode
 use Rattle.cg_file.specs.contracts.nested.NestedFileToken.TheImpl as nested
 use Rattle.cg_file.specs.contracts.node_stats.NodeStatsFileToken.TheImpl as node_stats
-use Rattle.cg_file.specs.contracts.number.NumberFileToken.TheImpl as number
+use Rattle.cg_file.specs.contracts.number.ToNumberNamedTokenNumberFile.TheImpl as number
 use Rattle.cg_file.specs.contracts.numbers.NumbersFileToken.TheImpl as numbers
 use Rattle.cg_file.specs.contracts.partition.PartitionFileToken.TheImpl as partition
 use Rattle.cg_file.specs.contracts.pressure.PressureFileToken.TheImpl as pressure
 use Rattle.cg_file.specs.contracts.raw.RawFileToken.TheImpl as raw
 use Rattle.cg_file.specs.contracts.set.SetFileToken.TheImpl as set
-use Rattle.cg_file.specs.contracts.signed.SignedFileToken.TheImpl as signed
+use Rattle.cg_file.specs.contracts.signed.ToSignedNamedTokenSignedFile.TheImpl as signed
 use Rattle.cg_file.specs.contracts.words.WordsFileToken.TheImpl as words
 use Rattle.cg_file.specs.declared.any_file.AnyFile.{AnyFile}
 use Rattle.cg_file.specs.declared.any_file.AnyFile.TheVariants as text
 
 pub file_completes : (s : AnyFile) → Completes file_rests s
-file_completes (text.Number t) = number.ghosts.completes t
-file_completes (text.Signed t) = signed.ghosts.completes t
-file_completes (text.Limit t) = limit.ghosts.completes t
-file_completes (text.Mode t) = mode.ghosts.completes t
-file_completes (text.Class t) = class.ghosts.completes t
+file_completes (text.Number t) = number.ghosts.token.completes t
+file_completes (text.Signed t) = signed.ghosts.token.completes t
+file_completes (text.Limit t) = limit.ghosts.token.completes t
+file_completes (text.Mode t) = mode.ghosts.token.completes t
+file_completes (text.Class t) = class.ghosts.token.completes t
 file_completes (text.CpuMax t) = cpu_max.ghosts.completes t
-file_completes (text.Clamp t) = clamp.ghosts.completes t
+file_completes (text.Clamp t) = clamp.ghosts.token.completes t
 file_completes (text.Numbers t) = numbers.ghosts.completes t
 file_completes (text.Words t) = words.ghosts.completes t
 file_completes (text.Flat t) = flat.ghosts.completes t
@@ -52,13 +52,13 @@ file_completes (text.NodeStats t) = node_stats.ghosts.completes t
 file_completes (text.Raw t) = raw.ghosts.completes t
 
 pub file_ends_is : (s : AnyFile) → IsTrue (file_ends s) ↔ Ends file_rests s
-file_ends_is (text.Number t) = number.ghosts.ends_is t
-file_ends_is (text.Signed t) = signed.ghosts.ends_is t
-file_ends_is (text.Limit t) = limit.ghosts.ends_is t
-file_ends_is (text.Mode t) = mode.ghosts.ends_is t
-file_ends_is (text.Class t) = class.ghosts.ends_is t
+file_ends_is (text.Number t) = number.ghosts.token.ends_is t
+file_ends_is (text.Signed t) = signed.ghosts.token.ends_is t
+file_ends_is (text.Limit t) = limit.ghosts.token.ends_is t
+file_ends_is (text.Mode t) = mode.ghosts.token.ends_is t
+file_ends_is (text.Class t) = class.ghosts.token.ends_is t
 file_ends_is (text.CpuMax t) = cpu_max.ghosts.ends_is t
-file_ends_is (text.Clamp t) = clamp.ghosts.ends_is t
+file_ends_is (text.Clamp t) = clamp.ghosts.token.ends_is t
 file_ends_is (text.Numbers t) = numbers.ghosts.ends_is t
 file_ends_is (text.Words t) = words.ghosts.ends_is t
 file_ends_is (text.Flat t) = flat.ghosts.ends_is t
@@ -76,13 +76,13 @@ file_ends_is (text.NodeStats t) = node_stats.ghosts.ends_is t
 file_ends_is (text.Raw t) = raw.ghosts.ends_is t
 
 pub file_one_value : (s : AnyFile) → HasOneValue file_rests s
-file_one_value (text.Number t) = number.ghosts.one_value t
-file_one_value (text.Signed t) = signed.ghosts.one_value t
-file_one_value (text.Limit t) = limit.ghosts.one_value t
-file_one_value (text.Mode t) = mode.ghosts.one_value t
-file_one_value (text.Class t) = class.ghosts.one_value t
+file_one_value (text.Number t) = number.ghosts.token.one_value t
+file_one_value (text.Signed t) = signed.ghosts.token.one_value t
+file_one_value (text.Limit t) = limit.ghosts.token.one_value t
+file_one_value (text.Mode t) = mode.ghosts.token.one_value t
+file_one_value (text.Class t) = class.ghosts.token.one_value t
 file_one_value (text.CpuMax t) = cpu_max.ghosts.one_value t
-file_one_value (text.Clamp t) = clamp.ghosts.one_value t
+file_one_value (text.Clamp t) = clamp.ghosts.token.one_value t
 file_one_value (text.Numbers t) = numbers.ghosts.one_value t
 file_one_value (text.Words t) = words.ghosts.one_value t
 file_one_value (text.Flat t) = flat.ghosts.one_value t
@@ -100,13 +100,13 @@ file_one_value (text.NodeStats t) = node_stats.ghosts.one_value t
 file_one_value (text.Raw t) = raw.ghosts.one_value t
 
 pub file_holds_bytes : (s : AnyFile) → HoldsBytes file_rests s
-file_holds_bytes (text.Number t) = number.ghosts.holds_bytes t
-file_holds_bytes (text.Signed t) = signed.ghosts.holds_bytes t
-file_holds_bytes (text.Limit t) = limit.ghosts.holds_bytes t
-file_holds_bytes (text.Mode t) = mode.ghosts.holds_bytes t
-file_holds_bytes (text.Class t) = class.ghosts.holds_bytes t
+file_holds_bytes (text.Number t) = number.ghosts.token.holds_bytes t
+file_holds_bytes (text.Signed t) = signed.ghosts.token.holds_bytes t
+file_holds_bytes (text.Limit t) = limit.ghosts.token.holds_bytes t
+file_holds_bytes (text.Mode t) = mode.ghosts.token.holds_bytes t
+file_holds_bytes (text.Class t) = class.ghosts.token.holds_bytes t
 file_holds_bytes (text.CpuMax t) = cpu_max.ghosts.holds_bytes t
-file_holds_bytes (text.Clamp t) = clamp.ghosts.holds_bytes t
+file_holds_bytes (text.Clamp t) = clamp.ghosts.token.holds_bytes t
 file_holds_bytes (text.Numbers t) = numbers.ghosts.holds_bytes t
 file_holds_bytes (text.Words t) = words.ghosts.holds_bytes t
 file_holds_bytes (text.Flat t) = flat.ghosts.holds_bytes t

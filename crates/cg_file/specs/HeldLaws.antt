@@ -53,8 +53,6 @@ use Rattle.cg_file.specs.declared.words.SpacedWords.{SpacedWords}
 use Rattle.cg_file.specs.declared.partition.InvalidText.{InvalidText}
 use Rattle.cg_file.specs.declared.partition.RootText.{RootText}
 use Rattle.cg_file.specs.declared.partition.WhyText.{WhyText}
-use Rattle.cg_file.specs.contracts.clamp.ClampFileToken.TheImpl as clamp
-use Rattle.cg_file.specs.contracts.class.ClassFileToken.TheImpl as class
 use Rattle.cg_file.specs.contracts.cpu_max.CpuMaxFileToken.TheImpl as cpu_max
 use Rattle.cg_file.specs.contracts.device_limits.DeviceLimitsFileToken.TheImpl as device_limits
 use Rattle.cg_file.specs.contracts.device_params.DeviceParamsFileToken.TheImpl as device_params
@@ -63,19 +61,14 @@ use Rattle.cg_file.specs.contracts.device_targets.DeviceTargetsFileToken.TheImpl
 use Rattle.cg_file.specs.contracts.device_weights.DeviceWeightsFileToken.TheImpl as device_weights
 use Rattle.cg_file.specs.contracts.flat.FlatFileToken.TheImpl as flat
 use Rattle.cg_file.specs.contracts.flat_limits.FlatLimitsFileToken.TheImpl as flat_limits
-use Rattle.cg_file.specs.contracts.limit.LimitFileToken.TheImpl as limit
-use Rattle.cg_file.specs.contracts.mode.ModeFileToken.TheImpl as mode
 use Rattle.cg_file.specs.contracts.nested.NestedFileToken.TheImpl as nested
 use Rattle.cg_file.specs.contracts.node_stats.NodeStatsFileToken.TheImpl as node_stats
-use Rattle.cg_file.specs.contracts.number.NumberFileToken.TheImpl as number
 use Rattle.cg_file.specs.contracts.numbers.NumbersFileToken.TheImpl as numbers
 use Rattle.cg_file.specs.contracts.partition.PartitionFileToken.TheImpl as partition
 use Rattle.cg_file.specs.contracts.pressure.PressureFileToken.TheImpl as pressure
 use Rattle.cg_file.specs.contracts.raw.RawFileToken.TheImpl as raw
 use Rattle.cg_file.specs.contracts.set.SetFileToken.TheImpl as set
-use Rattle.cg_file.specs.contracts.signed.SignedFileToken.TheImpl as signed
 use Rattle.cg_file.specs.contracts.words.WordsFileToken.TheImpl as words
-use Rattle.cg_file.specs.declared.clamp.ClampFile.{ClampFile}
 use Rattle.cg_file.specs.declared.cpu_max.CpuMaxFile.{CpuMaxFile}
 use Rattle.cg_file.specs.declared.device_limits.DeviceLimitsFile.{DeviceLimitsFile}
 use Rattle.cg_file.specs.declared.device_params.DeviceParamsFile.{DeviceParamsFile}
@@ -84,45 +77,22 @@ use Rattle.cg_file.specs.declared.device_targets.DeviceTargetsFile.{DeviceTarget
 use Rattle.cg_file.specs.declared.device_weights.DeviceWeightsFile.{DeviceWeightsFile}
 use Rattle.cg_file.specs.declared.flat.FlatFile.{FlatFile}
 use Rattle.cg_file.specs.declared.flat_limits.FlatLimitsFile.{FlatLimitsFile}
-use Rattle.cg_file.specs.declared.limit.LimitFile.{LimitFile}
-use Rattle.cg_file.specs.declared.mode.ModeFile.{ModeFile}
-use Rattle.cg_file.specs.declared.class.ClassFile.{ClassFile}
 use Rattle.cg_file.specs.declared.nested.NestedFile.{NestedFile}
 use Rattle.cg_file.specs.declared.node_stats.NodePairs.{NodePairs}
 use Rattle.cg_file.specs.declared.node_stats.NodeStatsFile.{NodeStatsFile}
 use Rattle.cg_file.specs.declared.node_stats.NodesText.{NodesText}
-use Rattle.cg_file.specs.declared.number.NumberFile.{NumberFile}
 use Rattle.cg_file.specs.declared.numbers.NumbersFile.{NumbersFile}
 use Rattle.cg_file.specs.declared.partition.PartitionFile.{PartitionFile}
 use Rattle.cg_file.specs.declared.pressure.PressureFile.{PressureFile}
 use Rattle.cg_file.specs.declared.raw.RawFile.{RawFile}
 use Rattle.cg_file.specs.declared.set.SetFile.{SetFile}
-use Rattle.cg_file.specs.declared.signed.SignedFile.{SignedFile}
 use Rattle.cg_file.specs.declared.words.WordsFile.{WordsFile}
 use Rattle.cg_file.specs.AnyFile.{file_rests, file_size}
 use Rattle.cg_file.specs.declared.any_file.AnyFile.{AnyFile}
 use Rattle.cg_file.specs.declared.any_file.AnyFile.TheVariants as text
 
-number_settled : (s : NumberFile) (v : Value) → number.ghosts.means s [] v → number.ghosts.size s ≤ held_of_whole v
-number_settled s v h = zero_least (held_of_whole v)
-
-signed_settled : (s : SignedFile) (v : Value) → signed.ghosts.means s [] v → signed.ghosts.size s ≤ held_of_whole v
-signed_settled s v h = zero_least (held_of_whole v)
-
-limit_settled : (s : LimitFile) (v : Value) → limit.ghosts.means s [] v → limit.ghosts.size s ≤ held_of_whole v
-limit_settled s v h = zero_least (held_of_whole v)
-
-mode_settled : (s : ModeFile) (v : Value) → mode.ghosts.means s [] v → mode.ghosts.size s ≤ held_of_whole v
-mode_settled s v h = zero_least (held_of_whole v)
-
-class_settled : (s : ClassFile) (v : Value) → class.ghosts.means s [] v → class.ghosts.size s ≤ held_of_whole v
-class_settled s v h = zero_least (held_of_whole v)
-
 cpu_max_settled : (s : CpuMaxFile) (v : Value) → cpu_max.ghosts.means s [] v → cpu_max.ghosts.size s ≤ held_of_whole v
 cpu_max_settled s v h = zero_least (held_of_whole v)
-
-clamp_settled : (s : ClampFile) (v : Value) → clamp.ghosts.means s [] v → clamp.ghosts.size s ≤ held_of_whole v
-clamp_settled s v h = zero_least (held_of_whole v)
 
 numbers_settled : (s : NumbersFile) (v : Value) → numbers.ghosts.means s [] v → numbers.ghosts.size s ≤ held_of_whole v
 numbers_settled s v h =
@@ -271,13 +241,13 @@ raw_file_settled s v h = rw h.value (raw_file_held s.text.items h.whole)
 
 -- Of a file of any kind.
 pub file_settled : (s : AnyFile) (v : Value) → file_rests s [] v → file_size s ≤ held_of_whole v
-file_settled (text.Number t) = number_settled t
-file_settled (text.Signed t) = signed_settled t
-file_settled (text.Limit t) = limit_settled t
-file_settled (text.Mode t) = mode_settled t
-file_settled (text.Class t) = class_settled t
+file_settled (text.Number t) = λ v h. zero_least (held_of_whole v)
+file_settled (text.Signed t) = λ v h. zero_least (held_of_whole v)
+file_settled (text.Limit t) = λ v h. zero_least (held_of_whole v)
+file_settled (text.Mode t) = λ v h. zero_least (held_of_whole v)
+file_settled (text.Class t) = λ v h. zero_least (held_of_whole v)
 file_settled (text.CpuMax t) = cpu_max_settled t
-file_settled (text.Clamp t) = clamp_settled t
+file_settled (text.Clamp t) = λ v h. zero_least (held_of_whole v)
 file_settled (text.Numbers t) = numbers_settled t
 file_settled (text.Words t) = words_settled t
 file_settled (text.Flat t) = flat_settled t

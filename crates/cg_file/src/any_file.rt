@@ -4,8 +4,8 @@ ghost use Rattle.cg_text.specs.Token.{Spells};
 ghost use Rattle.cg_value.specs.Kind.{IsReadForm};
 ghost use Rattle.cg_file.specs.Kinds.{TextsOf};
 
-use crate::clamp::ClampFile;
-use crate::class::ClassFile;
+use crate::clamp::{ClampFile, clamp_file};
+use crate::class::{ClassFile, class_file};
 use crate::cpu_max::CpuMaxFile;
 use crate::device_limits::DeviceLimitsFile;
 use crate::device_params::DeviceParamsFile;
@@ -14,17 +14,17 @@ use crate::device_targets::DeviceTargetsFile;
 use crate::device_weights::DeviceWeightsFile;
 use crate::flat::FlatFile;
 use crate::flat_limits::FlatLimitsFile;
-use crate::limit::LimitFile;
-use crate::mode::ModeFile;
+use crate::limit::{LimitFile, limit_file};
+use crate::mode::{ModeFile, mode_file};
 use crate::nested::NestedFile;
 use crate::node_stats::NodeStatsFile;
-use crate::number::NumberFile;
+use crate::number::{NumberFile, number_file};
 use crate::numbers::NumbersFile;
 use crate::partition::PartitionFile;
 use crate::pressure::PressureFile;
 use crate::raw::RawFile;
 use crate::set::SetFile;
-use crate::signed::SignedFile;
+use crate::signed::{SignedFile, signed_file};
 use crate::words::WordsFile;
 use cg_text::{Pushed, Token};
 use cg_value::{ReadForm, ReadKind, Value};
@@ -101,13 +101,13 @@ fn text_of(alloc: Global, form: ReadForm) -> AnyFile
     ensures size { ⟦<AnyFile as Token>⟧.size result ≡ 0 }
 {
     match form {
-        ReadForm::Number { lo, hi } => AnyFile::Number(NumberFile::new(lo, hi)),
-        ReadForm::Signed { lo, hi } => AnyFile::Signed(SignedFile::new(lo, hi)),
-        ReadForm::Limit => AnyFile::Limit(LimitFile::new()),
-        ReadForm::Mode => AnyFile::Mode(ModeFile::new()),
-        ReadForm::Class => AnyFile::Class(ClassFile::new()),
+        ReadForm::Number { lo, hi } => AnyFile::Number(number_file(lo, hi)),
+        ReadForm::Signed { lo, hi } => AnyFile::Signed(signed_file(lo, hi)),
+        ReadForm::Limit => AnyFile::Limit(limit_file()),
+        ReadForm::Mode => AnyFile::Mode(mode_file()),
+        ReadForm::Class => AnyFile::Class(class_file()),
         ReadForm::CpuMax => AnyFile::CpuMax(CpuMaxFile::new()),
-        ReadForm::Clamp => AnyFile::Clamp(ClampFile::new()),
+        ReadForm::Clamp => AnyFile::Clamp(clamp_file()),
         ReadForm::Numbers { lo, hi } => AnyFile::Numbers(NumbersFile::new(alloc, lo, hi)),
         ReadForm::Words => AnyFile::Words(WordsFile::new(alloc)),
         ReadForm::Flat => AnyFile::Flat(FlatFile::new(alloc)),

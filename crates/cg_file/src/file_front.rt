@@ -4,12 +4,12 @@ ghost use Rattle.cg_file.specs.Front.{IsFileFront};
 ghost use Rattle.cg_value.specs.Kind.{IsReadForm};
 
 use crate::any_file::AnyFile;
-use crate::clamp::ClampFile;
-use crate::class::ClassFile;
+use crate::clamp::clamp_file;
+use crate::class::class_file;
 use crate::cpu_max::CpuMaxFile;
-use crate::limit::LimitFile;
-use crate::mode::ModeFile;
-use crate::number::NumberFile;
+use crate::limit::limit_file;
+use crate::mode::mode_file;
+use crate::number::number_file;
 use cg_index::KeyedItems;
 use cg_text::{NumberSet, Token};
 use cg_value::{ReadForm, ReadKind, Value};
@@ -31,12 +31,12 @@ fn value_in_front(alloc: Global, form: ReadForm, bytes: &[u8]) -> Option<(Value,
     ensures { IfSome result (λ r. IsFileFront form bytes.now r.0 r.1) }
 {
     match form {
-        ReadForm::Number { lo, hi } => NumberFile::new(lo, hi).whole(bytes),
-        ReadForm::Limit => LimitFile::new().whole(bytes),
-        ReadForm::Mode => ModeFile::new().whole(bytes),
-        ReadForm::Class => ClassFile::new().whole(bytes),
+        ReadForm::Number { lo, hi } => number_file(lo, hi).whole(bytes),
+        ReadForm::Limit => limit_file().whole(bytes),
+        ReadForm::Mode => mode_file().whole(bytes),
+        ReadForm::Class => class_file().whole(bytes),
         ReadForm::CpuMax => CpuMaxFile::new().whole(bytes),
-        ReadForm::Clamp => ClampFile::new().whole(bytes),
+        ReadForm::Clamp => clamp_file().whole(bytes),
         ReadForm::Words if begins_empty(bytes) => Some((Value::Words(KeyedItems::new(alloc)), 1)),
         ReadForm::Set { .. } if begins_empty(bytes) => {
             Some((Value::Set(NumberSet::new(alloc)), 1))

@@ -5,8 +5,8 @@ ghost use Rattle.cg_value.specs.Files.{KindText};
 ghost use Rattle.cg_value.specs.declared.kind.ReadForm.TheVariants.{Mode as ModeForm};
 ghost use Rattle.cg_file.specs.OneLineMapped.{IsModeWord};
 
-use cg_join::{Choice, Either, Line, MapValue, Sequence, one_line};
-use cg_text::{ByteText, Keyword, KeywordText, Pushed, Token};
+use cg_join::{Choice, Either, Line, MapValue, NamedToken, Sequence, one_line};
+use cg_text::{ByteText, Keyword, KeywordText, Token};
 use cg_value::{GroupMode, Value};
 
 /// One of two fixed texts.
@@ -59,74 +59,17 @@ impl MapValue<Sequence<ModeText, ByteText>> for ToMode {
     ghost adds_no_memory = { λ v. zero_least _ };
 }
 
-type Text = Line<ModeText, ToMode>;
-
 /// The text of a file of one mode.
-#[derive(Drop)]
-pub struct ModeFile {
-    text: Text,
+pub type ModeFile = Line<ModeText, ToMode>;
+
+impl NamedToken<ModeFile> for ToMode {
+    ghost token = { ⟦<ModeFile as Token>⟧ };
 }
 
-impl ModeFile {
-    /// A token of such files.
-    pub fn new() -> ModeFile
-        ensures spells { Spells ⟦<ModeFile as Token>⟧.means result (λ text v. KindText ModeForm v text) }
-        ensures size { ⟦<ModeFile as Token>⟧.size result ≡ 0 }
-    {
-        ModeFile {
-            text: one_line(mode_text()),
-        }
-    }
-}
-
-impl Token for ModeFile {
-    type Out = Value;
-
-    ghost means = { λ s. ⟦<Text as Token>⟧.means s.text };
-
-    ghost size = { λ s. ⟦<Text as Token>⟧.size s.text };
-
-    ghost value_size = { λ _. 0 };
-
-    ghost ends = { λ s. ⟦<Text as Token>⟧.ends s.text };
-
-    ghost grows = { ⟦<Text as Token>⟧.grows };
-
-    ghost completes = { λ s. ⟦<Text as Token>⟧.completes s.text };
-
-    ghost no_size = { λ e s. ⟦<Text as Token>⟧.no_size e s.text };
-
-    ghost ends_is = { λ s. ⟦<Text as Token>⟧.ends_is s.text };
-
-    ghost one_value = { λ s. ⟦<Text as Token>⟧.one_value s.text };
-
-    ghost holds_bytes = { λ s. ⟦<Text as Token>⟧.holds_bytes s.text };
-
-    fn push(&mut self, bytes: &[u8]) -> Pushed {
-        self.text.push(bytes)
-    }
-
-    fn whole(&self, bytes: &[u8]) -> Option<(Value, usize)> {
-        self.text.whole(bytes)
-    }
-
-    fn allows(&self, byte: u8) -> bool {
-        self.text.allows(byte)
-    }
-
-    fn can_end(&self) -> bool {
-        self.text.can_end()
-    }
-
-    fn held(&self) -> u64 {
-        self.text.held()
-    }
-
-    fn take(self) -> Value {
-        self.text.take()
-    }
-
-    fn held_in(_value: &Value) -> u64 {
-        0
-    }
+/// A token of such files.
+pub fn mode_file() -> ModeFile
+    ensures spells { Spells ⟦<ModeFile as Token>⟧.means result (λ text v. KindText ModeForm v text) }
+    ensures size { ⟦<ModeFile as Token>⟧.size result ≡ 0 }
+{
+    one_line(mode_text())
 }

@@ -49,7 +49,7 @@ pub use fork::Fork;
 pub use keyed::KeyedLines;
 pub use label::{LabelText, Spaced, labelled, spaced};
 pub use limit::LimitText;
-pub use line::{Line, one_line};
+pub use line::{Line, NamedToken, one_line};
 pub use lines::Lines;
 pub use make_token::MakeToken;
 pub use make_value::MakeValue;

@@ -4,21 +4,21 @@ ghost use Rattle.cg_text.specs.Token.{Spells};
 ghost use Rattle.cg_value.specs.Kind.{IsWriteForm};
 ghost use Rattle.cg_value.specs.Settings.{WriteText};
 
-use crate::clamp::ClampWrite;
-use crate::class::ClassWrite;
+use crate::clamp::{ClampWrite, clamp_write};
+use crate::class::{ClassWrite, class_write};
 use crate::controllers::ControllersWrite;
 use crate::cpu_max::CpuMaxWrite;
 use crate::device_limits::DeviceLimitsWrite;
 use crate::device_target::DeviceTargetWrite;
 use crate::device_weight::DeviceWeightWrite;
-use crate::limit::LimitWrite;
-use crate::mode::ModeWrite;
-use crate::number::NumberWrite;
+use crate::limit::{LimitWrite, limit_write};
+use crate::mode::{ModeWrite, mode_write};
+use crate::number::{NumberWrite, number_write};
 use crate::raw::RawWrite;
 use crate::reclaim::ReclaimWrite;
 use crate::role::RoleWrite;
 use crate::set::SetWrite;
-use crate::signed::SignedWrite;
+use crate::signed::{SignedWrite, signed_write};
 use crate::size_limit::SizeLimitWrite;
 use crate::trigger::TriggerWrite;
 use cg_text::{Pushed, Token, push_count};
@@ -103,12 +103,12 @@ fn text_of(alloc: Global, form: WriteForm) -> AnyWrite
     ensures size { ⟦<AnyWrite as Token>⟧.size result ≡ 0 }
 {
     match form {
-        WriteForm::Number { lo, hi } => AnyWrite::Number(NumberWrite::new(lo, hi)),
-        WriteForm::Signed { lo, hi } => AnyWrite::Signed(SignedWrite::new(lo, hi)),
-        WriteForm::Limit { lo, hi } => AnyWrite::Limit(LimitWrite::new(lo, hi)),
+        WriteForm::Number { lo, hi } => AnyWrite::Number(number_write(lo, hi)),
+        WriteForm::Signed { lo, hi } => AnyWrite::Signed(signed_write(lo, hi)),
+        WriteForm::Limit { lo, hi } => AnyWrite::Limit(limit_write(lo, hi)),
         WriteForm::SizeLimit => AnyWrite::SizeLimit(SizeLimitWrite::new()),
-        WriteForm::Clamp => AnyWrite::Clamp(ClampWrite::new()),
-        WriteForm::Mode => AnyWrite::Mode(ModeWrite::new()),
+        WriteForm::Clamp => AnyWrite::Clamp(clamp_write()),
+        WriteForm::Mode => AnyWrite::Mode(mode_write()),
         WriteForm::Controllers => AnyWrite::Controllers(ControllersWrite::new(alloc)),
         WriteForm::CpuMax => AnyWrite::CpuMax(CpuMaxWrite::new()),
         WriteForm::Reclaim { max } => AnyWrite::Reclaim(ReclaimWrite::new(max)),
@@ -117,7 +117,7 @@ fn text_of(alloc: Global, form: WriteForm) -> AnyWrite
         WriteForm::DeviceTarget => AnyWrite::DeviceTarget(DeviceTargetWrite::new()),
         WriteForm::Set { most } => AnyWrite::Set(SetWrite::new(alloc, most)),
         WriteForm::Role => AnyWrite::Role(RoleWrite::new()),
-        WriteForm::Class => AnyWrite::Class(ClassWrite::new()),
+        WriteForm::Class => AnyWrite::Class(class_write()),
         WriteForm::Trigger => AnyWrite::Trigger(TriggerWrite::new()),
         WriteForm::Raw => AnyWrite::Raw(RawWrite::new(alloc)),
     }
@@ -145,12 +145,12 @@ fn setting_of(alloc: Global, form: WriteForm, text: &[u8]) -> Option<Setting>
     ensures { IfSome result (λ s. WriteText form s text.now) }
 {
     match form {
-        WriteForm::Number { lo, hi } => value_of(NumberWrite::new(lo, hi), text),
-        WriteForm::Signed { lo, hi } => value_of(SignedWrite::new(lo, hi), text),
-        WriteForm::Limit { lo, hi } => value_of(LimitWrite::new(lo, hi), text),
+        WriteForm::Number { lo, hi } => value_of(number_write(lo, hi), text),
+        WriteForm::Signed { lo, hi } => value_of(signed_write(lo, hi), text),
+        WriteForm::Limit { lo, hi } => value_of(limit_write(lo, hi), text),
         WriteForm::SizeLimit => value_of(SizeLimitWrite::new(), text),
-        WriteForm::Clamp => value_of(ClampWrite::new(), text),
-        WriteForm::Mode => value_of(ModeWrite::new(), text),
+        WriteForm::Clamp => value_of(clamp_write(), text),
+        WriteForm::Mode => value_of(mode_write(), text),
         WriteForm::Controllers => value_of(ControllersWrite::new(alloc), text),
         WriteForm::CpuMax => value_of(CpuMaxWrite::new(), text),
         WriteForm::Reclaim { max } => value_of(ReclaimWrite::new(max), text),
@@ -159,7 +159,7 @@ fn setting_of(alloc: Global, form: WriteForm, text: &[u8]) -> Option<Setting>
         WriteForm::DeviceTarget => value_of(DeviceTargetWrite::new(), text),
         WriteForm::Set { most } => value_of(SetWrite::new(alloc, most), text),
         WriteForm::Role => value_of(RoleWrite::new(), text),
-        WriteForm::Class => value_of(ClassWrite::new(), text),
+        WriteForm::Class => value_of(class_write(), text),
         WriteForm::Trigger => value_of(TriggerWrite::new(), text),
         WriteForm::Raw => value_of(RawWrite::new(alloc), text),
     }

@@ -2,22 +2,22 @@ use Rattle.std.proofs.Common.{arith, FitsSigned, to_z-of_z, w64}
 use Rattle.cg_file.proofs.any_file.text_of.Goals as goal
 
 pub returns-in-Number-clause-spells : goal.returns-in-Number-clause-spells
-returns-in-Number-clause-spells c = rw c.in-Number.is (let whole = c.new.ensures.spells in record { is = whole.is })
+returns-in-Number-clause-spells c = rw c.in-Number.is (let whole = c.number_file.ensures.spells in record { is = whole.is })
 
 pub returns-in-Limit-clause-spells : goal.returns-in-Limit-clause-spells
-returns-in-Limit-clause-spells c = rw c.in-Limit.is (let whole = c.new-in-Limit.ensures.spells in record { is = whole.is })
+returns-in-Limit-clause-spells c = rw c.in-Limit.is (let whole = c.limit_file.ensures.spells in record { is = whole.is })
 
 pub returns-in-Mode-clause-spells : goal.returns-in-Mode-clause-spells
-returns-in-Mode-clause-spells c = rw c.in-Mode.is (let whole = c.new-in-Mode.ensures.spells in record { is = whole.is })
+returns-in-Mode-clause-spells c = rw c.in-Mode.is (let whole = c.mode_file.ensures.spells in record { is = whole.is })
 
 pub returns-in-Class-clause-spells : goal.returns-in-Class-clause-spells
-returns-in-Class-clause-spells c = rw c.in-Class.is (let whole = c.new-in-Class.ensures.spells in record { is = whole.is })
+returns-in-Class-clause-spells c = rw c.in-Class.is (let whole = c.class_file.ensures.spells in record { is = whole.is })
 
 pub returns-in-CpuMax-clause-spells : goal.returns-in-CpuMax-clause-spells
-returns-in-CpuMax-clause-spells c = rw c.in-CpuMax.is (let whole = c.new-in-CpuMax.ensures.spells in record { is = whole.is })
+returns-in-CpuMax-clause-spells c = rw c.in-CpuMax.is (let whole = c.new.ensures.spells in record { is = whole.is })
 
 pub returns-in-Clamp-clause-spells : goal.returns-in-Clamp-clause-spells
-returns-in-Clamp-clause-spells c = rw c.in-Clamp.is (let whole = c.new-in-Clamp.ensures.spells in record { is = whole.is })
+returns-in-Clamp-clause-spells c = rw c.in-Clamp.is (let whole = c.clamp_file.ensures.spells in record { is = whole.is })
 
 pub returns-in-Numbers-clause-spells : goal.returns-in-Numbers-clause-spells
 returns-in-Numbers-clause-spells c = rw c.in-Numbers.is (let whole = c.new-in-Numbers.ensures.spells in record { is = whole.is })
@@ -69,5 +69,5 @@ returns-in-Signed-clause-spells c =
     let bounds = rw c.in-Signed.is at c.requires in
     let low : FitsSigned w64 c.in-Signed.lo = omega (arith, bounds.0) in
     let high : FitsSigned w64 c.in-Signed.hi = omega (arith, bounds.1) in
-    let whole = simp to_z-of_z at c.new-in-Signed.ensures.spells in
+    let whole = simp to_z-of_z at c.signed_file.ensures.spells in
     rw c.in-Signed.is (record { is = whole.is })

@@ -2,27 +2,27 @@ use Rattle.std.proofs.Common.{arith, FitsSigned, to_z-of_z, w64}
 use Rattle.cg_write.proofs.any_write.text_of.Goals as goal
 
 pub returns-in-Number-clause-spells : goal.returns-in-Number-clause-spells
-returns-in-Number-clause-spells c = rw c.in-Number.is (let whole = c.new.ensures.spells in record { is = whole.is })
+returns-in-Number-clause-spells c = rw c.in-Number.is (let whole = c.number_write.ensures.spells in record { is = whole.is })
 
 pub returns-in-Signed-clause-spells : goal.returns-in-Signed-clause-spells
 returns-in-Signed-clause-spells c =
     let bounds = rw c.in-Signed.is at c.requires in
     let low : FitsSigned w64 c.in-Signed.lo = omega (arith, bounds.0) in
     let high : FitsSigned w64 c.in-Signed.hi = omega (arith, bounds.1) in
-    let whole = simp to_z-of_z at c.new-in-Signed.ensures.spells in
+    let whole = simp to_z-of_z at c.signed_write.ensures.spells in
     rw c.in-Signed.is (record { is = whole.is })
 
 pub returns-in-Limit-clause-spells : goal.returns-in-Limit-clause-spells
-returns-in-Limit-clause-spells c = rw c.in-Limit.is (let whole = c.new-in-Limit.ensures.spells in record { is = whole.is })
+returns-in-Limit-clause-spells c = rw c.in-Limit.is (let whole = c.limit_write.ensures.spells in record { is = whole.is })
 
 pub returns-in-SizeLimit-clause-spells : goal.returns-in-SizeLimit-clause-spells
-returns-in-SizeLimit-clause-spells c = rw c.in-SizeLimit.is (let whole = c.new-in-SizeLimit.ensures.spells in record { is = whole.is })
+returns-in-SizeLimit-clause-spells c = rw c.in-SizeLimit.is (let whole = c.new.ensures.spells in record { is = whole.is })
 
 pub returns-in-Clamp-clause-spells : goal.returns-in-Clamp-clause-spells
-returns-in-Clamp-clause-spells c = rw c.in-Clamp.is (let whole = c.new-in-Clamp.ensures.spells in record { is = whole.is })
+returns-in-Clamp-clause-spells c = rw c.in-Clamp.is (let whole = c.clamp_write.ensures.spells in record { is = whole.is })
 
 pub returns-in-Mode-clause-spells : goal.returns-in-Mode-clause-spells
-returns-in-Mode-clause-spells c = rw c.in-Mode.is (let whole = c.new-in-Mode.ensures.spells in record { is = whole.is })
+returns-in-Mode-clause-spells c = rw c.in-Mode.is (let whole = c.mode_write.ensures.spells in record { is = whole.is })
 
 pub returns-in-Controllers-clause-spells : goal.returns-in-Controllers-clause-spells
 returns-in-Controllers-clause-spells c = rw c.in-Controllers.is (let whole = c.new-in-Controllers.ensures.spells in record { is = whole.is })
@@ -49,7 +49,7 @@ pub returns-in-Role-clause-spells : goal.returns-in-Role-clause-spells
 returns-in-Role-clause-spells c = rw c.in-Role.is (let whole = c.new-in-Role.ensures.spells in record { is = whole.is })
 
 pub returns-in-Class-clause-spells : goal.returns-in-Class-clause-spells
-returns-in-Class-clause-spells c = rw c.in-Class.is (let whole = c.new-in-Class.ensures.spells in record { is = whole.is })
+returns-in-Class-clause-spells c = rw c.in-Class.is (let whole = c.class_write.ensures.spells in record { is = whole.is })
 
 pub returns-in-Trigger-clause-spells : goal.returns-in-Trigger-clause-spells
 returns-in-Trigger-clause-spells c = rw c.in-Trigger.is (let whole = c.new-in-Trigger.ensures.spells in record { is = whole.is })

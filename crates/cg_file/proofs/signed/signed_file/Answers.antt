@@ -7,7 +7,7 @@ use Rattle.cg_value.specs.declared.kind.ReadForm.TheVariants.{Signed as SignedFo
 use Rattle.cg_value.specs.declared.value.Value.TheVariants.{Signed}
 use Rattle.cg_file.specs.FileLaws.{one_is}
 use Rattle.cg_file.specs.OneLineMapped.{signed_value}
-use Rattle.cg_file.proofs.signed.SignedFile.new.Goals as goal
+use Rattle.cg_file.proofs.signed.signed_file.Goals as goal
 
 pub one_line-requires : goal.one_line-requires
 one_line-requires c =

@@ -8,7 +8,7 @@ use Rattle.cg_value.specs.declared.kind.ReadForm.TheVariants.{Clamp as ClampForm
 use Rattle.cg_value.specs.declared.value.Value.TheVariants.{Clamp as ClampOf}
 use Rattle.cg_file.specs.FileLaws.{one_is}
 use Rattle.cg_file.specs.OneLineMapped.{clamp_value}
-use Rattle.cg_file.proofs.clamp.ClampFile.new.Goals as goal
+use Rattle.cg_file.proofs.clamp.clamp_file.Goals as goal
 
 pub one_line-requires : goal.one_line-requires
 one_line-requires c = lacks_spelled _ _ 10 c.new.ensures.spells (clamp_lacking 10 Read (omega arith)).is

@@ -7,7 +7,7 @@ use Rattle.cg_value.specs.declared.value.Value.TheVariants.{Number}
 use Rattle.cg_value.specs.declared.kind.ReadForm.TheVariants.{Number as NumberForm}
 use Rattle.cg_file.specs.Mapped.{number_value}
 use Rattle.cg_file.specs.FileLaws.{one_is}
-use Rattle.cg_file.proofs.number.NumberFile.new.Goals as goal
+use Rattle.cg_file.proofs.number.number_file.Goals as goal
 
 pub one_line-requires : goal.one_line-requires
 one_line-requires c = lacks_spelled _ _ 10 c.in-Some.ensures.1 (decimal_lacks 10 c.args.lo c.args.hi (omega arith))

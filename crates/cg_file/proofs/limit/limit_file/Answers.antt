@@ -7,7 +7,7 @@ use Rattle.cg_value.specs.declared.value.Value.TheVariants.{Limit as LimitOf}
 use Rattle.cg_value.specs.declared.kind.ReadForm.TheVariants.{Limit as LimitForm}
 use Rattle.cg_file.specs.Mapped.{limit_value}
 use Rattle.cg_file.specs.FileLaws.{one_is}
-use Rattle.cg_file.proofs.limit.LimitFile.new.Goals as goal
+use Rattle.cg_file.proofs.limit.limit_file.Goals as goal
 
 pub one_line-requires : goal.one_line-requires
 one_line-requires c = lacks_spelled _ _ 10 c.in-Some.ensures.spells.1 (limit_lacks 10 0 18446744073709551615 (omega arith))

@@ -4,7 +4,7 @@ use Rattle.cg_join.specs.LineLaws.{lacks_spelled}
 use Rattle.cg_value.specs.declared.kind.WriteForm.TheVariants.{Signed as SignedForm}
 use Rattle.cg_value.specs.declared.setting.Setting.TheVariants.{Signed}
 use Rattle.cg_write.specs.WriteLaws.{write_spells}
-use Rattle.cg_write.proofs.signed.SignedWrite.new.Goals as goal
+use Rattle.cg_write.proofs.signed.signed_write.Goals as goal
 
 pub one_line-requires : goal.one_line-requires
 one_line-requires c =

@@ -6,7 +6,7 @@ use Rattle.cg_value.specs.declared.kind.ReadForm.TheVariants.{Class as ClassForm
 use Rattle.cg_value.specs.declared.value.Value.TheVariants.{Class}
 use Rattle.cg_file.specs.FileLaws.{one_is}
 use Rattle.cg_file.specs.OneLineMapped.{class_value}
-use Rattle.cg_file.proofs.class.ClassFile.new.Goals as goal
+use Rattle.cg_file.proofs.class.class_file.Goals as goal
 
 pub one_line-requires : goal.one_line-requires
 one_line-requires c = lacks_spelled _ _ 10 c.new.ensures.spells class_lacking.is

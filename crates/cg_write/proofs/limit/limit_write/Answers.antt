@@ -4,7 +4,7 @@ use Rattle.cg_join.specs.LineLaws.{lacks_spelled}
 use Rattle.cg_value.specs.declared.kind.WriteForm.TheVariants.{Limit as LimitForm}
 use Rattle.cg_value.specs.declared.setting.Setting.TheVariants.{Limit}
 use Rattle.cg_write.specs.WriteLaws.{write_spells}
-use Rattle.cg_write.proofs.limit.LimitWrite.new.Goals as goal
+use Rattle.cg_write.proofs.limit.limit_write.Goals as goal
 
 pub one_line-requires : goal.one_line-requires
 one_line-requires c = lacks_spelled _ _ 10 c.limit_in.ensures.spells (limit_lacking 10 _ _ (omega arith)).is

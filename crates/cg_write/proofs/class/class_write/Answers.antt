@@ -3,7 +3,7 @@ use Rattle.cg_join.specs.LineLaws.{lacks_spelled}
 use Rattle.cg_value.specs.declared.kind.WriteForm.TheVariants.{Class as ClassForm}
 use Rattle.cg_value.specs.declared.setting.Setting.TheVariants.{Class}
 use Rattle.cg_write.specs.WriteLaws.{write_spells}
-use Rattle.cg_write.proofs.class.ClassWrite.new.Goals as goal
+use Rattle.cg_write.proofs.class.class_write.Goals as goal
 
 pub one_line-requires : goal.one_line-requires
 one_line-requires c = lacks_spelled _ _ 10 c.new.ensures.spells class_lacking.is

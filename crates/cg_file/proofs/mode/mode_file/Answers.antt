@@ -8,7 +8,7 @@ use Rattle.cg_value.specs.declared.value.Value.TheVariants.{Mode}
 use Rattle.cg_file.specs.FileLaws.{one_is}
 use Rattle.cg_file.specs.OneLineFileLaws.{mode_is, one_through}
 use Rattle.cg_file.specs.OneLineMapped.{IsModeWord, mode_of, mode_value}
-use Rattle.cg_file.proofs.mode.ModeFile.new.Goals as goal
+use Rattle.cg_file.proofs.mode.mode_file.Goals as goal
 
 pub one_line-requires : goal.one_line-requires
 one_line-requires c =

@@ -5,7 +5,7 @@ use Rattle.cg_value.specs.declared.kind.WriteForm.TheVariants.{Mode as ModeForm}
 use Rattle.cg_value.specs.declared.setting.Setting.TheVariants.{Threaded}
 use Rattle.cg_write.specs.ModeLaws.{mode_is}
 use Rattle.cg_write.specs.WriteLaws.{write_spells}
-use Rattle.cg_write.proofs.mode.ModeWrite.new.Goals as goal
+use Rattle.cg_write.proofs.mode.mode_write.Goals as goal
 
 pub one_line-requires : goal.one_line-requires
 one_line-requires c = lacks_spelled _ _ 10 c.new.ensures.spells (keyword_lacking word.Threaded).is
