@@ -35,7 +35,7 @@ build/cgfile: crates.txt $(shell find crates -path '*/out' -prune -o -type f -pr
 # The kit that proves has the logic that `--version` and the README name. Another kit of that logic may judge by other tactics and
 # another standard library, so that is said: what is claimed rests then on a run of `make check` with it.
 version:
-	@for file in crates/cg_run/src/version.rt README.md; do grep -qF "$$(rt version | cut -d ' ' -f 2-)" $$file \
+	@for file in crates/cg_program/src/version.rt README.md; do grep -qF "$$(rt version | cut -d ' ' -f 2-)" $$file \
 	    || { echo "$$file names another logic than $$(rt version)" >&2; exit 1; }; done
 	@grep -qF "$$(rt version)" README.md || echo "note: the README names another kit of the same logic than $$(rt version)" >&2
 

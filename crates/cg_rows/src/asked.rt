@@ -1,5 +1,5 @@
 //! What the words of a command line ask for.
-use cg_run::{Request, UsageFault, parse_request};
+use cg_program::{Request, UsageFault, parse_request};
 use std::alloc::Global;
 
 /// A run of the program, but for its input.

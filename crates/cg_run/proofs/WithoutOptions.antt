@@ -17,8 +17,8 @@ use Rattle.cg_run.specs.Run.{DidRun, DidRunWith, TellsOf, TellsOfFile, TellsOfFo
 use Rattle.cg_run.specs.declared.options.Options.{Options}
 use Rattle.cg_run.specs.declared.outcome.Outcome.{Outcome}
 use Rattle.cg_run.specs.declared.outcome.Outcome.TheVariants as out
-use Rattle.cg_run.specs.declared.words.Command.{Command}
-use Rattle.cg_run.specs.declared.words.Command.TheVariants as command
+use Rattle.cg_run.specs.declared.command.Command.{Command}
+use Rattle.cg_run.specs.declared.command.Command.TheVariants as command
 
 -- Without an option a run is a plain one.
 pub plain_ran : (Right : Reading → Outcome → List (List ℕ) → Type 0) (Tells : Reading → Outcome → List ℕ → Type 0) → ((r : Reading) (o : Outcome) (more : List ℕ) → Tells r o more → more ≡ []) →

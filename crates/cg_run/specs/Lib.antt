@@ -1,7 +1,6 @@
 pub mod ByteNames
 pub mod Check
 pub mod Checked
-pub mod CommandLine
 pub mod Decoded
 pub mod Ended
 pub mod Entries
@@ -18,9 +17,7 @@ pub mod Lines
 pub mod Outcome
 pub mod Output
 pub mod Planned
-pub mod Program
 pub mod Reading
-pub mod Rows
 pub mod Run
 pub mod Shown
 pub mod ShownBytes
@@ -31,4 +28,3 @@ pub mod Stream
 pub mod Streaming
 pub mod Taken
 pub mod TextReader
-pub mod Words

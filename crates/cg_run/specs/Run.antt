@@ -30,8 +30,8 @@ use Rattle.cg_run.specs.Stream.{DoneOf, IsStreamRight, PartsOf, WholeOf, item_pa
 use Rattle.cg_run.specs.declared.options.Options.{Options}
 use Rattle.cg_run.specs.declared.outcome.Outcome.{Outcome}
 use Rattle.cg_run.specs.declared.outcome.Outcome.TheVariants as out
-use Rattle.cg_run.specs.declared.words.Command.{Command}
-use Rattle.cg_run.specs.declared.words.Command.TheVariants as command
+use Rattle.cg_run.specs.declared.command.Command.{Command}
+use Rattle.cg_run.specs.declared.command.Command.TheVariants as command
 
 -- Memory was refused at one of these bytes, and none up to it stops the run.
 pub record IsTextStarved (L : List ℕ → Type 0) (max : ℕ) (text : List ℕ) : Type 0 where

@@ -1,11 +1,11 @@
-//! The command line, and a run of a command from a source of bytes to a sink, with an exit status.
+//! A run of a command from a source of bytes to a sink, with an exit status.
 #![tactic(auto)]
 
 mod byte_list;
 mod byte_name;
 mod byte_runs;
 mod checked;
-mod command_line;
+pub mod command;
 pub mod cut;
 mod entries;
 mod entry_run;
@@ -13,7 +13,6 @@ mod explain;
 pub mod explained;
 mod file_reader;
 mod going_on;
-mod help;
 mod kept;
 mod kinds;
 mod left_out;
@@ -24,9 +23,7 @@ pub mod outcome;
 mod output;
 pub mod plain;
 mod planned;
-pub mod program;
 mod reading;
-pub mod rows;
 pub mod running;
 mod shown;
 mod shown_text;
@@ -38,15 +35,12 @@ mod streaming;
 mod teller;
 mod text_reader;
 mod told;
-mod version;
-mod words;
 
+pub use command::Command;
 pub use cut::CutSource;
 pub use explained::{Explained, explain_file, explain_setting};
 pub use options::Options;
 pub use outcome::{Outcome, status};
 pub use plain::PlainReader;
-pub use program::{run_words, words_after_name};
 pub use running::{run, run_with};
 pub use source::Source;
-pub use words::{Command, Request, UsageFault, parse_request, parse_words};

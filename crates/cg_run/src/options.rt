@@ -1,6 +1,4 @@
 //! What a command line asks for beside its command.
-ghost use Rattle.std.specs.Prelude.{◌≡◌};
-ghost use Rattle.cg_run.specs.Words.{uses_any};
 
 /// What a command line asks for beside its command.
 #[derive(Clone, Copy, Debug, PartialEq, Eq)]
@@ -17,11 +15,4 @@ impl Options {
         explain: false,
         keep_going: false,
     };
-
-    /// Whether one is used.
-    pub(crate) fn uses_any(self) -> bool
-        ensures { result ≡ uses_any self }
-    {
-        self.explain || self.keep_going
-    }
 }

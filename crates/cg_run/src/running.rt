@@ -8,6 +8,7 @@ ghost use Rattle.cg_run.specs.Run.{DidRunWith, Ran, RanWith, IsIdle, IsTextRight
 ghost use Rattle.cg_run.specs.Ended.{HasEnded};
 
 use crate::checked::run_check;
+use crate::command::Command;
 use crate::entries::EntryReader;
 use crate::explain::write_stop;
 use crate::file_reader::FileReader;
@@ -26,7 +27,6 @@ use crate::streaming::run_stream;
 use crate::teller::{JsonTeller, KeptTeller, ShownTeller};
 use crate::text_reader::TextReader;
 use crate::told::{told, told_line};
-use crate::words::Command;
 use cg_line::SettingReader;
 use cg_print::Sink;
 use cg_snap::{Limits, Stop};

@@ -1,4 +1,4 @@
-//! A reader and writer of cgroup interface files. All that it does is `run_words` of `cg_run`: this hands over the
+//! A reader and writer of cgroup interface files. All that it does is `run_words` of `cg_program`: this hands over the
 //! words, standard input and standard output.
 #![tactic(auto)]
 
@@ -6,7 +6,8 @@
 mod tests;
 
 use cg_print::PlainWriter;
-use cg_run::{PlainReader, run_words, words_after_name};
+use cg_program::{run_words, words_after_name};
+use cg_run::PlainReader;
 use std::io;
 use std::process::ExitCode;
 

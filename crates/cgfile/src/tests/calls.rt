@@ -1,7 +1,8 @@
 //! The source over a reader and the sink over a writer, and the texts of faults.
 use cg_line::{FileFault, PushFault, SettingFault};
 use cg_print::{EntryWriteFault, Failed, PlainWriter, Sink, WriteStopped, write_text};
-use cg_run::{PlainReader, Source, UsageFault};
+use cg_program::UsageFault;
+use cg_run::{PlainReader, Source};
 use cg_text::{KeyFault, OutOfMemory};
 use cg_value::{EntryFault, ItemFault, NotReadable, NotWritable};
 use std::alloc::{AllocError, Global};

@@ -11,7 +11,8 @@ use cg_line::{FileFault, SettingFault, decode_file, decode_setting};
 use cg_print::{
     CutSink, EntryWriteFault, append_entry, append_item, print_file, print_setting, write_entry,
 };
-use cg_run::{Command, CutSource, Outcome, parse_words, run, status};
+use cg_program::parse_words;
+use cg_run::{Command, CutSource, Outcome, run, status};
 use cg_snap::{
     Event, Limits, Progress, Pulled, SnapshotDecoder, Stop, StreamFault, Why, decode_snapshot,
 };

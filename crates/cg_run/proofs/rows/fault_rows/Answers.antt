@@ -1,5 +1,0 @@
-use Rattle.cg_run.proofs.WrittenOut.{fault_rows}
-use Rattle.cg_run.proofs.rows.fault_rows.Goals as goal
-
-pub returns : goal.returns
-returns c = fault_rows

@@ -1,5 +1,0 @@
-use Rattle.cg_run.proofs.WrittenOut.{known_rows}
-use Rattle.cg_run.proofs.rows.known_rows.Goals as goal
-
-pub returns : goal.returns
-returns c = known_rows
