@@ -23,7 +23,7 @@ MAKEFLAGS += --jobs=$(shell awk -v most=$$(nproc) '/^MemAvailable/ { n = int($$2
 define library
 .PHONY: $(1)
 $(1): $(call below,$(1)) | version
-	scripts/library $(1)
+	scripts/library $(1) $(LIBRARIES)
 endef
 $(foreach it,$(LIBRARIES),$(eval $(call library,$(it))))
 
