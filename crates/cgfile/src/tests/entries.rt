@@ -1,4 +1,5 @@
 //! Entries and items of plans: which are refused, and what the others give back.
+use crate::tests::snapshots::entry;
 use cg_text::Items;
 use cg_value::{Entry, EntryFault, ItemFault, PlanItem, Profile, Setting, Value};
 use std::alloc::Global;
@@ -35,8 +36,7 @@ fn refused_entries(rt: HostRuntime) -> Result<(), Fail> {
 
 #[test]
 fn entries(rt: HostRuntime) -> Result<(), Fail> {
-    let path = b"a/cpu.idle".to_vec(rt.alloc())?;
-    let entry = Entry::new(Profile::One, path, Value::Number(1))?;
+    let entry = entry(rt.alloc(), b"a/cpu.idle", Value::Number(1))?;
     let copy = entry.copy(rt.alloc())?;
     assert!(rt; copy.path() == b"a/cpu.idle".as_slice());
     assert!(rt; copy.name() == b"cpu.idle".as_slice());

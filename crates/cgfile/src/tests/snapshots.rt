@@ -31,7 +31,7 @@ pub(crate) fn ending(snapshot: SnapshotDecoder) -> Result<bool, Stop> {
 }
 
 /// The entry of the first profile that has this path and this value.
-fn entry(alloc: Global, path: &[u8], value: Value) -> Result<Entry, Fail> {
+pub(crate) fn entry(alloc: Global, path: &[u8], value: Value) -> Result<Entry, Fail> {
     let path = path.to_vec(alloc)?;
     let entry = Entry::new(Profile::One, path, value)?;
     Ok(entry)

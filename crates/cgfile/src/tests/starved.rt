@@ -24,18 +24,24 @@ use std::test::Fail;
 /// The blocks that keep the heap starved.
 pub(crate) type Blocks = Vec<Vec<u8>>;
 
+/// Takes blocks of this size as long as there are any.
+fn take_blocks(alloc: Global, held: &mut Blocks, size: usize) -> Result<(), AllocError> {
+    for _ in 0..20000 {
+        match Vec::with_capacity(alloc, size) {
+            Ok(block) => held.push(block)?,
+            Err(_) => return Ok(()),
+        }
+    }
+    Ok(())
+}
+
 /// Takes all memory that is to be had, in blocks of falling size: of halves, and at last of each size of which the heap
 /// may keep a freed block that serves no other.
 pub(crate) fn hog(alloc: Global) -> Result<Blocks, AllocError> {
     let mut held: Blocks = Vec::with_capacity(alloc, 400000)?;
     let mut size: usize = 17179869184;
     for _ in 0..100 {
-        for _ in 0..20000 {
-            match Vec::with_capacity(alloc, size) {
-                Ok(block) => held.push(block)?,
-                Err(_) => break,
-            }
-        }
+        take_blocks(alloc, &mut held, size)?;
         if size < 32 {
             break;
         }
