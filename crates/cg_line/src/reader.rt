@@ -38,9 +38,16 @@ pub(crate) enum State {
 
 /// A reader of the text of one file, which takes line bytes and newlines. What it keeps of most files of one line is
 /// their value; of others it is their token, which lies on the heap.
-#[derive(Drop)]
 pub struct ValueReader {
     pub(crate) state: State,
+}
+
+/// Drops what the reader took. By hand, as a derived `drop` is proved anew in each crate above, with all that is below
+/// it.
+impl Drop for ValueReader {
+    fn drop(self) {
+        let ValueReader { state: _state } = self;
+    }
 }
 
 /// What became of a run of bytes.
@@ -72,12 +79,12 @@ struct Begun {
     run: PushedRun,
 }
 
-/// The reader on the heap, if memory is left for it.
+/// The value on the heap, if memory is left for it.
 #[inline(always)]
-fn boxed(alloc: Global, reader: OpenReader) -> Option<Box<OpenReader>>
-    ensures { IfSome result (λ boxed. boxed.value ≡ reader) }
+fn boxed<T: Drop>(alloc: Global, value: T) -> Option<Box<T>>
+    ensures { IfSome result (λ boxed. boxed.value ≡ value) }
 {
-    match Box::new(alloc, reader) {
+    match Box::new(alloc, value) {
         Ok(boxed) => Some(boxed),
         Err(_) => None,
     }
@@ -358,7 +365,8 @@ impl ValueReader {
         ensures { (kind : ReadForm) (taken : List ℕ) → Reads self kind taken →
             MatchResult result (λ v. KindText kind v taken) (λ cut. (cut.reader ≡ self) × (KindFile kind taken → ⊥)) }
     {
-        match finish_state(self.state) {
+        let ValueReader { state } = self;
+        match finish_state(state) {
             Ok(value) => Ok(value),
             Err(state) => Err(ReaderCut {
                 reader: ValueReader { state },

@@ -19,9 +19,15 @@ use std::fmt;
 use thiserror::Error;
 
 /// A reader of the text of one write, which takes the bytes of its line and its newline.
-#[derive(Drop)]
 pub struct SettingReader {
     text: AnyWrite,
+}
+
+/// Drops what the reader took. By hand, as a derived `drop` is proved anew in each crate above.
+impl Drop for SettingReader {
+    fn drop(self) {
+        let SettingReader { text: _text } = self;
+    }
 }
 
 /// A reader whose bytes are no whole write, handed back.
@@ -106,10 +112,13 @@ impl SettingReader {
             MatchResult result (λ s. WriteText kind s taken)
             (λ cut. (cut.reader ≡ self) × (KindWrite kind taken → ⊥)) }
     {
-        if self.text.can_end() {
-            Ok(self.text.take())
+        let SettingReader { text } = self;
+        if text.can_end() {
+            Ok(text.take())
         } else {
-            Err(SettingCut { reader: self })
+            Err(SettingCut {
+                reader: SettingReader { text },
+            })
         }
     }
 }

@@ -9,14 +9,12 @@ ghost use Rattle.cg_snap.specs.Begun.{IsBegun};
 ghost use Rattle.cg_snap.specs.Closed.{IsHeldFor};
 ghost use Rattle.cg_snap.specs.Course.{IsMovedBy};
 ghost use Rattle.cg_snap.specs.Decoder.{FinishIs, Stands, held_by, limits_of, profile_of, stop_of};
-ghost use Rattle.cg_snap.specs.DecoderState.{HasTakenRecords};
 ghost use Rattle.cg_snap.specs.PlanDecoder.{PlanFinishIs, StandsForPlan, plan_held_by, plan_limits_of, plan_profile_of, plan_stop_of};
 ghost use Rattle.cg_snap.specs.PlanState.{HasTakenItems};
 ghost use Rattle.cg_snap.specs.Pulled.{IsStuck, StandsFor, WhatCame};
 ghost use Rattle.cg_snap.specs.Streams.{plan_stream, snap_stream};
 
 use crate::course::allowed;
-use crate::entry::ended;
 use crate::event::{Event, Progress};
 use crate::limits::Limits;
 use crate::meter::Meter;
@@ -147,35 +145,7 @@ impl Decoder<SnapshotRecords> {
         } = self;
         match stop {
             Some(stop) => Err(stop),
-            None => finish_records(records, meter.offset),
-        }
-    }
-}
-
-/// What the end of a snapshot makes of the records.
-pub(crate) fn finish_records(records: SnapshotRecords, at: u64) -> Result<Option<Entry>, Stop>
-    ensures { (profile : Profile) (p : List ℕ) (es : List EntryData) → HasTakenRecords records profile p es → at ≡
-        length p → FinishIs profile p es result }
-{
-    let SnapshotRecords {
-        alloc: _,
-        profile: _,
-        begun,
-        present,
-    } = records;
-    if !begun.is_empty() {
-        return Err(Stop::Cut { at });
-    }
-    match present {
-        None => Ok(None),
-        Some(x) => {
-            if x.in_line {
-                return Err(Stop::Cut { at });
-            }
-            match ended(x) {
-                Some(entry) => Ok(Some(entry)),
-                None => Err(Stop::Cut { at }),
-            }
+            None => records.finish(meter.offset),
         }
     }
 }

@@ -7,13 +7,12 @@ ghost use Rattle.cg_snap.specs.Begun.{IsRecordEnd};
 ghost use Rattle.cg_snap.specs.GoingOn.{IsPassed, IsWanted, stream_limits};
 ghost use Rattle.cg_snap.specs.GoingOnDecoder.{GoingFinishIs, IsHeldOn, StandsOn, going_form_of, going_held_by, going_limits_of, going_stop_of};
 ghost use Rattle.cg_snap.specs.GoingOnEntry.{BlockDid, EntryDid, IsGivenBy, IsOfBlock};
-ghost use Rattle.cg_snap.specs.GoingOnState.{HasFound, form_of};
 ghost use Rattle.cg_snap.specs.RecordPlace.{IsRecordPlace};
 ghost use Rattle.cg_snap.specs.declared.going_on.Found.{Found};
 ghost use Rattle.cg_snap.specs.declared.stop.Stop.{Stop};
 
 use crate::course::allowed;
-use crate::decoder::{Decoder, finish_records};
+use crate::decoder::Decoder;
 use crate::event::{Event, Progress};
 use crate::going_on_records::GoingOnRecords;
 use crate::limits::Limits;
@@ -140,21 +139,7 @@ impl Decoder<GoingOnRecords> {
         } = self;
         match stop {
             Some(stop) => Err(stop),
-            None => finish_going_on(records, meter.offset),
+            None => records.finish(meter.offset),
         }
-    }
-}
-
-/// What the end of a stream makes of the records.
-fn finish_going_on(records: GoingOnRecords, at: u64) -> Result<Option<Entry>, Stop>
-    ensures { (p : List ℕ) (found : List Found) → HasFound records (form_of records) p found → at ≡ length p →
-        GoingFinishIs (form_of records).0 (form_of records).1 p found result }
-{
-    if records.is_passing {
-        return Err(Stop::Cut { at });
-    }
-    match finish_records(records.block, records.meter.offset) {
-        Ok(last) => Ok(last),
-        Err(_) => Err(Stop::Cut { at }),
     }
 }

@@ -1,11 +1,11 @@
 //! The records of a snapshot of which what is at fault is left out.
-ghost use Rattle.std.specs.Prelude.{◌≡◌, ◌≢◌, ◌+◌, ◌≤◌, ◌<◌, ◌⊎◌, ◌++◌, ◌∷◌, ℕ, List, [], Some, None, true, false, IsTrue, MatchBool, MatchOption, MatchResult, OnErr, length, take};
-ghost use Rattle.cg_text.specs.Texts.{Lacks};
+ghost use Rattle.std.specs.Prelude.{◌≡◌, ◌≢◌, ◌+◌, ◌≤◌, ◌<◌, ◌⊎◌, ◌++◌, ◌∷◌, ℕ, List, [], Some, None, true, false, MatchBool, MatchOption, MatchResult, OnErr, length, take};
 ghost use Rattle.cg_value.specs.declared.profile.Profile.{Profile};
 ghost use Rattle.cg_snap.specs.Course.{AreOfRecord, GoesForward, HasProgressed};
 ghost use Rattle.cg_snap.specs.GoingOn.{IsCause, Told, block_limits};
+ghost use Rattle.cg_snap.specs.GoingOnDecoder.{GoingFinishIs};
 ghost use Rattle.cg_snap.specs.GoingOnEntry.{BlockDid, EntryDid, IsGivenBy, IsOfBlock};
-ghost use Rattle.cg_snap.specs.GoingOnState.{FaultLeaves, HasTold, IsAgain, IsEnded, IsLeft, IsOfEntry, IsPathAt, IsReading, IsUnsettled, IsWholeStop, form_of, going_stream};
+ghost use Rattle.cg_snap.specs.GoingOnState.{FaultLeaves, HasFound, HasTold, IsAgain, IsEnded, IsLeft, IsOfEntry, IsPathAt, IsReading, IsUnsettled, IsWholeStop, form_of, going_stream};
 ghost use Rattle.cg_snap.specs.Streams.{snap_stream};
 ghost use Rattle.cg_snap.specs.SnapStop.{SnapStopOf};
 ghost use Rattle.cg_snap.specs.declared.event.Event.TheVariants as events;
@@ -31,7 +31,6 @@ use std::alloc::Global;
 use std::mem;
 
 /// The records of a snapshot, as far as they came, of which what is at fault is left out.
-#[derive(Drop)]
 pub struct GoingOnRecords {
     pub(crate) limits: Limits,
     /// What reads the present block, as though no other came.
@@ -42,6 +41,19 @@ pub struct GoingOnRecords {
     pub(crate) left_out: Option<Items<u8>>,
     /// Whether the rest of a line of it is passed over.
     pub(crate) is_passing: bool,
+}
+
+/// Drops the block and the path. By hand, as a derived `drop` is proved anew in each crate above.
+impl Drop for GoingOnRecords {
+    fn drop(self) {
+        let GoingOnRecords {
+            limits: _limits,
+            block: _block,
+            meter: _meter,
+            left_out: _left_out,
+            is_passing: _is_passing,
+        } = self;
+    }
 }
 
 /// What is wrong with a block, none where nothing is wrong with it alone.
@@ -336,6 +348,27 @@ impl GoingOnRecords {
             self.meter.begin_at_record();
         }
         progress
+    }
+
+    /// What the end of a stream makes of the records.
+    pub(crate) fn finish(self, at: u64) -> Result<Option<Entry>, Stop>
+        ensures { (p : List ℕ) (found : List Found) → HasFound self (form_of self) p found → at ≡ length p →
+            GoingFinishIs (form_of self).0 (form_of self).1 p found result }
+    {
+        let GoingOnRecords {
+            limits: _limits,
+            block,
+            meter,
+            left_out: _left_out,
+            is_passing,
+        } = self;
+        if is_passing {
+            return Err(Stop::Cut { at });
+        }
+        match block.finish(meter.offset) {
+            Ok(last) => Ok(last),
+            Err(_) => Err(Stop::Cut { at }),
+        }
     }
 }
 

@@ -11,13 +11,24 @@ use cg_value::{PlanItem, Profile};
 use std::alloc::Global;
 
 /// The records of a plan, as far as they came: what is begun of a path, and the item whose line comes.
-#[derive(Drop)]
 pub struct PlanRecords {
     pub(crate) alloc: Global,
     pub(crate) profile: Profile,
     pub(crate) begun: Vec<u8>,
     pub(crate) present: Option<CurrentItem>,
     ghost path: { ArePathBytes begun.items } by { path_bytes_prop begun.items },
+}
+
+/// Drops the path and the item. By hand, as a derived `drop` is proved anew in each crate above.
+impl Drop for PlanRecords {
+    fn drop(self) {
+        let PlanRecords {
+            alloc: _alloc,
+            profile: _profile,
+            begun: _begun,
+            present: _present,
+        } = self;
+    }
 }
 
 impl PlanRecords {

@@ -1,5 +1,5 @@
 //! The records of a snapshot.
-ghost use Rattle.std.specs.Prelude.{◌≡◌, ◌↔◌, ℕ, List, [], IsTrue};
+ghost use Rattle.std.specs.Prelude.{◌≡◌, ◌↔◌, ℕ, List, [], length, IsTrue};
 ghost use Rattle.cg_text.specs.Token.{saturated};
 ghost use Rattle.cg_value.specs.Entry.{EntryData};
 ghost use Rattle.cg_value.specs.declared.profile.Profile.{Profile};
@@ -8,19 +8,20 @@ ghost use Rattle.cg_snap.specs.PathBytes.{ArePathBytes, path_bytes_prop};
 ghost use Rattle.cg_snap.specs.RecordPlace.{IsRecordPlace};
 ghost use Rattle.cg_snap.specs.Snap.{Snap};
 
+use crate::entry::ended;
 use crate::event::Progress;
 use crate::present::CurrentEntry;
 use crate::record_place::RecordPlace;
 use crate::records::Records;
 use crate::refusal::refusal;
 use crate::snapshot::{is_full, take};
-use crate::stop::Why;
+use crate::stop::{Stop, Why};
 use cg_text::ByteSet;
 use cg_value::{Entry, Profile};
 use std::alloc::Global;
+use std::mem;
 
 /// The records of a snapshot, as far as they came: what is begun of a path, and the entry whose records come.
-#[derive(Drop)]
 pub struct SnapshotRecords {
     pub(crate) alloc: Global,
     pub(crate) profile: Profile,
@@ -29,11 +30,21 @@ pub struct SnapshotRecords {
     ghost path: { ArePathBytes begun.items } by { path_bytes_prop begun.items },
 }
 
-/// Lets go of an entry whose records have come.
-fn let_go(_present: Option<CurrentEntry>) {}
+/// Drops the path and the entry. By hand, as a derived `drop` is proved anew in each crate above, with all that is
+/// below it.
+impl Drop for SnapshotRecords {
+    fn drop(self) {
+        let SnapshotRecords {
+            alloc: _alloc,
+            profile: _profile,
+            begun: _begun,
+            present: _present,
+        } = self;
+    }
+}
 
 impl SnapshotRecords {
-    ghost use Rattle.cg_snap.specs.Decoder.{held_by_records};
+    ghost use Rattle.cg_snap.specs.Decoder.{FinishIs, held_by_records};
     ghost use Rattle.cg_snap.specs.DecoderState.{HasTakenRecords};
 
     /// No record came.
@@ -55,7 +66,7 @@ impl SnapshotRecords {
         ensures profile { self.new.profile ≡ self.old.profile }
     {
         self.begun.clear();
-        let_go(self.present.take());
+        mem::drop(self.present.take());
     }
 
     /// The sum of the lengths of its vectors, or `u64::MAX` where that is more.
@@ -101,6 +112,34 @@ impl SnapshotRecords {
         match &self.present {
             Some(x) => !x.in_line,
             None => true,
+        }
+    }
+
+    /// What the end of a snapshot makes of the records.
+    pub(crate) fn finish(self, at: u64) -> Result<Option<Entry>, Stop>
+        ensures { (profile : Profile) (p : List ℕ) (es : List EntryData) → HasTakenRecords self profile p es → at ≡
+            length p → FinishIs profile p es result }
+    {
+        let SnapshotRecords {
+            alloc: _alloc,
+            profile: _profile,
+            begun,
+            present,
+        } = self;
+        if !begun.is_empty() {
+            return Err(Stop::Cut { at });
+        }
+        match present {
+            None => Ok(None),
+            Some(x) => {
+                if x.in_line {
+                    return Err(Stop::Cut { at });
+                }
+                match ended(x) {
+                    Some(entry) => Ok(Some(entry)),
+                    None => Err(Stop::Cut { at }),
+                }
+            }
         }
     }
 }
