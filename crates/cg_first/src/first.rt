@@ -10,6 +10,7 @@ use cg_snap::laws::{one_list, pulled_is_closed};
 use cg_snap::{Limits, Pulled, SnapshotDecoder, StreamFault, What};
 use cg_value::{Entry, Profile};
 use std::alloc::Global;
+use std::mem;
 
 /// What bytes begin with.
 #[derive(Drop)]
@@ -32,12 +33,6 @@ fn size_of(alloc: Global, entry: &Entry) -> Option<usize>
     }
 }
 
-/// Drops an entry.
-fn let_go_entry(_entry: Entry) {}
-
-/// Drops a decoder.
-fn let_go(_decoder: SnapshotDecoder) {}
-
 /// An entry with the length of its records.
 fn counted(alloc: Global, entry: Entry) -> Result<First, StreamFault>
     ensures { IsCounted entry result }
@@ -45,7 +40,7 @@ fn counted(alloc: Global, entry: Entry) -> Result<First, StreamFault>
     match size_of(alloc, &entry) {
         Some(taken) => Ok(First::Entry { entry, taken }),
         None => {
-            let_go_entry(entry);
+            mem::drop(entry);
             Err(StreamFault::OutOfMemory)
         }
     }
@@ -83,19 +78,19 @@ pub fn first_entry(
             if is_end {
                 return ended(decoder, bytes.len());
             }
-            let_go(decoder);
+            mem::drop(decoder);
             Ok(First::More)
         }
         What::Given(entry) => {
-            let_go(decoder);
+            mem::drop(decoder);
             counted(alloc, entry)
         }
         What::Stopped(stop) => {
-            let_go(decoder);
+            mem::drop(decoder);
             Err(StreamFault::Stopped(stop))
         }
         What::OutOfMemory => {
-            let_go(decoder);
+            mem::drop(decoder);
             Err(StreamFault::OutOfMemory)
         }
     }
