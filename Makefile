@@ -14,11 +14,14 @@ SHAREDIR = $(DESTDIR)$(PREFIX)/share
 all: build/cgfile library
 	printf '10000\n' | build/cgfile file cpu.weight
 
-# The libraries: each is proved where it wasn't proved of this text here, once those are that it stands on, and beside others;
-# as many at once as there are processors, and as 4 GiB of memory that is free. Then what stands on them.
+# How many checks at once.
+AT_ONCE := $(or $(shell scripts/at_once 2> /dev/null),1)
+
+# The libraries: each is proved where it wasn't proved of this text here, once those are that it stands on, and beside others.
+# Then what stands on them.
 LIBRARIES = $(filter-out cgfile cg_rows cg_examples, $(shell sed -n 's/^\([a-z_]*\):.*/\1/p' crates.txt))
 below = $(filter $(LIBRARIES), $(shell sed -n 's/^$(1)://p' crates.txt))
-MAKEFLAGS += --jobs=$(shell awk -v most=$$(nproc) '/^MemAvailable/ { n = int($$2 / 4194304) } END { print n < 1 ? 1 : n < most ? n : most }' /proc/meminfo)
+MAKEFLAGS += --jobs=$(AT_ONCE)
 
 define library
 .PHONY: $(1)
@@ -48,8 +51,10 @@ quick:
 quoted:
 	scripts/quoted
 
+# Each check by one process, as every further one reads anew what the crate stands on; and as many checks as there is room for,
+# where `rt ci` else reckons with more memory than a check has been seen to take.
 check: version quoted
-	rt ci
+	RT_JOBS=$(AT_ONCE) rt ci
 
 install: build/cgfile install-library
 	install -D -m 755 build/cgfile $(BINDIR)/cgfile
