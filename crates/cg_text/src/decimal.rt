@@ -172,6 +172,37 @@ impl DecimalText {
             None
         }
     }
+
+    /// The token behind the byte, where some rest begins with it.
+    #[inline(always)]
+    pub(crate) fn after(self, byte: u8) -> Option<DecimalText>
+        ensures { MatchOption result (NoneBegins ⟦<DecimalText as Token>⟧.means self byte)
+            (Follows ⟦<DecimalText as Token>⟧.means self byte) }
+    {
+        match after(self.lo, self.hi, self.progress, byte) {
+            Some(progress) => Some(DecimalText {
+                lo: self.lo,
+                hi: self.hi,
+                progress,
+            }),
+            None => None,
+        }
+    }
+
+    /// Takes digits from the front, and answers how many. It may leave some that `push` would take.
+    #[inline(always)]
+    pub(crate) fn push_digits(&mut self, bytes: &[u8]) -> usize
+        ensures within { result ≤ length bytes.now }
+        ensures bounds { (self.new.lo ≡ self.old.lo) × (self.new.hi ≡ self.old.hi) }
+        ensures follows { FollowsRun ⟦<DecimalText as Token>⟧.means self.old (take result bytes.now) self.new }
+    {
+        let (begun, count) = match self.progress {
+            Progress::Start => begun_digits(self.lo, self.hi, bytes),
+            _ => after_digits(self.lo, self.hi, self.progress, bytes),
+        };
+        self.progress = begun;
+        count
+    }
 }
 
 impl Token for DecimalText {
@@ -191,12 +222,7 @@ impl Token for DecimalText {
     ghost grows = { false };
 
     fn push(&mut self, bytes: &[u8]) -> Pushed {
-        let (begun, count) = match self.progress {
-            Progress::Start => begun_digits(self.lo, self.hi, bytes),
-            _ => after_digits(self.lo, self.hi, self.progress, bytes),
-        };
-        self.progress = begun;
-        let mut used = count;
+        let mut used = self.push_digits(bytes);
         while used < bytes.len() {
             match after(self.lo, self.hi, self.progress, bytes[used]) {
                 Some(progress) => self.progress = progress,

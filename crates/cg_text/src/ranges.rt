@@ -10,7 +10,7 @@ use crate::items::Items;
 use crate::memory::{OutOfMemory, make_room};
 use crate::pushed::Pushed;
 use crate::steps::{Steps, push_bytes};
-use crate::token::{Token, push_count};
+use crate::token::Token;
 use std::alloc::Global;
 
 /// Ranges as they come: in a strict list maximal and in order, in a loose one any.
@@ -60,11 +60,8 @@ fn list_byte(strict: bool, most: u64, low: Option<u32>, number: DecimalText, byt
     requires within { (rest : List ℕ) (n : ℕ) → number_rest number rest n → n ≤ most }
     ensures turn { IsListByte strict most low number byte result }
 {
-    let mut next = number;
-    match next.step(byte) {
-        Ok(true) => return ListByte::Digit(next),
-        Ok(false) => {}
-        Err(_) => unreachable!(),
+    if let Some(next) = number.after(byte) {
+        return ListByte::Digit(next);
     }
     if !number.can_end() {
         return ListByte::Refused;
@@ -250,7 +247,7 @@ impl Steps for RangesText {
 
     fn take_run(&mut self, bytes: &[u8]) -> usize {
         let mut number = self.number;
-        let count = push_count(&mut number, bytes);
+        let count = number.push_digits(bytes);
         if count == 0 {
             return 0;
         }

@@ -7,10 +7,10 @@ use Rattle.cg_text.proofs.ranges.RangesTextSteps.take_run.Goals as goal
 pub returns-in-Ok-clause-follows : goal.returns-in-Ok-clause-follows
 returns-in-Ok-clause-follows c =
     let s = c.args.self.now in
-    let n = c.push_count-count.result in
+    let n = c.push_digits-count.result in
     let run = take n c.args.bytes.now in
-    let f = c.push_count-count.ensures.follows in
+    let f = c.push_digits-count.ensures.follows in
     let o = c.in-Ok.ensures.opened in
-    let within : n ≤ length c.args.bytes.now = c.push_count-count.ensures.within in
+    let within : n ≤ length c.args.bytes.now = c.push_digits-count.ensures.within in
     let many : 0 < length run = omega (arith, length-take n c.args.bytes.now, within, c.if-count-eq0.false) in
-    list_digits s.strict s.most (number_rest s.number) (number_rest c.push_count-count.new.token) run many (run_digits s.number c.push_count-count.new.token run f) f s.ranges.items c.open.new.ranges.items s.low o.0 o.1
+    list_digits s.strict s.most (number_rest s.number) (number_rest c.push_digits-count.new.self) run many (run_digits s.number c.push_digits-count.new.self run f) f s.ranges.items c.open.new.ranges.items s.low o.0 o.1
