@@ -3,9 +3,10 @@ use crate::escape::bytes_of;
 use crate::row::RowFault;
 use crate::token::spelled;
 use cg_join::DeviceText;
-use cg_line::{UpgradeFault, decode_file, upgrade, upgrade_to};
+use cg_line::{FileFault, UpgradeFault, decode_file, upgrade, upgrade_to};
 use cg_print::append_entry;
 use cg_snap::{EncodeFault, Limits, decode_snapshot, encode_snapshot};
+use cg_text::{Amount, Device};
 use cg_value::{Entry, Profile};
 use std::alloc::{AllocError, Global};
 use std::fmt::Display;
@@ -13,13 +14,10 @@ use std::fmt::Display;
 /// Adds the entries of a snapshot of the first profile.
 fn add_entries(alloc: Global, entries: &mut Vec<Entry>, field: &str) -> Result<(), RowFault> {
     let text = bytes_of(alloc, field)?;
-    let Ok(more) = decode_snapshot(alloc, Profile::One, Limits::DEFAULT, text.as_slice()) else {
-        return Err(RowFault::BadPlace);
-    };
-    for entry in more {
-        entries.push(entry)?;
+    match decode_snapshot(alloc, Profile::One, Limits::DEFAULT, text.as_slice()) {
+        Ok(mut more) => Ok(entries.append(&mut more)?),
+        Err(_) => Err(RowFault::BadPlace),
     }
-    Ok(())
 }
 
 /// The entries of the snapshots of all fields.
@@ -44,13 +42,25 @@ fn upgraded_to(alloc: Global, to: Profile, entry: &Entry) -> Result<Entry, Upgra
     }
 }
 
+/// Adds the records of the entry as the profile reads it.
+fn add_upgraded(
+    alloc: Global,
+    records: &mut Vec<u8>,
+    to: Profile,
+    entry: &Entry,
+) -> Result<(), UpgradeFault> {
+    match upgraded_to(alloc, to, entry) {
+        Ok(other) => append_entry(records, &other).or(Err(UpgradeFault::OutOfMemory)),
+        Err(fault) => Err(fault),
+    }
+}
+
 /// The records of the entries as the profile reads them, or why one of them has no such form.
 fn upgraded(alloc: Global, to: Profile, entries: &[Entry]) -> Result<Vec<u8>, RowFault> {
     let mut records = Vec::new(alloc);
     for entry in entries {
-        match upgraded_to(alloc, to, entry) {
-            Ok(other) => append_entry(&mut records, &other)?,
-            Err(fault) => return Ok(text_of(alloc, fault)?),
+        if let Err(fault) = add_upgraded(alloc, &mut records, to, entry) {
+            return Ok(text_of(alloc, fault)?);
         }
     }
     Ok(records)
@@ -101,6 +111,17 @@ pub(crate) fn is_told(alloc: Global, fields: &[&str]) -> Result<bool, RowFault> 
     Ok(text.as_slice() == wanted.as_bytes())
 }
 
+/// The amount of this device and this key that the text of `io.stat` has.
+fn amount_in(
+    alloc: Global,
+    text: &[u8],
+    device: Device,
+    key: &str,
+) -> Result<Option<Amount>, FileFault> {
+    let value = decode_file(alloc, Profile::One, b"io.stat", text)?;
+    Ok(value.amount_of(device, key.as_bytes()))
+}
+
 /// Whether the text of `io.stat` has this amount of a device and a key.
 pub(crate) fn has_amount(alloc: Global, fields: &[&str]) -> Result<bool, RowFault> {
     let [text, device, key, wanted] = fields else {
@@ -108,10 +129,9 @@ pub(crate) fn has_amount(alloc: Global, fields: &[&str]) -> Result<bool, RowFaul
     };
     let text = bytes_of(alloc, text)?;
     let device = spelled(DeviceText::new(), device.as_bytes())?.ok_or(RowFault::BadWord)?;
-    let Ok(value) = decode_file(alloc, Profile::One, b"io.stat", text.as_slice()) else {
+    let Ok(amount) = amount_in(alloc, text.as_slice(), device, key) else {
         return Err(RowFault::BadPlace);
     };
-    let amount = value.amount_of(device, key.as_bytes());
     let said = format!(in alloc; "{amount:?}")?;
     Ok(said.as_str() == *wanted)
 }

@@ -29,11 +29,16 @@ struct Texts {
 }
 
 /// Adds the texts of an entry.
-fn add_entry(alloc: Global, texts: &mut Texts, entry: Entry) -> Result<(), OutOfMemory> {
-    append_entry(&mut texts.records, &entry)?;
-    let shown = print_shown(alloc, &entry)?;
+fn add_texts(alloc: Global, texts: &mut Texts, entry: &Entry) -> Result<(), OutOfMemory> {
+    append_entry(&mut texts.records, entry)?;
+    let shown = print_shown(alloc, entry)?;
     texts.shown.extend_from_slice(shown.as_slice())?;
     Ok(())
+}
+
+/// Adds the texts of an entry, which is dropped.
+fn add_entry(alloc: Global, texts: &mut Texts, entry: Entry) -> Result<(), OutOfMemory> {
+    add_texts(alloc, texts, &entry)
 }
 
 /// Hands a piece to the decoder. The answer is whether all of it was consumed.
