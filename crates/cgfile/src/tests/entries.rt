@@ -1,5 +1,5 @@
 //! Entries and items of plans: which are refused, and what the others give back.
-use crate::tests::snapshots::entry;
+use crate::tests::snapshots::{entry, item};
 use cg_text::Items;
 use cg_value::{Entry, EntryFault, ItemFault, PlanItem, Profile, Setting, Value};
 use std::alloc::Global;
@@ -73,8 +73,7 @@ fn refused_items(rt: HostRuntime) -> Result<(), Fail> {
 
 #[test]
 fn plan_items(rt: HostRuntime) -> Result<(), Fail> {
-    let path = b"a/cpu.weight".to_vec(rt.alloc())?;
-    let item = PlanItem::new(Profile::One, path, Setting::Number(1))?;
+    let item = item(rt.alloc(), b"a/cpu.weight", Setting::Number(1))?;
     assert!(rt; item.path() == b"a/cpu.weight".as_slice());
     assert!(rt; item.name() == b"cpu.weight".as_slice());
     assert!(rt; *item.setting() == Setting::Number(1));

@@ -95,12 +95,20 @@ pub(crate) fn idle(alloc: Global) -> Result<Entry, Fail> {
     entry(alloc, b"cpu.idle", Value::Number(1))
 }
 
+/// The item of the first profile that has this path and this setting.
+pub(crate) fn item(alloc: Global, path: &[u8], setting: Setting) -> Result<PlanItem, Fail> {
+    let path = path.to_vec(alloc)?;
+    let item = PlanItem::new(Profile::One, path, setting)?;
+    Ok(item)
+}
+
 /// The item of `memory.max` with 15 times 2 to the power of 60.
 pub(crate) fn memory_bound(alloc: Global) -> Result<PlanItem, Fail> {
-    let path = b"memory.max".to_vec(alloc)?;
-    let size = Setting::Limit(Limit::At(17293822569102704640));
-    let item = PlanItem::new(Profile::One, path, size)?;
-    Ok(item)
+    item(
+        alloc,
+        b"memory.max",
+        Setting::Limit(Limit::At(17293822569102704640)),
+    )
 }
 
 #[test]

@@ -6,7 +6,7 @@ use crate::tests::snapshots::{
     LINE_TOO_MANY, RAW_AND_REASON, TWO_FILES, UNBOUNDED, are_same, decoder, ending, idle, is_entry,
     last_entry, memory_bound, raw_and_reason,
 };
-use crate::tests::starved_streams::{BOUND, BOUND_LINE, DELEGATED};
+use crate::tests::starved_streams::{BOUND, BOUND_LINE, DELEGATED, PAIRS};
 use cg_line::{FileFault, SettingFault, decode_file, decode_setting};
 use cg_print::{
     CutSink, EntryWriteFault, append_entry, append_item, print_file, print_setting, write_entry,
@@ -67,24 +67,95 @@ enum Call {
     Run(usize),
 }
 
-/// A command with its input, and what it writes.
-#[derive(Drop)]
-struct Case {
-    command: Command,
+/// A command, by its word and the name of its file, with its input and what it writes.
+#[derive(Clone, Copy)]
+struct Run {
+    word: &'static str,
+    name: &'static [u8],
     input: &'static [u8],
     output: &'static [u8],
 }
+
+/// Runs that want memory.
+const RUNS: [Run; 11] = [
+    Run {
+        word: "file",
+        name: b"cpu.weight",
+        input: b"10000\n",
+        output: b"10000\n",
+    },
+    Run {
+        word: "file",
+        name: b"cpuset.cpus",
+        input: b"65534,",
+        output: b"cgfile: refused at 5: line\n",
+    },
+    Run {
+        word: "file",
+        name: b"cgroup.procs",
+        input: b"7\n0\n7\n",
+        output: b"7\n0\n7\n",
+    },
+    Run {
+        word: "file",
+        name: b"hugetlb.2MB.max",
+        input: b"ab\nc\n",
+        output: b"ab\nc\n",
+    },
+    Run {
+        word: "setting",
+        name: b"cpuset.cpus",
+        input: b"9,3-5,4\n",
+        output: b"3-5,9\n",
+    },
+    Run {
+        word: "setting",
+        name: b"hugetlb.2MB.max",
+        input: b"ab\n",
+        output: b"ab\n",
+    },
+    Run {
+        word: "show",
+        name: b"",
+        input: TWO_FILES,
+        output: b"cpu.max: max 100000\ncpu.max.burst: 0\n",
+    },
+    Run {
+        word: "show",
+        name: b"",
+        input: LINE_TOO_MANY,
+        output: b"cgfile: refused at 26: no more lines\n",
+    },
+    Run {
+        word: "plan",
+        name: b"",
+        input: b"memory.max\015E\n",
+        output: b"memory.max\017293822569102704640\n",
+    },
+    Run {
+        word: "json",
+        name: b"",
+        input: BOUND,
+        output: BOUND_LINE,
+    },
+    Run {
+        word: "check",
+        name: b"",
+        input: DELEGATED,
+        output: b"C2 r/a/cgroup.subtree_control io\nC3 r/a/cgroup.subtree_control io\n",
+    },
+];
 
 /// What the calls are made on.
 #[derive(Drop)]
 struct Given {
     entry: Entry,
     entries: Vec<Entry>,
-    setting: Setting,
     set: NumberSet,
     flat: Flat,
     words: Vec<String>,
-    cases: Vec<Case>,
+    /// Those of `RUNS`.
+    commands: Vec<Command>,
 }
 
 /// Whether a file is refused at its byte 5.
@@ -189,24 +260,24 @@ const WANT_OF_MEMORY: &[u8] = b"cgfile: out of memory\n";
 
 /// Whether a run for which no memory was left wrote first lines of its output but not all, none where it writes all at
 /// the end, and then its last line.
-fn is_want_told(case: &Case, written: &[u8]) -> bool {
+fn is_want_told(case: &Run, written: &[u8]) -> bool {
     let at = written.len().saturating_sub(WANT_OF_MEMORY.len());
     let (front, line) = written.split_at(at);
-    let is_begun = match case.command {
-        Command::File { .. } | Command::Setting { .. } => front.is_empty(),
+    let is_begun = match case.word {
+        "file" | "setting" => front.is_empty(),
         _ => case.output.starts_with(front) && front != case.output,
     };
     is_begun && (front.is_empty() || front.ends_with(b"\n")) && line == WANT_OF_MEMORY
 }
 
-/// Whether a run writes what it is to write, or that no memory was left.
-fn runs(alloc: Global, case: &Case) -> Option<bool> {
+/// Whether a run of this command writes what it is to write, or that no memory was left.
+fn runs(alloc: Global, command: &Command, case: &Run) -> Option<bool> {
     let mut source = CutSource::new(case.input, usize::MAX, 4096);
     let mut sink = CutSink::new(usize::MAX, 4096);
     let outcome = run(
         alloc,
         Profile::One,
-        &case.command,
+        command,
         &mut source,
         &mut sink,
         Limits::DEFAULT,
@@ -225,16 +296,16 @@ fn tried(call: Call, alloc: Global, given: &Given) -> Option<bool> {
         Call::DecodeSetting => decodes_setting(alloc),
         Call::MakeKey => makes_key(alloc),
         Call::PrintFile => is_printed(print_file(alloc, &Value::Number(10000)), b"10000\n"),
-        Call::PrintSetting => is_printed(print_setting(alloc, &given.setting), b"3-5,9\n"),
+        Call::PrintSetting => is_printed(print_setting(alloc, &PAIRS), b"8:16 rbps=max wiops=7\n"),
         Call::WriteEntry => writes_entry(alloc, &given.entry),
         Call::DecodeSnapshot => decodes_snapshot(alloc, given.entries.as_slice()),
         Call::CopyEntry => copies_entry(alloc, &given.entry),
         Call::CopySet => copies_set(alloc, &given.set),
         Call::CopyFlat => copies_flat(alloc, &given.flat),
         Call::ParseWords => parses_words(alloc, given.words.as_slice()),
-        Call::Run(place) => match given.cases.as_slice().get(place) {
-            Some(case) => runs(alloc, case),
-            None => Some(false),
+        Call::Run(place) => match (given.commands.as_slice().get(place), RUNS.get(place)) {
+            (Some(command), Some(case)) => runs(alloc, command, case),
+            _ => Some(false),
         },
     }
 }
@@ -263,83 +334,27 @@ fn two_words(alloc: Global) -> Result<Vec<String>, AllocError> {
     Ok(words)
 }
 
-/// A run of `file`.
-fn file(
-    alloc: Global,
-    name: &[u8],
-    input: &'static [u8],
-    output: &'static [u8],
-) -> Result<Case, AllocError> {
+/// The command of this word, for the file of this name where it takes one.
+fn command_of(alloc: Global, word: &str, name: &[u8]) -> Result<Command, AllocError> {
     let name = Vec::from_slice(alloc, name)?;
-    Ok(Case {
-        command: Command::File { name },
-        input,
-        output,
+    Ok(match word {
+        "file" => Command::File { name },
+        "setting" => Command::Setting { name },
+        "show" => Command::Show,
+        "json" => Command::Json,
+        "check" => Command::Check,
+        _ => Command::Plan,
     })
 }
 
-/// A run of `setting`.
-fn setting(
-    alloc: Global,
-    name: &[u8],
-    input: &'static [u8],
-    output: &'static [u8],
-) -> Result<Case, AllocError> {
-    let name = Vec::from_slice(alloc, name)?;
-    Ok(Case {
-        command: Command::Setting { name },
-        input,
-        output,
-    })
-}
-
-/// A run over a stream.
-fn streamed(command: Command, input: &'static [u8], output: &'static [u8]) -> Case {
-    Case {
-        command,
-        input,
-        output,
+/// The commands of `RUNS`.
+fn commands(alloc: Global) -> Result<Vec<Command>, AllocError> {
+    let mut commands = Vec::new(alloc);
+    for case in &RUNS {
+        let command = command_of(alloc, case.word, case.name)?;
+        commands.push(command)?;
     }
-}
-
-/// Runs over streams that want memory.
-fn stream_cases(alloc: Global) -> Result<Vec<Case>, AllocError> {
-    let shown = b"cpu.max: max 100000\ncpu.max.burst: 0\n";
-    let refused = b"cgfile: refused at 26: no more lines\n";
-    let bound = b"memory.max\017293822569102704640\n";
-    let broken = b"C2 r/a/cgroup.subtree_control io\nC3 r/a/cgroup.subtree_control io\n";
-    let cases = vec![in alloc;
-        streamed(Command::Show, TWO_FILES, shown),
-        streamed(Command::Show, LINE_TOO_MANY, refused),
-        streamed(Command::Plan, b"memory.max\015E\n", bound),
-        streamed(Command::Json, BOUND, BOUND_LINE.as_bytes()),
-        streamed(Command::Check, DELEGATED, broken),
-    ]?;
-    Ok(cases)
-}
-
-/// Runs that want memory.
-fn cases(alloc: Global) -> Result<Vec<Case>, AllocError> {
-    let number = file(alloc, b"cpu.weight", b"10000\n", b"10000\n")?;
-    let refused = b"cgfile: refused at 5: line\n";
-    let list = file(alloc, b"cpuset.cpus", b"65534,", refused)?;
-    let numbers = file(alloc, b"cgroup.procs", b"7\n0\n7\n", b"7\n0\n7\n")?;
-    let lines = file(alloc, b"hugetlb.2MB.max", b"ab\nc\n", b"ab\nc\n")?;
-    let set = setting(alloc, b"cpuset.cpus", b"9,3-5,4\n", b"3-5,9\n")?;
-    let line = setting(alloc, b"hugetlb.2MB.max", b"ab\n", b"ab\n")?;
-    let mut cases = vec![in alloc; number, list, numbers, lines, set, line]?;
-    for case in stream_cases(alloc)? {
-        cases.push(case)?;
-    }
-    Ok(cases)
-}
-
-/// A set, a setting with a copy of it, and a flat value.
-fn values_given(alloc: Global) -> Result<(NumberSet, Setting, Flat), Fail> {
-    let flat = one_pair(alloc)?;
-    let set = three_to_five_and_nine(alloc)?;
-    let copy = set.copy(alloc)?;
-    Ok((set, Setting::Set(copy), flat))
+    Ok(commands)
 }
 
 /// An entry, and two others.
@@ -352,17 +367,17 @@ fn entries_given(alloc: Global) -> Result<(Entry, Vec<Entry>), Fail> {
 /// What the calls are made on.
 fn all_given(alloc: Global) -> Result<Given, Fail> {
     let words = two_words(alloc)?;
-    let cases = cases(alloc)?;
-    let (set, setting, flat) = values_given(alloc)?;
+    let commands = commands(alloc)?;
+    let set = three_to_five_and_nine(alloc)?;
+    let flat = one_pair(alloc)?;
     let (entry, entries) = entries_given(alloc)?;
     Ok(Given {
         entry,
         entries,
-        setting,
         set,
         flat,
         words,
-        cases,
+        commands,
     })
 }
 

@@ -21,7 +21,7 @@ const LIMIT_PAIRS: &[u8] = b"io.max\08:16 wiops=7 rbps=max\n";
 const CONTROLLERS: &[u8] = b"cgroup.subtree_control\0+cpu -io +cpu\n";
 
 /// The setting of `LIMIT_PAIRS`.
-const PAIRS: Setting = Setting::DeviceLimits {
+pub(crate) const PAIRS: Setting = Setting::DeviceLimits {
     device: Device {
         major: 8,
         minor: 16,
@@ -206,7 +206,7 @@ fn tried(alloc: Global, call: &Call) -> Option<bool> {
             Ok(tree) => Some(tree == *wanted),
             Err(OutOfMemory) => None,
         },
-        Call::Line(entry) => is_printed(line(alloc, entry), BOUND_LINE.as_bytes()),
+        Call::Line(entry) => is_printed(line(alloc, entry), BOUND_LINE),
     }
 }
 
@@ -215,8 +215,8 @@ pub(crate) const DELEGATED: &[u8] = b"r/cgroup.controllers\0cpu io\nr/cgroup.sub
     r/a/cgroup.type\0domain\nr/a/cgroup.procs\07\nr/a/cgroup.subtree_control\0cpu io\n";
 
 /// The line of an entry that sets no bound.
-pub(crate) const BOUND_LINE: &str =
-    "{\"kind\":\"cpu_max\",\"path\":\"a/cpu.max\",\"value\":{\"period\":100000,\"quota\":\"max\"}}\n";
+pub(crate) const BOUND_LINE: &[u8] =
+    b"{\"kind\":\"cpu_max\",\"path\":\"a/cpu.max\",\"value\":{\"period\":100000,\"quota\":\"max\"}}\n";
 
 pub(crate) const BOUND: &[u8] = b"a/cpu.max\0max 100000\n";
 
@@ -262,7 +262,7 @@ fn other_calls(alloc: Global) -> Result<Vec<Call>, Fail> {
     calls.push(Call::EncodeSnapshot(entries))?;
     let entries = entries_of(alloc, Profile::One, DELEGATED)?;
     calls.push(Call::Find(entries))?;
-    let tree = serde_json::Value::from_str(alloc, BOUND_LINE)?;
+    let tree = serde_json::Value::from_slice(alloc, BOUND_LINE)?;
     let entry = entry_of(alloc, Profile::One, BOUND)?;
     calls.push(Call::View(entry, tree))?;
     let entry = entry_of(alloc, Profile::One, BOUND)?;
