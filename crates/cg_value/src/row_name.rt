@@ -56,6 +56,10 @@ pub(crate) fn behind_size(text: &[u8]) -> Option<&[u8]>
 pub(crate) fn is_sized(row: &[u8], rest: &[u8]) -> bool
     ensures { result ≡ bytes_eq row.now (codes "hugetlb.*" ++ rest.now) }
 {
+    // Most rows have another length.
+    if row.len() != rest.len() + 9 {
+        return false;
+    }
     match row.strip_prefix(b"hugetlb.*") {
         Some(part) => part == rest,
         None => false,
