@@ -7,10 +7,10 @@ use Rattle.std.specs.declared.io.ErrorKind.{ErrorKind}
 use Rattle.std.specs.declared.io.ErrorKind.TheVariants as io
 use Rattle.cg_snap.specs.declared.limits.Limits.{Limits}
 use Rattle.cg_value.specs.declared.profile.Profile.{Profile}
-use Rattle.cg_run.specs.Outcome.{status_of}
+use Rattle.cg_outcome.specs.Outcome.{status_of}
 use Rattle.cg_run.specs.Run.{IsIdle, RanWith}
 use Rattle.cg_program.specs.Words.{Answers}
-use Rattle.cg_run.specs.declared.outcome.Outcome.{Outcome}
+use Rattle.cg_outcome.specs.declared.outcome.Outcome.{Outcome}
 use Rattle.cg_run.specs.declared.command.Command.{Command}
 use Rattle.cg_run.specs.declared.options.Options.{Options}
 use Rattle.cg_program.specs.declared.words.Request.{Request}

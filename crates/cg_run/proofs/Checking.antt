@@ -11,15 +11,15 @@ use Rattle.cg_tree.specs.RuledLaws.{told_of_ruled}
 use Rattle.cg_tree.specs.declared.finding.Finding.{Finding}
 use Rattle.cg_run.specs.Check.{IsCheckRight, control_text, finding_line, finding_lines}
 use Rattle.cg_run.specs.Checked.{AreAllLines, AreLinesRight, HasWrittenLines, IsKept}
-use Rattle.cg_run.specs.Explain.{Tells}
-use Rattle.cg_run.specs.Input.{Reading}
-use Rattle.cg_run.specs.Outcome.{checked, last_line}
-use Rattle.cg_run.specs.Run.{Wrote, joined}
+use Rattle.cg_outcome.specs.Explain.{Tells}
+use Rattle.cg_outcome.specs.Input.{Reading}
+use Rattle.cg_outcome.specs.Outcome.{checked, last_line}
+use Rattle.cg_outcome.specs.Wrote.{Wrote, joined}
 use Rattle.cg_run.specs.Stream.{IsStreamDone, IsStreamRight}
 use Rattle.cg_run.specs.Streaming.{EndsSo}
 use Rattle.cg_run.specs.declared.kept.Kept.{Kept}
-use Rattle.cg_run.specs.declared.outcome.Outcome.{Outcome}
-use Rattle.cg_run.specs.declared.outcome.Outcome.TheVariants as out
+use Rattle.cg_outcome.specs.declared.outcome.Outcome.{Outcome}
+use Rattle.cg_outcome.specs.declared.outcome.Outcome.TheVariants as out
 
 module _ (Whole : List ℕ → List (List ℕ) → Outcome → Type 0) (Closes : List ℕ → List (List ℕ) → Type 0) (Unstopped : List ℕ → Type 0) (StopsBy : List ℕ → Stop → Type 0) (r : Reading) where
   -- What is right for a stream is right for one that is checked.

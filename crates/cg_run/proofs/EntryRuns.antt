@@ -27,14 +27,14 @@ use Rattle.cg_snap.specs.declared.meter.Meter.{Meter}
 use Rattle.cg_run.specs.EntryRun.{AreRun, HavePassed}
 use Rattle.cg_run.specs.GoneOn.{ExplainsTold, GoingStopOf, IsGoingUnstopped, ShowsEntries, Telling, TellsParts, explained_part, how_many, left_out_of, told_found, told_of}
 use Rattle.cg_run.specs.GoneOnReader.{FoundOn, GoesOn, HasGoneOn, HasTakenOn}
-use Rattle.cg_run.specs.Lines.{AreBehind}
-use Rattle.cg_run.specs.Run.{joined}
+use Rattle.cg_outcome.specs.Lines.{AreBehind}
+use Rattle.cg_outcome.specs.Wrote.{joined}
 use Rattle.cg_run.specs.ShownBytes.{CutsOff, IsCut}
 use Rattle.cg_run.specs.Stream.{shown_part}
 use Rattle.cg_run.specs.Streaming.{IsFoundBy, LeadsTo, StandsBehind, WantsMemory}
 use Rattle.cg_run.specs.Taken.{taken_closed, taken_unstopped}
 use Rattle.cg_run.specs.declared.going_on.GoingOnReader.{GoingOnReader}
-use Rattle.cg_run.specs.declared.lines.Lines.{Lines}
+use Rattle.cg_outcome.specs.declared.lines.Lines.{Lines}
 use Rattle.cg_run.proofs.Decoding.{plain_push, some_push}
 use Rattle.cg_run.proofs.GoingOn.{all_both, count_entry, explained_more, found_none, given_found, how_many_both, text_push, told_both}
 use Rattle.cg_run.proofs.Showing.{lines_are, some_shown}

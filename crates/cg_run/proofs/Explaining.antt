@@ -7,7 +7,7 @@ use Rattle.cg_line.specs.Decode.{IsStarved}
 use Rattle.cg_snap.specs.Stop.{place_of}
 use Rattle.cg_snap.specs.declared.stop.Stop.{Stop}
 use Rattle.cg_snap.specs.declared.stop.Stop.TheVariants as stop
-use Rattle.cg_run.specs.Explain.{ExplainsNext, IsInText, TellsSpot}
+use Rattle.cg_outcome.specs.Explain.{ExplainsNext, IsInText, TellsSpot}
 use Rattle.cg_run.specs.Explained.{IsExplained, IsExplanation, IsLine}
 use Rattle.cg_run.specs.Reading.{IsStoppedAt}
 use Rattle.cg_run.specs.Run.{IsTextStarved}

@@ -31,19 +31,19 @@ use Rattle.cg_snap.proofs.GoingOnTakes.{faults_last}
 use Rattle.cg_tree.specs.Ruled.{ruled}
 use Rattle.cg_run.specs.Check.{finding_lines}
 use Rattle.cg_run.specs.Checked.{IsKept}
-use Rattle.cg_run.specs.Explain.{AreNext, Explains, IsInRecord}
+use Rattle.cg_outcome.specs.Explain.{AreNext, Explains, IsInRecord}
 use Rattle.cg_run.specs.GoneOn.{AllOf, ExplainsCause, ExplainsFault, ExplainsTold, GoingStopOf, IsGoingUnstopped, Telling, TellsParts, checked_outcome, entries_of, entry_of, explained_part, how_many, left_out_of, told_found, told_of, told_outcome}
 use Rattle.cg_run.specs.GoneOnReader.{EndsOnBy, ExplainsOut, HasEndedOn, HasGoneOn, HasTakenOn, IsFaultAt, IsUntold}
-use Rattle.cg_run.specs.Lines.{AreBehind, AreCounted}
-use Rattle.cg_run.specs.Outcome.{checked, gone_on}
-use Rattle.cg_run.specs.Run.{joined}
+use Rattle.cg_outcome.specs.Lines.{AreBehind, AreCounted}
+use Rattle.cg_outcome.specs.Outcome.{checked, gone_on}
+use Rattle.cg_outcome.specs.Wrote.{joined}
 use Rattle.cg_run.specs.Streaming.{EndIs, FoundIs, HasNoWhole, HasWhole, IsCutAt, IsEndFault}
 use Rattle.cg_run.specs.Taken.{taken_unstopped}
 use Rattle.cg_run.specs.declared.going_on.Ended.{Ended}
 use Rattle.cg_run.specs.declared.going_on.GoingOnReader.{GoingOnReader}
 use Rattle.cg_run.specs.declared.kept.Kept.{Kept}
-use Rattle.cg_run.specs.declared.lines.Lines.{Lines}
-use Rattle.cg_run.specs.declared.outcome.Outcome.{Outcome}
+use Rattle.cg_outcome.specs.declared.lines.Lines.{Lines}
+use Rattle.cg_outcome.specs.declared.outcome.Outcome.{Outcome}
 use Rattle.cg_run.proofs.Checking.{lines_of_ruled}
 use Rattle.cg_run.proofs.Finds.{no_more}
 use Rattle.cg_run.proofs.Keeping.{given_starved, unstopped_front}

@@ -21,12 +21,12 @@ use Rattle.cg_tree.specs.Directory.{name_of}
 use Rattle.cg_tree.specs.Ruled.{is_ruled, ruled}
 use Rattle.cg_run.specs.Check.{HasNoParts, finding_lines, found_outcome}
 use Rattle.cg_run.specs.Checked.{IsKept}
-use Rattle.cg_run.specs.Outcome.{checked}
+use Rattle.cg_outcome.specs.Outcome.{checked}
 use Rattle.cg_run.specs.Stream.{WholeOf}
 use Rattle.cg_run.specs.Streaming.{IsEndFault, WantsMemory}
 use Rattle.cg_run.specs.Taken.{taken_unstopped}
 use Rattle.cg_run.specs.declared.kept.Kept.{Kept}
-use Rattle.cg_run.specs.declared.outcome.Outcome.{Outcome}
+use Rattle.cg_outcome.specs.declared.outcome.Outcome.{Outcome}
 use Rattle.cg_run.proofs.Checking.{lines_of_ruled}
 
 -- The first bytes of a stream that nothing stops.

@@ -5,7 +5,6 @@ pub mod FileText
 pub mod Finds
 pub mod GoingOn
 pub mod Keeping
-pub mod KindsLemmas
 pub mod LetGo
 pub mod Parts
 pub mod Planning
@@ -18,10 +17,6 @@ pub mod Stops
 pub mod Streams
 pub mod Took
 pub mod Written
-pub mod ByteTold
-pub mod Lined
-pub mod SpotTold
-pub mod Spots
 pub mod WithoutOptions
 pub mod Standing
 pub mod Explaining

@@ -13,8 +13,8 @@ use Rattle.cg_snap.specs.declared.stop.Stop.{Stop}
 use Rattle.cg_snap.specs.declared.stop.Stop.TheVariants as stops
 use Rattle.cg_run.specs.Stream.{DoneOf}
 use Rattle.cg_run.specs.Streaming.{EndIs}
-use Rattle.cg_run.specs.declared.outcome.Outcome.{Outcome}
-use Rattle.cg_run.specs.declared.outcome.Outcome.TheVariants as out
+use Rattle.cg_outcome.specs.declared.outcome.Outcome.{Outcome}
+use Rattle.cg_outcome.specs.declared.outcome.Outcome.TheVariants as out
 use Rattle.cg_run.proofs.Written.{joined_one}
 
 -- One part more.

@@ -12,8 +12,8 @@ use Rattle.cg_snap.specs.declared.stop.Stop.{Stop}
 use Rattle.cg_snap.specs.declared.stop.Stop.TheVariants as stops
 use Rattle.cg_run.specs.Stream.{DoneOf, item_part}
 use Rattle.cg_run.specs.Streaming.{EndIs}
-use Rattle.cg_run.specs.declared.outcome.Outcome.{Outcome}
-use Rattle.cg_run.specs.declared.outcome.Outcome.TheVariants as out
+use Rattle.cg_outcome.specs.declared.outcome.Outcome.{Outcome}
+use Rattle.cg_outcome.specs.declared.outcome.Outcome.TheVariants as out
 
 module _ (d : PlanDecoder) (profile : Profile) (limits : Limits) (p : List ℕ) (items : List ItemData) (parts : List (List ℕ)) (parts_are : parts ≡ map item_part items)
     (h : HasTakenPlan d profile limits p items) where

@@ -5,13 +5,14 @@ use Rattle.cg_text.specs.Texts.{TextOf}
 use Rattle.cg_snap.specs.Stop.{IsTextUnstopped, TextStopOf}
 use Rattle.cg_snap.specs.declared.stop.Stop.{Stop}
 use Rattle.cg_snap.specs.declared.stop.Stop.TheVariants as stop
-use Rattle.cg_run.specs.Explain.{Tells}
-use Rattle.cg_run.specs.Outcome.{last_line}
-use Rattle.cg_run.specs.Input.{Reading}
-use Rattle.cg_run.specs.Run.{IsTextStop, IsTextRight, IsRealFault, Wrote, DidRunWith}
+use Rattle.cg_outcome.specs.Explain.{Tells}
+use Rattle.cg_outcome.specs.Outcome.{last_line}
+use Rattle.cg_outcome.specs.Input.{Reading}
+use Rattle.cg_run.specs.Run.{IsTextStop, IsTextRight, DidRunWith}
+use Rattle.cg_outcome.specs.Wrote.{Wrote}
 use Rattle.cg_run.specs.Ended.{IsEndRight}
-use Rattle.cg_run.specs.declared.outcome.Outcome.{Outcome}
-use Rattle.cg_run.specs.declared.outcome.Outcome.TheVariants as out
+use Rattle.cg_outcome.specs.declared.outcome.Outcome.{Outcome}
+use Rattle.cg_outcome.specs.declared.outcome.Outcome.TheVariants as out
 use Rattle.cg_run.proofs.Took.{Consumes-nil}
 
 module _ {V : Type 0} (Text : List ℕ → V → Type 0) (print : V → List ℕ) (max : ℕ) (r : Reading) where
@@ -39,18 +40,6 @@ module _ {V : Type 0} (Text : List ℕ → V → Type 0) (print : V → List ℕ
   end_right ended works unstopped out.ReadFault parts h = absurd h
   end_right ended works unstopped (out.WriteFault n) parts h = absurd h
   end_right ended works unstopped out.OutOfMemory parts h = (rw h.2 tt, inr (print h.0, record { ended = (ended, works); unstopped = unstopped; value = h.0; spelled = h.1; part_is = refl }))
-
--- A fault of the writer that was told is real.
-pub wrote_real : (taken now : Option (List ℕ)) (failed : Bool) (text : List ℕ) (wanted o : Outcome) → Wrote taken now failed text wanted o → IsRealFault o failed
-wrote_real taken now failed text wanted out.Done h = tt
-wrote_real taken now failed text wanted (out.Findings n) h = tt
-wrote_real taken now failed text wanted (out.LeftOut n) h = tt
-wrote_real taken now failed text wanted (out.Stopped s) h = tt
-wrote_real taken now failed text wanted out.NotReadable h = tt
-wrote_real taken now failed text wanted out.NotWritable h = tt
-wrote_real taken now failed text wanted out.ReadFault h = tt
-wrote_real taken now failed text wanted (out.WriteFault n) h = h.4
-wrote_real taken now failed text wanted out.OutOfMemory h = tt
 
 -- Nothing was read, and the last line alone was written.
 pub idle_ran : (Right : Reading → Outcome → List (List ℕ) → Type 0) (Tells : Reading → Outcome → List ℕ → Type 0) (coming : Option (List ℕ)) (read_failed : Bool) (taken now : Option (List ℕ)) (write_failed : Bool) (wanted o : Outcome) →

@@ -28,7 +28,7 @@ use Rattle.cg_run.proofs.ShowsBytes.{plain_shown, records_shown, shown-append, s
 use Rattle.cg_run.proofs.SnapEnds.{IsEntryEnd, entries_push, entry_end, last_lines, lines_lack_nul}
 use Rattle.cg_snap.specs.Begun.{IsRecordEnd}
 use Rattle.cg_run.specs.Decoded.{AreFollowed, ArePlain, CloseMore}
-use Rattle.cg_run.specs.Run.{joined}
+use Rattle.cg_outcome.specs.Wrote.{joined}
 
 -- ---- Entries
 

@@ -9,7 +9,7 @@ use Rattle.cg_snap.specs.declared.event.Event.TheVariants as events
 use Rattle.cg_snap.specs.declared.limits.Limits.{Limits}
 use Rattle.cg_run.specs.Stood.{HasStood}
 use Rattle.cg_run.specs.Streaming.{HasNoWhole, HasWhole, IsAppended, StandsBehind}
-use Rattle.cg_run.specs.declared.outcome.Outcome.{Outcome}
+use Rattle.cg_outcome.specs.declared.outcome.Outcome.{Outcome}
 
 module _ {R Form Part : Type 0} (stream : Form → Stream R Part) (form_of : R → Form) (now : Decoder R) (form : Form) (limits : Limits) (same_form : form_of now.records ≡ form) (same_limits : now.meter.limits ≡ limits)
     (p : List ℕ) (es : List Part) (piece : List ℕ) (used : ℕ) where

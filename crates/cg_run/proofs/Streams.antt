@@ -10,15 +10,15 @@ use Rattle.cg_snap.specs.declared.event.Event.{Event}
 use Rattle.cg_snap.specs.declared.event.Event.TheVariants as events
 use Rattle.cg_snap.specs.declared.stop.Stop.{Stop}
 use Rattle.cg_snap.specs.declared.stop.Stop.TheVariants as stops
-use Rattle.cg_run.specs.Explain.{Tells, TellsSpot, TellsStop}
-use Rattle.cg_run.specs.Input.{Reading}
-use Rattle.cg_run.specs.Outcome.{gone_on, last_line}
+use Rattle.cg_outcome.specs.Explain.{Tells, TellsSpot, TellsStop}
+use Rattle.cg_outcome.specs.Input.{Reading}
+use Rattle.cg_outcome.specs.Outcome.{gone_on, last_line}
 use Rattle.cg_run.specs.Output.{Holds}
-use Rattle.cg_run.specs.Run.{Wrote, joined}
+use Rattle.cg_outcome.specs.Wrote.{FailsIn, Wrote, joined}
 use Rattle.cg_run.specs.Stream.{IsEarlyRight, IsStreamRight, IsStreamStarved, IsStreamStop}
-use Rattle.cg_run.specs.Streaming.{EndsSo, FailsIn, FoundIs, HasWhole, IsByteStop, IsCutAt, LeadsTo, WantsMemory}
-use Rattle.cg_run.specs.declared.outcome.Outcome.{Outcome}
-use Rattle.cg_run.specs.declared.outcome.Outcome.TheVariants as out
+use Rattle.cg_run.specs.Streaming.{EndsSo, FoundIs, HasWhole, IsByteStop, IsCutAt, LeadsTo, WantsMemory}
+use Rattle.cg_outcome.specs.declared.outcome.Outcome.{Outcome}
+use Rattle.cg_outcome.specs.declared.outcome.Outcome.TheVariants as out
 use Rattle.cg_run.specs.declared.output.Output.{Output}
 use Rattle.cg_run.proofs.Written.{holds_more}
 

@@ -12,12 +12,12 @@ use Rattle.cg_snap.specs.declared.stop.Stop.{Stop}
 use Rattle.cg_snap.specs.declared.stop.Stop.TheVariants.{Refused}
 use Rattle.cg_snap.specs.declared.stop.Why.TheVariants.{Line}
 use Rattle.cg_run.specs.Run.{IsTextStarved}
-use Rattle.cg_run.specs.Lines.{AreBehind}
+use Rattle.cg_outcome.specs.Lines.{AreBehind}
 use Rattle.cg_run.specs.Reading.{AreBehindEnding, ending_of, GoesOn, TookPiece, EndsBy}
-use Rattle.cg_run.specs.declared.lines.Lines.{Lines}
+use Rattle.cg_outcome.specs.declared.lines.Lines.{Lines}
 use Rattle.cg_run.specs.declared.reading.Ending.{Ending}
 use Rattle.cg_run.specs.declared.reading.Ending.TheVariants.{End, Stopped, ReadFault, OutOfMemory}
-use Rattle.cg_run.specs.Streaming.{HasWritten}
+use Rattle.cg_outcome.specs.Wrote.{HasWritten}
 use Rattle.cg_run.proofs.Stops.{unstopped, stop_refused, stop_longer, piece_at}
 
 -- L is the set of the texts, and Took says of some bytes that the reader took them.

@@ -9,14 +9,15 @@ use Rattle.cg_snap.specs.Plan.{Plan}
 use Rattle.cg_snap.specs.Snap.{Snap}
 use Rattle.cg_snap.specs.declared.limits.Limits.{Limits}
 use Rattle.cg_snap.specs.declared.stop.Stop.TheVariants as stop
-use Rattle.cg_run.specs.Explain.{ExplainsNext, IsInRecord, IsInText, Tells}
+use Rattle.cg_outcome.specs.Explain.{ExplainsNext, IsInRecord, IsInText, Tells}
 use Rattle.cg_run.specs.GoneOn.{ExplainsOn}
-use Rattle.cg_run.specs.Input.{Reading}
-use Rattle.cg_run.specs.Outcome.{last_line}
-use Rattle.cg_run.specs.Run.{DidRun, DidRunWith, TellsOf, TellsOfFile, TellsOfForm, TellsOfSnapshot, TellsOfWrite, Wrote, joined}
+use Rattle.cg_outcome.specs.Input.{Reading}
+use Rattle.cg_outcome.specs.Outcome.{last_line}
+use Rattle.cg_run.specs.Run.{DidRun, DidRunWith, TellsOf, TellsOfFile, TellsOfForm, TellsOfSnapshot, TellsOfWrite}
+use Rattle.cg_outcome.specs.Wrote.{Wrote, joined}
 use Rattle.cg_run.specs.declared.options.Options.{Options}
-use Rattle.cg_run.specs.declared.outcome.Outcome.{Outcome}
-use Rattle.cg_run.specs.declared.outcome.Outcome.TheVariants as out
+use Rattle.cg_outcome.specs.declared.outcome.Outcome.{Outcome}
+use Rattle.cg_outcome.specs.declared.outcome.Outcome.TheVariants as out
 use Rattle.cg_run.specs.declared.command.Command.{Command}
 use Rattle.cg_run.specs.declared.command.Command.TheVariants as command
 

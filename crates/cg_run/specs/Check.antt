@@ -7,11 +7,11 @@ use Rattle.cg_snap.specs.declared.stop.Stop.{Stop}
 use Rattle.cg_tree.specs.Find.{find, words_of}
 use Rattle.cg_tree.specs.Finding.{rule_word}
 use Rattle.cg_tree.specs.declared.finding.Finding.{Finding}
-use Rattle.cg_run.specs.Input.{Reading}
-use Rattle.cg_run.specs.Outcome.{checked}
+use Rattle.cg_outcome.specs.Input.{Reading}
+use Rattle.cg_outcome.specs.Outcome.{checked}
 use Rattle.cg_run.specs.Stream.{IsStreamDone, IsStreamRight, IsStreamStarved}
-use Rattle.cg_run.specs.declared.outcome.Outcome.{Outcome}
-use Rattle.cg_run.specs.declared.outcome.Outcome.TheVariants as out
+use Rattle.cg_outcome.specs.declared.outcome.Outcome.{Outcome}
+use Rattle.cg_outcome.specs.declared.outcome.Outcome.TheVariants as out
 
 abbrev pub text_or_none : Option (List ℕ) → List ℕ
 text_or_none None = []

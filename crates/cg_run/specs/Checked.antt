@@ -1,11 +1,11 @@
 -- What the end of a snapshot that is checked leaves, and the lines of its findings.
 use Rattle.std.specs.Prelude.{◌≡◌, ℕ, Bool, List, ◌++◌, length, Option}
 use Rattle.cg_run.specs.Check.{finding_lines}
-use Rattle.cg_run.specs.Outcome.{checked, last_line}
-use Rattle.cg_run.specs.Run.{Wrote, joined}
+use Rattle.cg_outcome.specs.Outcome.{checked, last_line}
+use Rattle.cg_outcome.specs.Wrote.{Wrote, joined}
 use Rattle.cg_run.specs.declared.kept.Kept.{Kept}
-use Rattle.cg_run.specs.declared.outcome.Outcome.{Outcome}
-use Rattle.cg_run.specs.declared.outcome.Outcome.TheVariants as out
+use Rattle.cg_outcome.specs.declared.outcome.Outcome.{Outcome}
+use Rattle.cg_outcome.specs.declared.outcome.Outcome.TheVariants as out
 
 -- The parts that were given, and then the lines of what the kept entries break, are those of the whole.
 abbrev pub IsKept : (List ℕ → List (List ℕ) → Outcome → Type 0) → List ℕ → List (List ℕ) → Kept → Type 0

@@ -2,12 +2,12 @@
 use Rattle.std.specs.Prelude.{◌≡◌, ℕ, Bool, List, [], ◌∷◌, ◌++◌, length, Option}
 use Rattle.cg_text.specs.Texts.{TextOf}
 use Rattle.cg_snap.specs.declared.stop.Stop.TheVariants as stop
-use Rattle.cg_run.specs.Explain.{ExplainsNext, Tells}
-use Rattle.cg_run.specs.Input.{Reading}
-use Rattle.cg_run.specs.Outcome.{last_line}
-use Rattle.cg_run.specs.Run.{Wrote, joined}
-use Rattle.cg_run.specs.declared.outcome.Outcome.{Outcome}
-use Rattle.cg_run.specs.declared.outcome.Outcome.TheVariants as out
+use Rattle.cg_outcome.specs.Explain.{ExplainsNext, Tells}
+use Rattle.cg_outcome.specs.Input.{Reading}
+use Rattle.cg_outcome.specs.Outcome.{last_line}
+use Rattle.cg_outcome.specs.Wrote.{Wrote, joined}
+use Rattle.cg_outcome.specs.declared.outcome.Outcome.{Outcome}
+use Rattle.cg_outcome.specs.declared.outcome.Outcome.TheVariants as out
 
 module _ {V : Type 0} (Text : List ℕ → V → Type 0) (print : V → List ℕ) where
   -- The outcome that is right at the end of these bytes.

@@ -3,7 +3,7 @@ use Rattle.std.specs.Prelude.{◌≡◌, ◌⊎◌, ℕ, List, length, take, sli
 use Rattle.cg_text.specs.Texts.{FirstBad}
 use Rattle.cg_text.specs.declared.memory.OutOfMemory.{OutOfMemory}
 use Rattle.cg_line.specs.Decode.{IsCut, IsStarved}
-use Rattle.cg_run.specs.Explain.{ExplainsNext, IsInText}
+use Rattle.cg_outcome.specs.Explain.{ExplainsNext, IsInText}
 use Rattle.cg_run.specs.declared.explained.Explained.{Explained}
 use Rattle.cg_run.specs.declared.explained.Explained.TheVariants.{Line, Whole, NoForm}
 

@@ -18,11 +18,11 @@ use Rattle.cg_snap.specs.declared.limits.Limits.{Limits}
 use Rattle.cg_snap.specs.declared.stop.Stop.{Stop}
 use Rattle.cg_tree.specs.Ruled.{ruled}
 use Rattle.cg_run.specs.Check.{IsCheckRight, finding_lines}
-use Rattle.cg_run.specs.Explain.{AreNext, Explains, IsInRecord}
-use Rattle.cg_run.specs.Input.{Reading}
-use Rattle.cg_run.specs.Outcome.{checked, gone_on, why_words}
+use Rattle.cg_outcome.specs.Explain.{AreNext, Explains, IsInRecord}
+use Rattle.cg_outcome.specs.Input.{Reading}
+use Rattle.cg_outcome.specs.Outcome.{checked, gone_on, why_words}
 use Rattle.cg_run.specs.Stream.{IsStreamRight, PartsOfAll, WholeOf, json_part, shown_part}
-use Rattle.cg_run.specs.declared.outcome.Outcome.{Outcome}
+use Rattle.cg_outcome.specs.declared.outcome.Outcome.{Outcome}
 use Rattle.cg_run.specs.declared.teller.KeptTeller.{KeptTeller}
 
 -- ---- The lines of a block that is left out

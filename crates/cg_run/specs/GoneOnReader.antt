@@ -18,8 +18,8 @@ use Rattle.cg_snap.specs.declared.going_on.LeftOut.{LeftOut}
 use Rattle.cg_snap.specs.declared.limits.Limits.{Limits}
 use Rattle.cg_snap.specs.declared.stop.Stop.TheVariants as stops
 use Rattle.cg_run.specs.GoneOn.{ExplainsTold, GoingStopOf, IsGoingUnstopped, Telling, TellsParts, explained_part, left_out_of, told_of}
-use Rattle.cg_run.specs.Lines.{AreBehind}
-use Rattle.cg_run.specs.Run.{joined}
+use Rattle.cg_outcome.specs.Lines.{AreBehind}
+use Rattle.cg_outcome.specs.Wrote.{joined}
 use Rattle.cg_run.specs.Stood.{HasStood}
 use Rattle.cg_run.specs.Streaming.{FoundIs}
 use Rattle.cg_run.specs.Taken.{taken_closed, taken_counted, taken_unstopped}

@@ -1,12 +1,13 @@
 -- What an output holds of the texts of parts, and what reading leaves of it.
 use Rattle.std.specs.Prelude.{◌≡◌, ℕ, Bool, false, List, [], ◌++◌, Option, Result, Ok, Err}
 use Rattle.std.specs.Io.KnownBytes.{Consumes, IsAtEnd}
-use Rattle.cg_run.specs.Input.{Reading}
-use Rattle.cg_run.specs.Lines.{AreBehind}
-use Rattle.cg_run.specs.Run.{DidRunWith, joined}
-use Rattle.cg_run.specs.Streaming.{Before, HasWritten}
-use Rattle.cg_run.specs.declared.lines.Lines.{Lines}
-use Rattle.cg_run.specs.declared.outcome.Outcome.{Outcome}
+use Rattle.cg_outcome.specs.Input.{Reading}
+use Rattle.cg_outcome.specs.Lines.{AreBehind}
+use Rattle.cg_run.specs.Run.{DidRunWith}
+use Rattle.cg_outcome.specs.Wrote.{HasWritten, joined}
+use Rattle.cg_run.specs.Streaming.{Before}
+use Rattle.cg_outcome.specs.declared.lines.Lines.{Lines}
+use Rattle.cg_outcome.specs.declared.outcome.Outcome.{Outcome}
 use Rattle.cg_run.specs.declared.output.Output.{Output}
 
 -- The text of these parts is what the writer took since it had taken first, one text after another, and behind it what the

@@ -7,9 +7,9 @@ use Rattle.cg_snap.specs.Stop.{IsTextUnstopped, TextStopOf, place_of}
 use Rattle.cg_snap.specs.declared.stop.Stop.{Stop}
 use Rattle.cg_snap.specs.declared.stop.Stop.TheVariants.{Refused}
 use Rattle.cg_snap.specs.declared.stop.Why.TheVariants.{Line}
-use Rattle.cg_run.specs.Lines.{AreBehind}
+use Rattle.cg_outcome.specs.Lines.{AreBehind}
 use Rattle.cg_run.specs.Run.{IsTextStarved}
-use Rattle.cg_run.specs.declared.lines.Lines.{Lines}
+use Rattle.cg_outcome.specs.declared.lines.Lines.{Lines}
 use Rattle.cg_run.specs.declared.reading.Ending.{Ending}
 use Rattle.cg_run.specs.declared.reading.Ending.TheVariants.{End, Stopped, ReadFault, OutOfMemory}
 

@@ -1,8 +1,7 @@
 -- What a run wrote for what it read.
-use Rattle.std.specs.Prelude.{◌≡◌, ℕ, ◌+◌, ◌<◌, ◌≤◌, ◌⊎◌, Bool, true, false, List, [], ◌∷◌, ◌++◌, length, take, Option, Some, None}
-use Rattle.std.specs.Io.KnownBytes.{Appends, Consumes}
+use Rattle.std.specs.Prelude.{◌≡◌, ℕ, ◌+◌, ◌<◌, ◌⊎◌, Bool, true, false, List, [], ◌∷◌, ◌++◌, length, take, Option, Some, None}
+use Rattle.std.specs.Io.KnownBytes.{Consumes}
 use Rattle.cg_text.specs.Texts.{TextOf}
-use Rattle.cg_text.specs.Token.{saturated}
 use Rattle.cg_value.specs.Entry.{EntryData, ItemData}
 use Rattle.cg_value.specs.Files.{KindText}
 use Rattle.cg_value.specs.Print.{print_of, print_setting_of}
@@ -21,15 +20,16 @@ use Rattle.cg_snap.specs.declared.limits.Limits.{Limits}
 use Rattle.cg_snap.specs.declared.stop.Stop.{Stop}
 use Rattle.cg_snap.specs.declared.stop.Stop.TheVariants as stop
 use Rattle.cg_run.specs.Check.{HasNoParts, IsCheckRight, finding_lines, found_outcome}
-use Rattle.cg_run.specs.Explain.{ExplainsNext, IsInRecord, IsInText, Tells}
+use Rattle.cg_outcome.specs.Explain.{ExplainsNext, IsInRecord, IsInText, Tells}
 use Rattle.cg_run.specs.GoneOn.{ExplainsOn, IsGoneOnChecked, IsGoneOnRight, json_told, shown_told}
-use Rattle.cg_run.specs.Input.{Reading, IsEnded}
-use Rattle.cg_run.specs.Kinds.{kinds_lines}
-use Rattle.cg_run.specs.Outcome.{last_line}
+use Rattle.cg_outcome.specs.Input.{Reading, IsEnded}
+use Rattle.cg_outcome.specs.Kinds.{kinds_lines}
+use Rattle.cg_outcome.specs.Outcome.{last_line}
+use Rattle.cg_outcome.specs.Wrote.{Wrote, joined}
 use Rattle.cg_run.specs.Stream.{DoneOf, IsStreamRight, PartsOf, WholeOf, item_part, json_part, shown_part}
 use Rattle.cg_run.specs.declared.options.Options.{Options}
-use Rattle.cg_run.specs.declared.outcome.Outcome.{Outcome}
-use Rattle.cg_run.specs.declared.outcome.Outcome.TheVariants as out
+use Rattle.cg_outcome.specs.declared.outcome.Outcome.{Outcome}
+use Rattle.cg_outcome.specs.declared.outcome.Outcome.TheVariants as out
 use Rattle.cg_run.specs.declared.command.Command.{Command}
 use Rattle.cg_run.specs.declared.command.Command.TheVariants as command
 
@@ -161,20 +161,6 @@ IsRightOf options profile command.Plan limits r o parts = IsPlanRight item_part 
 -- ... without an option.
 abbrev pub IsRight : Profile → Command → Limits → Reading → Outcome → List (List ℕ) → Type 0
 IsRight = IsRightOf (record { explain = false; keep_going = false })
-
-abbrev pub joined : List (List ℕ) → List ℕ
-joined [] = []
-joined (part ∷ parts) = part ++ joined parts
-
--- The writer took the whole text of the outcome that is right; or, where it failed, the first bytes of it.
-abbrev pub Wrote : Option (List ℕ) → Option (List ℕ) → Bool → List ℕ → Outcome → Outcome → Type 0
-Wrote taken now failed text wanted (out.WriteFault written) = (n : ℕ) × (n ≤ length text) × Appends taken now (take n text) × (written ≡ saturated n) × (failed ≡ true)
-Wrote taken now failed text wanted o = (o ≡ wanted) × Appends taken now text
-
--- A fault of the writer is told only where it has failed.
-abbrev pub IsRealFault : Outcome → Bool → Type 0
-IsRealFault (out.WriteFault written) failed = failed ≡ true
-IsRealFault o failed = Unit {0}
 
 -- What a run did: the bytes that it read, the outcome that is right for them with its parts, and what it wrote of these
 -- and the last line. Right says which outcome is, of a reading.

@@ -11,7 +11,7 @@ use Rattle.cg_snap.specs.Pulled.{StandsFor}
 use Rattle.cg_snap.specs.Streams.{plan_stream, snap_stream}
 use Rattle.cg_run.specs.Stream.{WholeOf}
 use Rattle.cg_run.specs.Streaming.{HasWhole}
-use Rattle.cg_run.specs.declared.outcome.Outcome.{Outcome}
+use Rattle.cg_outcome.specs.declared.outcome.Outcome.{Outcome}
 use Rattle.cg_snap.specs.declared.decoder.Decoder.{Decoder}
 use Rattle.cg_snap.specs.declared.limits.Limits.{Limits}
 

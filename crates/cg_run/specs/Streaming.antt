@@ -1,7 +1,5 @@
 -- What the steps of a run over a stream do.
 use Rattle.std.specs.Prelude.{◌≡◌, ◌≢◌, ℕ, ◌+◌, ◌<◌, ◌⊎◌, Bool, List, [], ◌++◌, length, take, Option, Result, Ok, Err}
-use Rattle.std.specs.Io.KnownBytes.{Appends}
-use Rattle.cg_text.specs.Token.{saturated}
 use Rattle.cg_snap.specs.Stop.{place_of}
 use Rattle.cg_snap.specs.declared.decode.StreamFault.{StreamFault}
 use Rattle.cg_snap.specs.declared.decode.StreamFault.TheVariants as faults
@@ -9,10 +7,10 @@ use Rattle.cg_snap.specs.declared.event.Event.{Event}
 use Rattle.cg_snap.specs.declared.event.Event.TheVariants as events
 use Rattle.cg_snap.specs.declared.stop.Stop.{Stop}
 use Rattle.cg_snap.specs.declared.stop.Stop.TheVariants as stop
-use Rattle.cg_run.specs.Input.{Reading}
-use Rattle.cg_run.specs.Outcome.{gone_on, last_line}
-use Rattle.cg_run.specs.Run.{Wrote, joined}
-use Rattle.cg_run.specs.declared.outcome.Outcome.{Outcome}
+use Rattle.cg_outcome.specs.Input.{Reading}
+use Rattle.cg_outcome.specs.Outcome.{gone_on, last_line}
+use Rattle.cg_outcome.specs.Wrote.{HasWritten, Wrote, joined}
+use Rattle.cg_outcome.specs.declared.outcome.Outcome.{Outcome}
 
 -- A byte is at fault, and not the end.
 abbrev pub IsByteStop : Stop → Type 0
@@ -93,22 +91,6 @@ module _ (Whole : List ℕ → List (List ℕ) → Outcome → Type 0) where
   EndIs p parts old new (Ok left_out) = (more : List (List ℕ)) × Whole p (parts ++ more) (gone_on left_out) × (new ≡ old ++ joined more)
   EndIs p parts old new (Err (faults.Stopped s)) = IsCutAt p s × (new ≡ old)
   EndIs p parts old new (Err faults.OutOfMemory) = ((more : List (List ℕ)) × (o : Outcome) × (more ≢ []) × Whole p (parts ++ more) o) × (new ≡ old)
-
--- The writer took this text since it had taken first, and so many bytes are told of it.
-abbrev pub HasWrittenText : Option (List ℕ) → Option (List ℕ) → List ℕ → ℕ → Type 0
-HasWrittenText first now text written = Appends first now text × (written ≡ saturated (length text))
-
--- It failed in this text, whatever was to come behind it.
-abbrev pub FailsAfter : Option (List ℕ) → Option (List ℕ) → Bool → List ℕ → Outcome → Type 0
-FailsAfter first now write_failed text fault = (rest : List ℕ) (wanted : Outcome) → Wrote first now write_failed (text ++ rest) wanted fault
-
--- The writer took these parts since it had taken first, and so many bytes are told of them.
-abbrev pub HasWritten : Option (List ℕ) → Option (List ℕ) → List (List ℕ) → ℕ → Type 0
-HasWritten first now parts written = Appends first now (joined parts) × (written ≡ saturated (length (joined parts)))
-
--- It failed in these parts, whatever was to come behind them.
-abbrev pub FailsIn : Option (List ℕ) → Option (List ℕ) → Bool → List (List ℕ) → Outcome → Type 0
-FailsIn first now write_failed parts fault = (rest : List ℕ) (wanted : Outcome) → Wrote first now write_failed (joined parts ++ rest) wanted fault
 
 -- A run that ends after these bytes were read, however much the source has left: the outcome that is right, its parts, and
 -- what was written. Tells says what is written behind the last line.

@@ -3,19 +3,18 @@ ghost use Rattle.std.specs.Prelude.{◌≡◌, ◌≤◌, ◌+◌, ℕ, Bool, fa
 ghost use Rattle.std.specs.Io.KnownBytes.{IsAtEnd};
 ghost use Rattle.cg_run.specs.Check.{IsCheckRight, finding_line, word_at};
 ghost use Rattle.cg_run.specs.Checked.{HasWrittenLines};
-ghost use Rattle.cg_run.specs.Explain.{Tells};
-ghost use Rattle.cg_run.specs.Lines.{AreBehind};
-ghost use Rattle.cg_run.specs.Run.{DidRunWith, IsRealFault};
-ghost use Rattle.cg_run.specs.Streaming.{Before, EndsSo, HasWritten};
+ghost use Rattle.cg_outcome.specs.Explain.{Tells};
+ghost use Rattle.cg_outcome.specs.Lines.{AreBehind};
+ghost use Rattle.cg_run.specs.Run.{DidRunWith};
+ghost use Rattle.cg_outcome.specs.Wrote.{HasWritten, IsRealFault};
+ghost use Rattle.cg_run.specs.Streaming.{Before, EndsSo};
 
-use crate::explain::write_stop;
-use crate::lines::Lines;
-use crate::outcome::{Outcome, checked};
 use crate::source::Source;
 use crate::spot::stream_spot;
 use crate::stream_reader::KeptEntries;
 use crate::streaming::read_stream;
-use crate::told::{write_after, write_part};
+use cg_outcome::told::{write_after, write_part};
+use cg_outcome::{Lines, Outcome, checked, write_stop};
 use cg_print::Sink;
 use cg_snap::{Stop, StreamFault};
 use cg_text::OutOfMemory;

@@ -60,7 +60,7 @@ fn append_found(out: &mut Vec<u8>, line: &mut Vec<u8>, what: What) -> Event<()>
 impl StreamReader for EntryReader {
     type Setup = (Profile, Limits);
 
-    ghost use Rattle.cg_run.specs.Explain.{AreNext, ExplainsNext, IsInRecord};
+    ghost use Rattle.cg_outcome.specs.Explain.{AreNext, ExplainsNext, IsInRecord};
     ghost use Rattle.cg_run.specs.Stood.{HasSnapStood, snap_stood, snap_within};
     ghost use Rattle.cg_run.specs.Entries.{HasTold, told_closed, told_counted, told_offset, told_passed};
     ghost use Rattle.cg_run.specs.Stream.{DoneOf, PartsOf, json_part};

@@ -5,15 +5,14 @@ ghost use Rattle.cg_value.specs.Files.{File};
 ghost use Rattle.cg_value.specs.Settings.{Write};
 ghost use Rattle.cg_value.specs.Table.{read_form_of, write_form_of};
 ghost use Rattle.cg_run.specs.Explained.{IsExplained, IsLine};
-ghost use Rattle.cg_run.specs.Spot.{more_words};
+ghost use Rattle.cg_outcome.specs.Spot.{more_words};
 
 use crate::file_reader::FileReader;
-use crate::lines::Lines;
 use crate::reading::{Ending, take_piece};
-use crate::spot::{Spot, text_spot};
-use crate::spot_text::append_spot;
+use crate::spot::text_spot;
 use crate::text_reader::TextReader;
 use cg_line::SettingReader;
+use cg_outcome::{Lines, Spot, append_spot};
 use cg_snap::Stop;
 use cg_text::OutOfMemory;
 use cg_value::{Profile, read_kind, write_kind};

@@ -7,20 +7,18 @@ ghost use Rattle.cg_snap.specs.GoingOn.{Told, told_entry, told_out};
 ghost use Rattle.cg_snap.specs.GoingOnState.{IsBefore};
 ghost use Rattle.cg_snap.specs.Snap.{Snap};
 ghost use Rattle.cg_snap.specs.declared.limits.Limits.{Limits};
-ghost use Rattle.cg_run.specs.Explain.{AreNext, Explains, IsInRecord};
+ghost use Rattle.cg_outcome.specs.Explain.{AreNext, Explains, IsInRecord};
 ghost use Rattle.cg_run.specs.GoneOn.{left_out_of, told_found};
 ghost use Rattle.cg_run.specs.GoneOnReader.{ExplainsOut, IsFaultAt};
-ghost use Rattle.cg_run.specs.Lines.{AreBehind, AreCounted};
-ghost use Rattle.cg_run.specs.Run.{joined};
+ghost use Rattle.cg_outcome.specs.Lines.{AreBehind, AreCounted};
+ghost use Rattle.cg_outcome.specs.Wrote.{joined};
 
 use crate::entry_run::pass_run;
 use crate::kept::Kept;
-use crate::lines::{Lines, lines_behind, lines_of};
 use crate::shown_text::append_closed;
-use crate::spot::spot_in;
-use crate::spot_text::append_spot;
 use crate::stream_reader::{KeptEntries, LastPart, StreamReader};
 use crate::teller::{KeepsRuled, Teller, TellsAll};
+use cg_outcome::{Lines, append_spot, lines_behind, lines_of, spot_in};
 use cg_snap::{
     Cause, Event, Fault, Found, GoingOnDecoder, LeftOut, Limits, Progress, RecordPlace, StreamFault,
 };

@@ -65,7 +65,7 @@ pub(crate) fn keep(entries: &mut Vec<Entry>, entry: Entry) -> Result<(), OutOfMe
 impl StreamReader for KeptReader {
     type Setup = (Profile, Limits);
 
-    ghost use Rattle.cg_run.specs.Explain.{AreNext, ExplainsNext, IsInRecord};
+    ghost use Rattle.cg_outcome.specs.Explain.{AreNext, ExplainsNext, IsInRecord};
     ghost use Rattle.cg_run.specs.Stood.{HasSnapStood, snap_stood, snap_within};
     ghost use Rattle.cg_run.specs.Check.{HasNoParts, finding_lines, found_outcome};
     ghost use Rattle.cg_run.specs.Stream.{WholeOf};

@@ -2,7 +2,7 @@
 ghost use Rattle.std.specs.Prelude.{◌≡◌, ◌++◌, OnOk};
 ghost use Rattle.cg_run.specs.GoneOn.{cause_words, json_left_out, left_out_line, path_words};
 
-use crate::line::{numbered, words_of};
+use cg_outcome::{numbered, words_of};
 use cg_snap::{Cause, LeftOut};
 use cg_text::{Items, OutOfMemory};
 

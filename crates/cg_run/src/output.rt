@@ -1,15 +1,13 @@
 //! The texts of parts on their way to a sink.
 ghost use Rattle.std.specs.Prelude.{◌≡◌, ◌<◌, ◌++◌, ℕ, false, List, [], Option, MatchResult, IfErr, OnErr, OnOk, length};
-ghost use Rattle.cg_run.specs.Outcome.{last_line, is_write_fault};
-ghost use Rattle.cg_run.specs.Run.{Wrote, IsRealFault, joined};
-ghost use Rattle.cg_run.specs.Spot.{more_words};
-ghost use Rattle.cg_run.specs.declared.outcome.Outcome.{Outcome};
+ghost use Rattle.cg_outcome.specs.Outcome.{last_line, is_write_fault};
+ghost use Rattle.cg_outcome.specs.Wrote.{Wrote, IsRealFault, joined};
+ghost use Rattle.cg_outcome.specs.Spot.{more_words};
+ghost use Rattle.cg_outcome.specs.declared.outcome.Outcome.{Outcome};
 
-use crate::explain::write_stop;
-use crate::outcome::Outcome;
 use crate::running::PIECE;
-use crate::spot::Spot;
-use crate::told::{write_after, write_part};
+use cg_outcome::told::{write_after, write_part};
+use cg_outcome::{Outcome, Spot, write_stop};
 use cg_print::Sink;
 use cg_snap::Stop;
 use std::alloc::Global;
@@ -25,7 +23,7 @@ pub(crate) struct Output {
 
 impl Output {
     ghost use Rattle.cg_run.specs.Output.{Holds};
-    ghost use Rattle.cg_run.specs.Streaming.{FailsIn};
+    ghost use Rattle.cg_outcome.specs.Wrote.{FailsIn};
 
     /// Nothing, of which nothing was written.
     pub(crate) fn new(alloc: Global) -> Output

@@ -47,7 +47,7 @@ fn append_found(out: &mut Vec<u8>, what: PlanWhat) -> Event<()>
 impl StreamReader for PlannedReader {
     type Setup = (Profile, Limits);
 
-    ghost use Rattle.cg_run.specs.Explain.{AreNext, ExplainsNext, IsInRecord};
+    ghost use Rattle.cg_outcome.specs.Explain.{AreNext, ExplainsNext, IsInRecord};
     ghost use Rattle.cg_run.specs.Stood.{HasPlanStood, plan_stood, plan_within};
     ghost use Rattle.cg_run.specs.Planned.{HasPlanned, planned_closed, planned_counted, planned_offset, planned_passed};
     ghost use Rattle.cg_run.specs.Stream.{DoneOf, PartsOf};

@@ -2,22 +2,19 @@
 ghost use Rattle.std.specs.Prelude.{◌≡◌, ◌≢◌, ◌≤◌, ◌+◌, ℕ, List, [], false, None, is_some, length};
 ghost use Rattle.cg_value.specs.Table.{read_form_of, write_form_of};
 ghost use Rattle.cg_text.specs.Texts.{TextOf};
-ghost use Rattle.cg_run.specs.Explain.{ExplainsNext, IsInText, Tells};
-ghost use Rattle.cg_run.specs.Lines.{AreBehind};
-ghost use Rattle.cg_run.specs.Run.{DidRunWith, Ran, RanWith, IsIdle, IsTextRight, IsFileRight, IsShowRight, IsJsonRight, IsCheckedRight, IsWriteRight, IsRealFault, TellsOfFile, TellsOfSnapshot, TellsOfWrite};
+ghost use Rattle.cg_outcome.specs.Explain.{ExplainsNext, IsInText, Tells};
+ghost use Rattle.cg_outcome.specs.Lines.{AreBehind};
+ghost use Rattle.cg_run.specs.Run.{DidRunWith, Ran, RanWith, IsIdle, IsTextRight, IsFileRight, IsShowRight, IsJsonRight, IsCheckedRight, IsWriteRight, TellsOfFile, TellsOfSnapshot, TellsOfWrite};
+ghost use Rattle.cg_outcome.specs.Wrote.{IsRealFault};
 ghost use Rattle.cg_run.specs.Ended.{HasEnded};
 
 use crate::checked::run_check;
 use crate::command::Command;
 use crate::entries::EntryReader;
-use crate::explain::write_stop;
 use crate::file_reader::FileReader;
 use crate::going_on::GoingOnReader;
 use crate::kept::KeptReader;
-use crate::kinds::told_kinds;
-use crate::lines::{Lines, lines_of};
 use crate::options::Options;
-use crate::outcome::Outcome;
 use crate::planned::PlannedReader;
 use crate::reading::{Ending, read_all};
 use crate::shown::ShownReader;
@@ -26,8 +23,9 @@ use crate::spot::text_spot;
 use crate::streaming::run_stream;
 use crate::teller::{JsonTeller, KeptTeller, ShownTeller};
 use crate::text_reader::TextReader;
-use crate::told::{told, told_line};
 use cg_line::SettingReader;
+use cg_outcome::told::{told, told_line};
+use cg_outcome::{Lines, Outcome, lines_of, told_kinds, write_stop};
 use cg_print::Sink;
 use cg_snap::{Limits, Stop};
 use cg_value::{Profile, read_kind, write_kind};
@@ -37,7 +35,7 @@ use std::alloc::Global;
 pub(crate) const PIECE: usize = 32768;
 
 /// What is written once the input of a text has ended at this place.
-#[tactic(auto, using(crate::proofs::RunLemmas::wrote_real))]
+#[tactic(auto, using(cg_outcome::proofs::Written::wrote_real))]
 fn told_end<T: TextReader, W: Sink>(
     alloc: Global,
     text: T,
@@ -63,7 +61,7 @@ fn told_end<T: TextReader, W: Sink>(
 }
 
 /// Reads a text and writes its canonical text after the end of input.
-#[tactic(auto, using(crate::proofs::RunLemmas::wrote_real))]
+#[tactic(auto, using(cg_outcome::proofs::Written::wrote_real))]
 fn run_text<T: TextReader, R: Source, W: Sink>(
     alloc: Global,
     mut text: T,
@@ -95,7 +93,7 @@ fn run_text<T: TextReader, R: Source, W: Sink>(
 }
 
 /// Reads the file of this name, where it can be read.
-#[tactic(auto, using(crate::proofs::RunLemmas::wrote_real))]
+#[tactic(auto, using(cg_outcome::proofs::Written::wrote_real))]
 fn run_file<R: Source, W: Sink>(
     alloc: Global,
     profile: Profile,
@@ -130,7 +128,7 @@ fn run_file<R: Source, W: Sink>(
 }
 
 /// Reads one write to the file of this name, where it can be written.
-#[tactic(auto, using(crate::proofs::RunLemmas::wrote_real))]
+#[tactic(auto, using(cg_outcome::proofs::Written::wrote_real))]
 fn run_setting<R: Source, W: Sink>(
     alloc: Global,
     profile: Profile,
@@ -165,7 +163,7 @@ fn run_setting<R: Source, W: Sink>(
 }
 
 /// Reads a snapshot, and shows each entry.
-#[tactic(auto, using(crate::proofs::RunLemmas::wrote_real))]
+#[tactic(auto, using(cg_outcome::proofs::Written::wrote_real))]
 fn run_show<R: Source, W: Sink>(
     alloc: Global,
     profile: Profile,
@@ -193,7 +191,7 @@ fn run_show<R: Source, W: Sink>(
 }
 
 /// Reads a snapshot, and tells each entry as a line of JSON.
-#[tactic(auto, using(crate::proofs::RunLemmas::wrote_real))]
+#[tactic(auto, using(cg_outcome::proofs::Written::wrote_real))]
 fn run_json<R: Source, W: Sink>(
     alloc: Global,
     profile: Profile,
@@ -221,7 +219,7 @@ fn run_json<R: Source, W: Sink>(
 }
 
 /// Reads a snapshot, and tells what it breaks.
-#[tactic(auto, using(crate::proofs::RunLemmas::wrote_real))]
+#[tactic(auto, using(cg_outcome::proofs::Written::wrote_real))]
 fn run_checked<R: Source, W: Sink>(
     alloc: Global,
     profile: Profile,
@@ -252,7 +250,7 @@ fn run_checked<R: Source, W: Sink>(
 /// Runs a command with the options: reads from the source by pieces, and writes to the sink.
 ///
 /// Only of a snapshot something is left out. Each block that is left out is explained too, but not in JSON.
-#[tactic(auto, using(crate::proofs::RunLemmas::wrote_real))]
+#[tactic(auto, using(cg_outcome::proofs::Written::wrote_real))]
 pub fn run_with<R: Source, W: Sink>(
     alloc: Global,
     profile: Profile,
@@ -302,7 +300,7 @@ pub fn run_with<R: Source, W: Sink>(
 }
 
 /// Runs a command without an option.
-#[tactic(auto, using(crate::proofs::RunLemmas::wrote_real))]
+#[tactic(auto, using(cg_outcome::proofs::Written::wrote_real))]
 pub fn run<R: Source, W: Sink>(
     alloc: Global,
     profile: Profile,

@@ -81,7 +81,7 @@ impl ShownReader {
 impl StreamReader for ShownReader {
     type Setup = (Profile, Limits);
 
-    ghost use Rattle.cg_run.specs.Explain.{AreNext, ExplainsNext, IsInRecord};
+    ghost use Rattle.cg_outcome.specs.Explain.{AreNext, ExplainsNext, IsInRecord};
     ghost use Rattle.cg_run.specs.Stood.{HasSnapStood, snap_stood, snap_within};
     ghost use Rattle.cg_run.specs.Shown.{HasShown, shown_closed, shown_counted, shown_offset, shown_passed};
     ghost use Rattle.cg_run.specs.Stream.{DoneOf, PartsOf, shown_part};

@@ -3,9 +3,9 @@ ghost use Rattle.std.specs.Prelude.{◌≡◌, ◌≤◌, ℕ, Bool, List, [], O
 ghost use Rattle.cg_snap.specs.RecordPlace.{IsRecordPlace};
 ghost use Rattle.cg_snap.specs.declared.stop.Stop.{Stop};
 ghost use Rattle.cg_run.specs.Checked.{IsKept};
-ghost use Rattle.cg_run.specs.Explain.{Explains, IsInRecord};
+ghost use Rattle.cg_outcome.specs.Explain.{Explains, IsInRecord};
 ghost use Rattle.cg_run.specs.Streaming.{EndIs, FoundIs, HasNoWhole, HasWhole, IsEndFault, IsFoundBy, StandsBehind};
-ghost use Rattle.cg_run.specs.declared.outcome.Outcome.{Outcome};
+ghost use Rattle.cg_outcome.specs.declared.outcome.Outcome.{Outcome};
 
 use crate::kept::Kept;
 use cg_snap::{Progress, RecordPlace, StreamFault};

@@ -2,21 +2,21 @@
 //! nothing is held but these and the present part.
 ghost use Rattle.std.specs.Prelude.{◌≡◌, ◌≤◌, ◌+◌, ℕ, Bool, false, List, [], ◌++◌, Option, MatchResult, IfErr, OnOk, is_some};
 ghost use Rattle.std.specs.Io.KnownBytes.{IsAtEnd};
-ghost use Rattle.cg_run.specs.Explain.{Tells};
-ghost use Rattle.cg_run.specs.Lines.{AreBehind};
-ghost use Rattle.cg_run.specs.Run.{DidRunWith, IsRealFault};
+ghost use Rattle.cg_outcome.specs.Explain.{Tells};
+ghost use Rattle.cg_outcome.specs.Lines.{AreBehind};
+ghost use Rattle.cg_run.specs.Run.{DidRunWith};
+ghost use Rattle.cg_outcome.specs.Wrote.{IsRealFault};
 ghost use Rattle.cg_run.specs.Stream.{IsEarlyRight, IsStreamRight};
 ghost use Rattle.cg_run.specs.Streaming.{Before, EndsSo};
 ghost use Rattle.cg_run.specs.Output.{BeforeNext, StreamedIs};
 
-use crate::lines::{Lines, lines_behind};
-use crate::outcome::{Outcome, gone_on};
 use crate::output::Output;
 use crate::running::PIECE;
 use crate::source::Source;
 use crate::spot::{next_byte, stream_spot};
 use crate::stream_reader::{LastPart, StreamReader};
-use crate::told::write_after;
+use cg_outcome::told::write_after;
+use cg_outcome::{Lines, Outcome, gone_on, lines_behind};
 use cg_print::{Failed, Sink};
 use cg_snap::{Event, Stop, StreamFault};
 use std::alloc::Global;

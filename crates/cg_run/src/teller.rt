@@ -7,8 +7,9 @@ ghost use Rattle.cg_snap.specs.GoingOn.{Told};
 ghost use Rattle.cg_tree.specs.Ruled.{ruled};
 ghost use Rattle.cg_run.specs.Check.{finding_lines};
 ghost use Rattle.cg_run.specs.GoneOn.{ShowsEntries, Telling, checked_outcome, entries_of, explained_part, told_of, told_outcome};
-ghost use Rattle.cg_run.specs.Run.{joined};
-ghost use Rattle.cg_run.specs.declared.outcome.Outcome.{Outcome};
+ghost use Rattle.cg_outcome.specs.Wrote.{joined};
+ghost use Rattle.cg_run.specs.Stream.{shown_part};
+ghost use Rattle.cg_outcome.specs.declared.outcome.Outcome.{Outcome};
 
 use crate::kept::keep;
 use crate::left_out::{append_json_left_out, append_left_out};
@@ -71,6 +72,15 @@ pub(crate) trait KeepsRuled: Teller {
     ghost no_line: { (e : EntryData) → Self.parts (inl e) ≡ [] };
 }
 
+/// Appends an entry as it is shown.
+fn append_entry(text: &mut Vec<u8>, entry: &Entry) -> Result<(), OutOfMemory>
+    ensures { OnOk result (text.new.items ≡ text.old.items ++ shown_part entry.now) }
+{
+    let shown = print_shown(*text.allocator(), entry)?;
+    text.extend_from_slice(shown.as_slice())?;
+    Ok(())
+}
+
 /// Shows each entry.
 #[derive(Drop)]
 pub(crate) struct ShownTeller;
@@ -87,9 +97,7 @@ impl Teller for ShownTeller {
     ghost keeps = { keeps_none };
 
     fn tell_entry(&mut self, text: &mut Vec<u8>, entry: Entry) -> Result<(), OutOfMemory> {
-        let shown = print_shown(*text.allocator(), &entry)?;
-        text.extend_from_slice(shown.as_slice())?;
-        Ok(())
+        append_entry(text, &entry)
     }
 
     fn shows(&self) -> bool {

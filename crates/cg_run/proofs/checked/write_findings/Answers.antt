@@ -1,8 +1,8 @@
 use Rattle.std.specs.Prelude.{is_some}
 use Rattle.std.proofs.Common.{◌≤◌, length, refl, subst, arith}
 use Rattle.cg_run.specs.Check.{finding_lines}
-use Rattle.cg_run.specs.Outcome.{checked}
-use Rattle.cg_run.specs.Spot.{more_words}
+use Rattle.cg_outcome.specs.Outcome.{checked}
+use Rattle.cg_outcome.specs.Spot.{more_words}
 use Rattle.cg_run.specs.Streaming.{IsEndFault}
 use Rattle.cg_run.proofs.Checking.{ends_checked, lines_end, memory_end}
 use Rattle.cg_run.proofs.Streams.{cut_ends, never_cut}

@@ -1,7 +1,7 @@
 use Rattle.std.proofs.Common.{[], ◌∷◌, ◌++◌, ◌+◌, List, ℕ, map, take, drop, ap, ◌∙◌, append_assoc}
 use Rattle.cg_run.specs.Check.{finding_line}
-use Rattle.cg_run.specs.Outcome.{last_line}
-use Rattle.cg_run.specs.declared.outcome.Outcome.TheVariants as out
+use Rattle.cg_outcome.specs.Outcome.{last_line}
+use Rattle.cg_outcome.specs.declared.outcome.Outcome.TheVariants as out
 use Rattle.cg_run.proofs.Checking.{left_behind, lines_after, lines_left}
 use Rattle.cg_run.proofs.checked.write_lines.Goals as goal
 

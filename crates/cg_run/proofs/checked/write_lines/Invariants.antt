@@ -1,6 +1,6 @@
 use Rattle.std.proofs.Common.{ℕ, List, ◌++◌, Option, map, take}
 use Rattle.cg_run.specs.Check.{finding_line}
-use Rattle.cg_run.specs.Streaming.{HasWritten}
+use Rattle.cg_outcome.specs.Wrote.{HasWritten}
 use Rattle.cg_run.proofs.checked.write_lines.Given as goal
 
 abbrev pub invariant-loop-finding : goal.invariant-loop-finding

@@ -1,7 +1,7 @@
 use Rattle.std.proofs.Common.{◌≤◌, ◌∙◌, [], inl, refl, sym, true≢false, length, take, length-take, arith}
 use Rattle.cg_text.specs.Texts.{TextOf}
 use Rattle.cg_snap.specs.Stop.{place_of}
-use Rattle.cg_run.specs.Spot.{more_words}
+use Rattle.cg_outcome.specs.Spot.{more_words}
 use Rattle.cg_run.proofs.Explaining.{ended, line_told, starved, stopped}
 use Rattle.cg_run.proofs.explained.explain_text.Goals as goal
 

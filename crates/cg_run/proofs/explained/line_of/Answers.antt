@@ -1,5 +1,5 @@
 use Rattle.std.proofs.Common.{List, ℕ, ◌++◌, ap, ◌∙◌}
-use Rattle.cg_run.specs.Spot.{spot_words}
+use Rattle.cg_outcome.specs.Spot.{spot_words}
 use Rattle.cg_run.proofs.explained.line_of.Goals as goal
 
 pub returns-in-Ok : goal.returns-in-Ok

@@ -1,10 +1,10 @@
 use Rattle.std.proofs.Common.{◌≤◌, ◌≡◌, ◌++◌, Some, length, subst, sym, arith}
 use Rattle.cg_snap.specs.Snap.{Snap}
 use Rattle.cg_snap.proofs.GoingOnPlaces.{place_behind}
-use Rattle.cg_run.specs.Explain.{AreNext, IsInRecord}
-use Rattle.cg_run.specs.Spot.{spot_words}
+use Rattle.cg_outcome.specs.Explain.{AreNext, IsInRecord}
+use Rattle.cg_outcome.specs.Spot.{spot_words}
 use Rattle.cg_run.proofs.GoingOn.{ok_as}
-use Rattle.cg_run.proofs.Spots.{explains_as}
+use Rattle.cg_outcome.proofs.Spots.{explains_as}
 use Rattle.cg_run.proofs.going_on.explain_fault.Goals as goal
 
 pub returns : goal.returns

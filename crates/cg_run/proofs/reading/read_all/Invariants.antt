@@ -1,6 +1,6 @@
 use Rattle.std.specs.Prelude.{is_some}
 use Rattle.std.proofs.Common.{◌≡◌, ◌-◌, ◌+◌, ◌<◌, ◌≤◌, false, [], length}
-use Rattle.cg_run.specs.Lines.{AreBehind}
+use Rattle.cg_outcome.specs.Lines.{AreBehind}
 use Rattle.cg_run.specs.Reading.{ReadSoFar}
 use Rattle.cg_run.proofs.reading.read_all.Given as goal
 

@@ -2,8 +2,8 @@ use Rattle.std.specs.Prelude.{is_some}
 use Rattle.std.proofs.Common.{◌≡◌, ◌<◌, ◌≤◌, ◌+◌, ◌-◌, ◌++◌, refl, sym, ap, subst, ◌∙◌, Option, Some, ℕ, take, drop, length, length-drop, length-take, arith}
 use Rattle.cg_text.specs.Texts.{TextOf}
 use Rattle.cg_snap.specs.Stop.{place_of}
-use Rattle.cg_run.specs.Lines.{AreBehind}
-use Rattle.cg_run.specs.declared.lines.Lines.{Lines}
+use Rattle.cg_outcome.specs.Lines.{AreBehind}
+use Rattle.cg_outcome.specs.declared.lines.Lines.{Lines}
 use Rattle.cg_run.proofs.Took.{byte_at, byte_behind, ended_behind, front_at, front_is, goes_run, piece_stopped, place_is, run_stopped}
 use Rattle.cg_run.proofs.reading.take_piece.Goals as goal
 

@@ -2,7 +2,7 @@ use Rattle.std.specs.Prelude.{is_some}
 use Rattle.std.proofs.Common.{refl}
 use Rattle.cg_value.specs.Table.{read_form_of}
 use Rattle.cg_run.specs.Run.{IsFileRight, TellsOfFile}
-use Rattle.cg_run.specs.declared.outcome.Outcome.TheVariants as out
+use Rattle.cg_outcome.specs.declared.outcome.Outcome.TheVariants as out
 use Rattle.cg_run.proofs.RunLemmas.{idle_ran}
 use Rattle.cg_run.proofs.running.run_file.Goals as goal
 

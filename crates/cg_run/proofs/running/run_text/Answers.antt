@@ -1,12 +1,12 @@
 use Rattle.std.specs.Prelude.{is_some}
 use Rattle.std.proofs.Common.{[], inl, refl, ◌≤◌, take, length, length-take, arith}
 use Rattle.cg_snap.specs.Stop.{place_of}
-use Rattle.cg_run.specs.Explain.{ExplainsNext, IsInText}
-use Rattle.cg_run.specs.Spot.{more_words}
+use Rattle.cg_outcome.specs.Explain.{ExplainsNext, IsInText}
+use Rattle.cg_outcome.specs.Spot.{more_words}
 use Rattle.cg_text.specs.Texts.{TextOf}
-use Rattle.cg_run.specs.declared.outcome.Outcome.TheVariants as out
+use Rattle.cg_outcome.specs.declared.outcome.Outcome.TheVariants as out
 use Rattle.cg_run.proofs.Took.{goes_unstopped, nothing_written}
-use Rattle.cg_run.proofs.Spots.{text_tells}
+use Rattle.cg_outcome.proofs.Spots.{text_tells}
 use Rattle.cg_run.proofs.RunLemmas.{byte_stop, end_right}
 use Rattle.cg_run.proofs.running.run_text.Goals as goal
 

@@ -1,7 +1,7 @@
 use Rattle.std.proofs.Common.{[], refl, append-nil}
-use Rattle.cg_run.specs.Kinds.{kinds_lines}
-use Rattle.cg_run.specs.Run.{joined}
-use Rattle.cg_run.specs.declared.outcome.Outcome.TheVariants as out
+use Rattle.cg_outcome.specs.Kinds.{kinds_lines}
+use Rattle.cg_outcome.specs.Wrote.{joined}
+use Rattle.cg_outcome.specs.declared.outcome.Outcome.TheVariants as out
 use Rattle.cg_run.proofs.Took.{Consumes-nil}
 use Rattle.cg_run.proofs.running.run_with.Goals as goal
 

@@ -2,9 +2,9 @@ use Rattle.std.proofs.Common.{◌≡◌, ◌≤◌, ◌++◌, [], ◌∷◌, ◌
 use Rattle.std.specs.Prelude.{is_some}
 use Rattle.std.proofs.Math.Seq.{take-length}
 use Rattle.cg_text.specs.Texts.{TextOf}
-use Rattle.cg_run.specs.Explain.{ExplainsNext, IsInText, TellsSpot}
-use Rattle.cg_run.specs.Spot.{more_words}
-use Rattle.cg_run.specs.declared.outcome.Outcome.TheVariants as out
+use Rattle.cg_outcome.specs.Explain.{ExplainsNext, IsInText, TellsSpot}
+use Rattle.cg_outcome.specs.Spot.{more_words}
+use Rattle.cg_outcome.specs.declared.outcome.Outcome.TheVariants as out
 use Rattle.cg_snap.specs.declared.stop.Stop.TheVariants as stop
 use Rattle.cg_run.proofs.Took.{nothing_written}
 use Rattle.cg_run.proofs.running.told_end.Goals as goal

@@ -1,7 +1,7 @@
 use Rattle.std.proofs.Common.{List, Bool, ◌≡◌, sym, ◌∙◌, subst}
-use Rattle.cg_run.specs.Explain.{IsInRecord}
-use Rattle.cg_run.specs.Spot.{spot_words}
-use Rattle.cg_run.proofs.Spots.{explains_as, limit_tells, line_tells}
+use Rattle.cg_outcome.specs.Explain.{IsInRecord}
+use Rattle.cg_outcome.specs.Spot.{spot_words}
+use Rattle.cg_outcome.proofs.Spots.{explains_as, limit_tells, line_tells}
 use Rattle.cg_run.proofs.spot.stream_spot.Goals as goal
 
 pub returns : goal.returns

@@ -1,9 +1,9 @@
 use Rattle.std.proofs.Common.{false, refl, sym, ◌∙◌}
 use Rattle.cg_text.specs.Texts.{TextOf}
-use Rattle.cg_run.specs.Explain.{AreNext, ExplainsNext, IsInText}
-use Rattle.cg_run.specs.Spot.{spot_words}
-use Rattle.cg_run.specs.declared.spot.Spot.{Spot}
-use Rattle.cg_run.proofs.Spots.{in_text, limit_tells, line_tells, spot_explains}
+use Rattle.cg_outcome.specs.Explain.{AreNext, ExplainsNext, IsInText}
+use Rattle.cg_outcome.specs.Spot.{spot_words}
+use Rattle.cg_outcome.specs.declared.spot.Spot.{Spot}
+use Rattle.cg_outcome.proofs.Spots.{in_text, limit_tells, line_tells, spot_explains}
 use Rattle.cg_run.proofs.spot.text_spot.Goals as goal
 
 pub returns : goal.returns

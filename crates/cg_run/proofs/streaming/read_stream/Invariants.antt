@@ -1,5 +1,5 @@
 use Rattle.std.proofs.Common.{◌≡◌, ◌-◌, ◌+◌, ◌<◌, ◌≤◌, false, [], List, ℕ, Option, is_some, length}
-use Rattle.cg_run.specs.Lines.{AreBehind}
+use Rattle.cg_outcome.specs.Lines.{AreBehind}
 use Rattle.cg_run.specs.Output.{StreamedSoFar}
 use Rattle.cg_run.specs.Streaming.{Before}
 use Rattle.cg_run.proofs.streaming.read_stream.Given as goal

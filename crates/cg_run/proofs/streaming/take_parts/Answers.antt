@@ -1,7 +1,7 @@
 use Rattle.std.specs.Prelude.{MatchResult, OnErr, OnOk, Result, Ok, Err, is_some}
 use Rattle.std.proofs.Common.{◌≡◌, ◌+◌, ◌<◌, ◌≤◌, ◌++◌, ℕ, List, refl, ap, subst, ◌∙◌, drop, get_or, Some, take, length, length-drop, arith}
 use Rattle.std.proofs.lemmas.List.{get_or-drop, take_all}
-use Rattle.cg_run.specs.Spot.{more_words}
+use Rattle.cg_outcome.specs.Spot.{more_words}
 use Rattle.std.proofs.lemmas.Result.{err_from_is_err_and}
 use Rattle.cg_snap.specs.declared.event.Event.TheVariants as events
 use Rattle.cg_run.specs.declared.output.Output.{Output}

@@ -1,12 +1,12 @@
 use Rattle.std.specs.Prelude.{Err, is_some}
 use Rattle.std.proofs.Common.{◌++◌, ◌≤◌, length, refl, subst, arith}
 use Rattle.cg_snap.specs.declared.decode.StreamFault.{StreamFault}
-use Rattle.cg_run.specs.Outcome.{last_line}
-use Rattle.cg_run.specs.Run.{Wrote, joined}
+use Rattle.cg_outcome.specs.Outcome.{last_line}
+use Rattle.cg_outcome.specs.Wrote.{Wrote, joined}
 use Rattle.cg_run.specs.Streaming.{EndIs}
-use Rattle.cg_run.specs.declared.outcome.Outcome.{Outcome}
+use Rattle.cg_outcome.specs.declared.outcome.Outcome.{Outcome}
 use Rattle.cg_run.specs.declared.output.Output.{Output}
-use Rattle.cg_run.specs.Spot.{more_words}
+use Rattle.cg_outcome.specs.Spot.{more_words}
 use Rattle.cg_run.proofs.Streams.{cut_ends, done_ends, last_memory_ends, never_cut}
 use Rattle.cg_run.proofs.Written.{holds_more, holds_same}
 use Rattle.cg_run.proofs.streaming.write_end.Goals as goal

@@ -1,6 +1,6 @@
 use Rattle.std.proofs.Common.{◌∷◌, []}
 use Rattle.cg_run.specs.Stream.{json_part}
-use Rattle.cg_run.specs.declared.outcome.Outcome.TheVariants as out
+use Rattle.cg_outcome.specs.declared.outcome.Outcome.TheVariants as out
 use Rattle.cg_run.proofs.Parts.{ended_cut, ended_none, ended_some, whole_some}
 use Rattle.cg_run.proofs.entries.EntryReaderLastPart.finish.Goals as goal
 

@@ -2,7 +2,7 @@ use Rattle.std.proofs.Common.{◌↔◌, IsTrue, subst, map}
 use Rattle.cg_value.specs.declared.profile.Profile.{Profile}
 use Rattle.cg_snap.specs.Snap.{Snap, SnapText}
 use Rattle.cg_run.specs.Stream.{WholeOf, json_part}
-use Rattle.cg_run.specs.declared.outcome.Outcome.TheVariants as out
+use Rattle.cg_outcome.specs.declared.outcome.Outcome.TheVariants as out
 use Rattle.cg_run.specs.Stood.{snap_stood, whole_spelled}
 use Rattle.cg_run.proofs.Standing.{cut_is}
 use Rattle.cg_run.proofs.entries.EntryReaderStreamReader.is_cut.Goals as goal

@@ -1,7 +1,7 @@
 use Rattle.std.proofs.Common.{List, ℕ, ◌++◌, ◌∙◌, ap, refl}
 use Rattle.std.specs.List.{flat_map}
 use Rattle.cg_snap.specs.GoingOn.{told_by, told_entry}
-use Rattle.cg_run.specs.Run.{joined}
+use Rattle.cg_outcome.specs.Wrote.{joined}
 use Rattle.cg_run.proofs.GoingOn.{ended_told, untold}
 use Rattle.cg_run.proofs.going_on.GoingOnReader.end.Goals as goal
 

@@ -7,8 +7,8 @@ use Rattle.cg_snap.specs.declared.event.Event.TheVariants as events
 use Rattle.cg_snap.specs.declared.going_on.Found.{Found}
 use Rattle.cg_run.specs.GoneOn.{left_out_of, told_found}
 use Rattle.cg_run.specs.GoneOnReader.{ExplainsOut, HasTakenOn, IsFaultAt}
-use Rattle.cg_run.specs.Lines.{AreBehind}
-use Rattle.cg_run.specs.Run.{joined}
+use Rattle.cg_outcome.specs.Lines.{AreBehind}
+use Rattle.cg_outcome.specs.Wrote.{joined}
 use Rattle.cg_run.specs.declared.going_on.GoingOnReader.{GoingOnReader}
 use Rattle.cg_run.proofs.Finds.{no_more}
 use Rattle.cg_run.proofs.GoingOn.{closes_on, found_fault, found_none, given_found, last_byte, starved_found}

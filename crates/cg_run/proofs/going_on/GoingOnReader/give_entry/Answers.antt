@@ -1,5 +1,5 @@
 use Rattle.std.proofs.Common.{◌++◌, ◌∙◌, List, ℕ, ap, inl}
-use Rattle.cg_run.specs.Run.{joined}
+use Rattle.cg_outcome.specs.Wrote.{joined}
 use Rattle.cg_run.proofs.going_on.GoingOnReader.give_entry.Goals as goal
 
 pub returns-clause-given : goal.returns-clause-given

@@ -1,7 +1,7 @@
 use Rattle.std.proofs.Common.{◌≡◌, ◌++◌, ◌∙◌, ℕ, List, take, drop, map, refl, sym, ap, subst, append_assoc, arith}
 use Rattle.std.proofs.lemmas.List.{take-append-drop, take-take}
 use Rattle.cg_run.specs.EntryRun.{AreRun}
-use Rattle.cg_run.specs.Lines.{AreBehind}
+use Rattle.cg_outcome.specs.Lines.{AreBehind}
 use Rattle.cg_run.specs.ShownBytes.{CutsOff}
 use Rattle.cg_run.specs.Stream.{shown_part}
 use Rattle.cg_run.specs.declared.going_on.GoingOnReader.{GoingOnReader}

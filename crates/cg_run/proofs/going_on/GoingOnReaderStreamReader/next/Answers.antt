@@ -7,8 +7,8 @@ use Rattle.cg_snap.specs.GoingOnEntry.{BeginsBlock, found_entry}
 use Rattle.cg_snap.specs.declared.limits.Limits.{Limits}
 use Rattle.cg_snap.proofs.GoingOnPulls.{took_none}
 use Rattle.cg_run.specs.GoneOnReader.{HasStoodOn}
-use Rattle.cg_run.specs.Lines.{AreBehind}
-use Rattle.cg_run.specs.Run.{joined}
+use Rattle.cg_outcome.specs.Lines.{AreBehind}
+use Rattle.cg_outcome.specs.Wrote.{joined}
 use Rattle.cg_run.specs.declared.going_on.GoingOnReader.{GoingOnReader}
 use Rattle.cg_run.proofs.EntryRuns.{entry_given, found_behind, goes_found, goes_stood, still_taken, takes_on}
 use Rattle.cg_run.proofs.Finds.{no_more}

@@ -1,4 +1,4 @@
-use Rattle.cg_run.specs.Outcome.{last_line}
+use Rattle.cg_outcome.specs.Outcome.{last_line}
 use Rattle.cg_run.proofs.Written.{none_held}
 use Rattle.cg_run.proofs.output.Output.finish.Goals as goal
 

@@ -1,7 +1,7 @@
 use Rattle.std.proofs.Common.{◌++◌}
-use Rattle.cg_run.specs.Outcome.{last_line}
-use Rattle.cg_run.specs.Spot.{more_words}
-use Rattle.cg_run.specs.declared.outcome.Outcome.TheVariants as out
+use Rattle.cg_outcome.specs.Outcome.{last_line}
+use Rattle.cg_outcome.specs.Spot.{more_words}
+use Rattle.cg_outcome.specs.declared.outcome.Outcome.TheVariants as out
 use Rattle.cg_run.proofs.Written.{none_held}
 use Rattle.cg_run.proofs.output.Output.stop.Goals as goal
 

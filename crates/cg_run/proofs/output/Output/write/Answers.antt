@@ -1,6 +1,6 @@
 use Rattle.std.proofs.Common.{◌++◌, ◌∷◌, [], ℕ, List, ◌∙◌, ap, subst}
 use Rattle.std.proofs.lemmas.Result.{err_from_is_err_and}
-use Rattle.cg_run.specs.Run.{Wrote, joined}
+use Rattle.cg_outcome.specs.Wrote.{Wrote, joined}
 use Rattle.cg_run.proofs.Written.{held_joined, holds_none, written_as}
 use Rattle.cg_run.proofs.output.Output.write.Goals as goal
 

@@ -2,7 +2,7 @@ use Rattle.std.proofs.Common.{◌↔◌, IsTrue, subst, map}
 use Rattle.cg_value.specs.declared.profile.Profile.{Profile}
 use Rattle.cg_snap.specs.Plan.{Plan, PlanText}
 use Rattle.cg_run.specs.Stream.{WholeOf, item_part}
-use Rattle.cg_run.specs.declared.outcome.Outcome.TheVariants as out
+use Rattle.cg_outcome.specs.declared.outcome.Outcome.TheVariants as out
 use Rattle.cg_run.specs.Stood.{plan_stood, whole_spelled}
 use Rattle.cg_run.proofs.Standing.{cut_is}
 use Rattle.cg_run.proofs.planned.PlannedReaderStreamReader.is_cut.Goals as goal

@@ -1,7 +1,7 @@
 use Rattle.std.proofs.Common.{[], ◌∷◌, ◌++◌, ap, ◌∙◌}
 use Rattle.std.specs.Prelude.{option_to_list}
 use Rattle.cg_run.specs.Stream.{shown_part}
-use Rattle.cg_run.specs.declared.outcome.Outcome.TheVariants as out
+use Rattle.cg_outcome.specs.declared.outcome.Outcome.TheVariants as out
 use Rattle.cg_run.proofs.Parts.{ended_cut, ended_none, ended_some, snap_text, whole_some}
 use Rattle.cg_run.proofs.Showing.{last_shown}
 use Rattle.cg_run.proofs.shown.ShownReaderLastPart.finish.Goals as goal

@@ -1,0 +1,6 @@
+pub mod ByteTold
+pub mod KindsLemmas
+pub mod Lined
+pub mod SpotTold
+pub mod Spots
+pub mod Written
