@@ -15,7 +15,6 @@ pub mod Reading
 pub mod Run
 pub mod Shown
 pub mod ShownBytes
-pub mod Source
 pub mod Stood
 pub mod Stream
 pub mod Streaming

@@ -9,14 +9,14 @@ ghost use Rattle.cg_run.specs.Run.{DidRunWith};
 ghost use Rattle.cg_outcome.specs.Wrote.{HasWritten, IsRealFault};
 ghost use Rattle.cg_run.specs.Streaming.{Before, EndsSo};
 
-use crate::source::Source;
 use crate::spot::stream_spot;
-use crate::stream_reader::KeptEntries;
+use crate::stream_reader::{KeptEntries, Standing};
 use crate::streaming::read_stream;
 use cg_outcome::told::{write_after, write_part};
 use cg_outcome::{Lines, Outcome, checked, write_stop};
 use cg_print::Sink;
 use cg_snap::{Stop, StreamFault};
+use cg_source::Source;
 use cg_text::OutOfMemory;
 use cg_tree::{Finding, findings};
 use cg_value::{Entry, Value};
@@ -115,10 +115,13 @@ fn write_findings<K: KeptEntries, W: Sink>(
         result }
     ensures real { IsRealFault result (W.has_failed writer.new) }
 {
-    if kept.is_cut() {
-        let stop = Stop::Cut {
-            at: kept.consumed(),
-        };
+    let Standing {
+        is_cut,
+        consumed,
+        ..
+    } = kept.standing();
+    if is_cut {
+        let stop = Stop::Cut { at: consumed };
         let spot = stream_spot(&kept, lines, stop, None);
         return write_stop(writer, written, stop, spot);
     }

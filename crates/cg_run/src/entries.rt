@@ -3,9 +3,9 @@ ghost use Rattle.std.specs.Prelude.{◌≡◌, ◌++◌, [], OnErr, OnOk};
 ghost use Rattle.cg_run.specs.Stream.{json_part};
 ghost use Rattle.cg_run.specs.Streaming.{IsAppended};
 
-use crate::stream_reader::{LastPart, StreamReader};
-use cg_snap::{Event, Limits, Progress, RecordPlace, SnapshotDecoder, StreamFault, What};
-use cg_text::{ByteSet, OutOfMemory};
+use crate::stream_reader::{LastPart, Standing, StreamReader};
+use cg_snap::{Event, Limits, Progress, SnapshotDecoder, StreamFault, What};
+use cg_text::OutOfMemory;
 use cg_value::{Entry, Profile};
 use std::alloc::Global;
 
@@ -108,20 +108,13 @@ impl StreamReader for EntryReader {
         }
     }
 
-    fn record_place(&self) -> Option<RecordPlace<'_>> {
-        Some(self.decoder.record_place())
-    }
-
-    fn allowed(&self) -> ByteSet {
-        self.decoder.allowed()
-    }
-
-    fn is_cut(&self) -> bool {
-        !self.decoder.can_finish()
-    }
-
-    fn consumed(&self) -> u64 {
-        self.decoder.offset()
+    fn standing(&self) -> Standing<'_> {
+        Standing {
+            place: Some(self.decoder.record_place()),
+            wanted: self.decoder.allowed(),
+            is_cut: !self.decoder.can_finish(),
+            consumed: self.decoder.offset(),
+        }
     }
 }
 

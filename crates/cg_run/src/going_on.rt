@@ -16,13 +16,13 @@ ghost use Rattle.cg_outcome.specs.Wrote.{joined};
 use crate::entry_run::pass_run;
 use crate::kept::Kept;
 use crate::shown_text::append_closed;
-use crate::stream_reader::{KeptEntries, LastPart, StreamReader};
+use crate::stream_reader::{KeptEntries, LastPart, Standing, StreamReader};
 use crate::teller::{KeepsRuled, Teller, TellsAll};
 use cg_outcome::{Lines, append_spot, lines_behind, lines_of, spot_in};
 use cg_snap::{
     Cause, Event, Fault, Found, GoingOnDecoder, LeftOut, Limits, Progress, RecordPlace, StreamFault,
 };
-use cg_text::{ByteSet, OutOfMemory};
+use cg_text::OutOfMemory;
 use cg_value::{Entry, Profile};
 use std::alloc::Global;
 
@@ -415,20 +415,13 @@ impl<T: Teller> StreamReader for GoingOnReader<T> {
         }
     }
 
-    fn record_place(&self) -> Option<RecordPlace<'_>> {
-        self.decoder.record_place()
-    }
-
-    fn allowed(&self) -> ByteSet {
-        self.decoder.wanted()
-    }
-
-    fn is_cut(&self) -> bool {
-        !self.decoder.can_finish()
-    }
-
-    fn consumed(&self) -> u64 {
-        self.decoder.offset()
+    fn standing(&self) -> Standing<'_> {
+        Standing {
+            place: self.decoder.record_place(),
+            wanted: self.decoder.wanted(),
+            is_cut: !self.decoder.can_finish(),
+            consumed: self.decoder.offset(),
+        }
     }
 }
 

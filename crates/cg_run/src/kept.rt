@@ -3,9 +3,9 @@ ghost use Rattle.std.specs.Prelude.{◌≡◌, ℕ, true, List, [], ◌∷◌, �
 ghost use Rattle.cg_tree.specs.Directory.{name_of};
 ghost use Rattle.cg_tree.specs.Ruled.{is_ruled, ruled};
 
-use crate::stream_reader::{KeptEntries, StreamReader};
-use cg_snap::{Event, Limits, Progress, RecordPlace, SnapshotDecoder, StreamFault};
-use cg_text::{ByteSet, OutOfMemory};
+use crate::stream_reader::{KeptEntries, Standing, StreamReader};
+use cg_snap::{Event, Limits, Progress, SnapshotDecoder, StreamFault};
+use cg_text::OutOfMemory;
 use cg_tree::is_ruled;
 use cg_value::{Entry, Profile};
 use std::alloc::Global;
@@ -135,20 +135,13 @@ impl StreamReader for KeptReader {
         }
     }
 
-    fn record_place(&self) -> Option<RecordPlace<'_>> {
-        Some(self.decoder.record_place())
-    }
-
-    fn allowed(&self) -> ByteSet {
-        self.decoder.allowed()
-    }
-
-    fn is_cut(&self) -> bool {
-        !self.decoder.can_finish()
-    }
-
-    fn consumed(&self) -> u64 {
-        self.decoder.offset()
+    fn standing(&self) -> Standing<'_> {
+        Standing {
+            place: Some(self.decoder.record_place()),
+            wanted: self.decoder.allowed(),
+            is_cut: !self.decoder.can_finish(),
+            consumed: self.decoder.offset(),
+        }
     }
 }
 

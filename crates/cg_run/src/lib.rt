@@ -3,7 +3,6 @@
 
 mod checked;
 pub mod command;
-pub mod cut;
 mod entries;
 mod entry_run;
 pub mod explained;
@@ -13,13 +12,11 @@ mod kept;
 mod left_out;
 pub mod options;
 mod output;
-pub mod plain;
 mod planned;
 mod reading;
 pub mod running;
 mod shown;
 mod shown_text;
-pub mod source;
 mod spot;
 mod stream_reader;
 mod streaming;
@@ -27,10 +24,8 @@ mod teller;
 mod text_reader;
 
 pub use cg_outcome::{Outcome, status};
+pub use cg_source::{CutSource, PlainReader, Source};
 pub use command::Command;
-pub use cut::CutSource;
 pub use explained::{Explained, explain_file, explain_setting};
 pub use options::Options;
-pub use plain::PlainReader;
 pub use running::{run, run_with};
-pub use source::Source;

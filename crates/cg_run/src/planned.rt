@@ -3,10 +3,9 @@ ghost use Rattle.std.specs.Prelude.{◌≡◌, []};
 ghost use Rattle.cg_run.specs.Stream.{item_part};
 ghost use Rattle.cg_run.specs.Streaming.{IsAppended};
 
-use crate::stream_reader::{LastPart, StreamReader};
+use crate::stream_reader::{LastPart, Standing, StreamReader};
 use cg_print::append_item;
-use cg_snap::{Event, Limits, PlanDecoder, PlanWhat, Progress, RecordPlace, StreamFault};
-use cg_text::ByteSet;
+use cg_snap::{Event, Limits, PlanDecoder, PlanWhat, Progress, StreamFault};
 use cg_value::Profile;
 use std::alloc::Global;
 
@@ -94,20 +93,13 @@ impl StreamReader for PlannedReader {
         }
     }
 
-    fn record_place(&self) -> Option<RecordPlace<'_>> {
-        Some(self.decoder.record_place())
-    }
-
-    fn allowed(&self) -> ByteSet {
-        self.decoder.allowed()
-    }
-
-    fn is_cut(&self) -> bool {
-        !self.decoder.can_finish()
-    }
-
-    fn consumed(&self) -> u64 {
-        self.decoder.offset()
+    fn standing(&self) -> Standing<'_> {
+        Standing {
+            place: Some(self.decoder.record_place()),
+            wanted: self.decoder.allowed(),
+            is_cut: !self.decoder.can_finish(),
+            consumed: self.decoder.offset(),
+        }
     }
 }
 

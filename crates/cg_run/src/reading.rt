@@ -5,13 +5,13 @@ ghost use Rattle.cg_snap.specs.Stop.{TextStopOf, place_of};
 ghost use Rattle.cg_outcome.specs.Lines.{AreBehind};
 ghost use Rattle.cg_run.specs.Reading.{AreBehindPiece, ending_of, GoesOn, TookPiece, HasRead};
 
-use crate::source::Source;
 use crate::spot::next_byte;
 use crate::text_reader::TextReader;
 use cg_line::PushFault;
 use cg_outcome::{Lines, lines_behind};
 use cg_print::Failed;
 use cg_snap::{Stop, Why};
+use cg_source::Source;
 
 /// How reading ended.
 #[derive(Clone, Copy, Debug, PartialEq, Eq)]

@@ -18,7 +18,6 @@ use crate::options::Options;
 use crate::planned::PlannedReader;
 use crate::reading::{Ending, read_all};
 use crate::shown::ShownReader;
-use crate::source::Source;
 use crate::spot::text_spot;
 use crate::streaming::run_stream;
 use crate::teller::{JsonTeller, KeptTeller, ShownTeller};
@@ -28,6 +27,7 @@ use cg_outcome::told::{told, told_line};
 use cg_outcome::{Lines, Outcome, lines_of, told_kinds, write_stop};
 use cg_print::Sink;
 use cg_snap::{Limits, Stop};
+use cg_source::Source;
 use cg_value::{Profile, read_kind, write_kind};
 use std::alloc::Global;
 

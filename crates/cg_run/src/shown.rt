@@ -7,9 +7,8 @@ ghost use Rattle.cg_run.specs.Stood.{HasSnapStood};
 ghost use Rattle.cg_run.specs.Streaming.{IsFoundBy, StandsBehind};
 
 use crate::shown_text::{append_closed, append_shown, append_text};
-use crate::stream_reader::{LastPart, StreamReader};
-use cg_snap::{Event, Limits, Progress, RecordPlace, SnapshotDecoder, StreamFault};
-use cg_text::ByteSet;
+use crate::stream_reader::{LastPart, Standing, StreamReader};
+use cg_snap::{Event, Limits, Progress, SnapshotDecoder, StreamFault};
 use cg_value::Profile;
 use std::alloc::Global;
 
@@ -152,20 +151,13 @@ impl StreamReader for ShownReader {
         }
     }
 
-    fn record_place(&self) -> Option<RecordPlace<'_>> {
-        Some(self.decoder.record_place())
-    }
-
-    fn allowed(&self) -> ByteSet {
-        self.decoder.allowed()
-    }
-
-    fn is_cut(&self) -> bool {
-        !self.decoder.can_finish()
-    }
-
-    fn consumed(&self) -> u64 {
-        self.decoder.offset()
+    fn standing(&self) -> Standing<'_> {
+        Standing {
+            place: Some(self.decoder.record_place()),
+            wanted: self.decoder.allowed(),
+            is_cut: !self.decoder.can_finish(),
+            consumed: self.decoder.offset(),
+        }
     }
 }
 

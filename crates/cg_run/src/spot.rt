@@ -5,7 +5,7 @@ ghost use Rattle.cg_outcome.specs.Explain.{ExplainsNext, IsInText, TellsSpot};
 ghost use Rattle.cg_outcome.specs.Lines.{AreBehind};
 ghost use Rattle.cg_outcome.specs.Spot.{more_words};
 
-use crate::stream_reader::StreamReader;
+use crate::stream_reader::{Standing, StreamReader};
 use crate::text_reader::TextReader;
 use cg_outcome::{Lines, Spot, is_explained, spot_in};
 use cg_snap::Stop;
@@ -27,10 +27,11 @@ pub(crate) fn stream_spot<S: StreamReader>(
     if !is_explained(stop) {
         return None;
     }
-    let Some(place) = stream.record_place() else {
-        return None;
-    };
-    Some(spot_in(place, counted, byte, stream.allowed()))
+    let Standing { place, wanted, .. } = stream.standing();
+    match place {
+        Some(place) => Some(spot_in(place, counted, byte, wanted)),
+        None => None,
+    }
 }
 
 /// Where the text of a file of this name stops, if lines are counted and the stop is explained.

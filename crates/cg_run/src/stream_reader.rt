@@ -11,6 +11,19 @@ use crate::kept::Kept;
 use cg_snap::{Progress, RecordPlace, StreamFault};
 use cg_text::ByteSet;
 
+/// Where a reader of a stream stands, behind the bytes that it consumed.
+#[derive(Drop)]
+pub(crate) struct Standing<'a> {
+    /// The path of the record that comes, and whether its NUL came; none where it isn't held, and nothing is explained.
+    pub(crate) place: Option<RecordPlace<'a>>,
+    /// The bytes that may come.
+    pub(crate) wanted: ByteSet,
+    /// Whether what was consumed ends within a record.
+    pub(crate) is_cut: bool,
+    /// How many bytes were consumed.
+    pub(crate) consumed: u64,
+}
+
 /// A reader of a stream, which appends the text of each part once it is there.
 pub(crate) trait StreamReader: Drop {
     /// What tells which streams are read.
@@ -58,23 +71,14 @@ pub(crate) trait StreamReader: Drop {
         ensures used { result.used ≤ length piece.now }
         ensures progress { IsFoundBy (length piece.now) result.used result.what };
 
-    /// The path of the record that comes, and whether its NUL came; none where it isn't held, and nothing is explained.
-    fn record_place(&self) -> Option<RecordPlace<'_>>
-        ensures { (form : Self.Setup) (p : List ℕ) → stood self.now form p → MatchOption result
-            ((what : Option ℕ) → explained form p what []) (λ place. IsRecordPlace p place.path.now place.in_line) };
-
-    /// The bytes that may come.
-    fn allowed(&self) -> ByteSet
-        ensures { (form : Self.Setup) (p : List ℕ) → stood self.now form p → wanted form p result };
-
-    /// Whether what was consumed ends within a record.
-    fn is_cut(&self) -> bool
-        ensures { (form : Self.Setup) (p : List ℕ) (parts : List (List ℕ)) → took self.now form p parts →
-            MatchBool result (HasNoWhole (whole form) p) (HasWhole (whole form) p) };
-
-    /// How many bytes were consumed.
-    fn consumed(&self) -> u64
-        ensures { (form : Self.Setup) (p : List ℕ) → stood self.now form p → result ≡ length p };
+    /// Where it stands, also behind a stop.
+    fn standing(&self) -> Standing<'_>
+        ensures place { (form : Self.Setup) (p : List ℕ) → stood self.now form p → MatchOption result.place
+            ((what : Option ℕ) → explained form p what []) (λ place. IsRecordPlace p place.path.now place.in_line) }
+        ensures wanted { (form : Self.Setup) (p : List ℕ) → stood self.now form p → wanted form p result.wanted }
+        ensures cut { (form : Self.Setup) (p : List ℕ) (parts : List (List ℕ)) → took self.now form p parts →
+            MatchBool result.is_cut (HasNoWhole (whole form) p) (HasWhole (whole form) p) }
+        ensures consumed { (form : Self.Setup) (p : List ℕ) → stood self.now form p → result.consumed ≡ length p };
 
     /// Where the record stands, and the bytes that may come, are told by the line.
     ghost explains: { (form : Self.Setup) (p : List ℕ) (what : Option ℕ) (text : List ℕ) →

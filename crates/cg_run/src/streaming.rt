@@ -12,13 +12,13 @@ ghost use Rattle.cg_run.specs.Output.{BeforeNext, StreamedIs};
 
 use crate::output::Output;
 use crate::running::PIECE;
-use crate::source::Source;
 use crate::spot::{next_byte, stream_spot};
-use crate::stream_reader::{LastPart, StreamReader};
+use crate::stream_reader::{LastPart, Standing, StreamReader};
 use cg_outcome::told::write_after;
 use cg_outcome::{Lines, Outcome, gone_on, lines_behind};
 use cg_print::{Failed, Sink};
 use cg_snap::{Event, Stop, StreamFault};
+use cg_source::Source;
 use std::alloc::Global;
 
 /// Hands a piece to the reader, and writes the parts that it gives. The error is how the run ended.
@@ -76,10 +76,13 @@ fn write_end<S: LastPart, W: Sink>(
         read left failed first (W.taken writer.new) (W.has_failed writer.new) result }
     ensures real { IsRealFault result (W.has_failed writer.new) }
 {
-    if stream.is_cut() {
-        let stop = Stop::Cut {
-            at: stream.consumed(),
-        };
+    let Standing {
+        is_cut,
+        consumed,
+        ..
+    } = stream.standing();
+    if is_cut {
+        let stop = Stop::Cut { at: consumed };
         let spot = stream_spot(&stream, lines, stop, None);
         return output.stop(writer, stop, spot);
     }

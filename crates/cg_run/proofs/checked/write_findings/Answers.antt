@@ -12,21 +12,21 @@ pub returns-in-Err-Stopped-clause-ended : goal.returns-in-Err-Stopped-clause-end
 returns-in-Err-Stopped-clause-ended g c form first read limit lines b left failed ended works =
     let whole = g.K.StreamReader.whole form in
     let fault = subst (IsEndFault whole read b.parts) c.in-Err-Stopped.field-0-is (c.in-Err-Stopped.ensures form read b.parts b.took) in
-    let all = rw c.if-is_cut.false at (c.is_cut.ensures form read b.parts b.took) in
+    let all = rw c.if-is_cut.false at (c.standing-is_cut.ensures.cut form read b.parts b.took) in
     absurd (never_cut whole read c.in-Err-Stopped.stop all fault)
 
 pub returns-then-is_cut-clause-ended : goal.returns-then-is_cut-clause-ended
 returns-then-is_cut-clause-ended g c form first read limit lines b left failed ended works =
     let stands = g.met.K.StreamReader.stands c.args.kept form read b.parts b.took in
     let few : length read ≤ 18446744073709551615 = omega (arith, g.met.K.StreamReader.within c.args.kept form read stands, limit, c.ranges.max.fits) in
-    let none = rw c.if-is_cut.true at (c.is_cut.ensures form read b.parts b.took) in
+    let none = rw c.if-is_cut.true at (c.standing-is_cut.ensures.cut form read b.parts b.took) in
     ends_checked (g.K.StreamReader.whole form) (g.K.StreamReader.closes form) (g.K.StreamReader.unstopped form) (g.K.StreamReader.stops form)
     (is_some c.args.lines) (g.K.StreamReader.explained form) read left failed first (g.W.Sink.taken c.write_stop.new.writer) (g.W.Sink.has_failed c.write_stop.new.writer) b.parts
     (g.met.K.StreamReader.passed c.args.kept form read b.parts b.took) (g.met.K.StreamReader.closed c.args.kept form read b.parts b.took) ended works
     c.write_stop.result (cut_ends (g.K.StreamReader.took c.args.kept form) (g.K.StreamReader.whole form) (g.K.StreamReader.closes form) (g.K.StreamReader.unstopped form) (g.K.StreamReader.stops form)
     (is_some c.args.lines) (g.K.StreamReader.explained form) read left failed first (g.W.Sink.taken c.write_stop.new.writer) (g.W.Sink.has_failed c.write_stop.new.writer) b.parts
     (g.met.K.StreamReader.passed c.args.kept form read b.parts b.took) (g.met.K.StreamReader.closed c.args.kept form read b.parts b.took) ended works
-    c.consumed.result c.write_stop.result (more_words c.stream_spot-spot.result) (c.consumed.ensures form read stands, none)
+    c.standing-is_cut.result.consumed c.write_stop.result (more_words c.stream_spot-spot.result) (c.standing-is_cut.ensures.consumed form read stands, none)
     (c.stream_spot-spot.ensures form read stands few lines)
     (c.write_stop.ensures.wrote first b.parts b.wrote))
 

@@ -29,7 +29,7 @@ returns-in-Err-Stopped-clause-ended g c form first read limit lines b left faile
     let s = c.args.stream in
     let whole = g.S.StreamReader.whole form in
     let e = subst (λ (f : StreamFault). EndIs whole read b.parts c.args.output.now.text.items c.finish.new.out.items (Err f)) c.in-Err-Stopped.field-0-is (c.in-Err-Stopped.ensures form read b.parts b.took) in
-    let all = rw c.if-is_cut.false at (c.is_cut.ensures form read b.parts b.took) in
+    let all = rw c.if-is_cut.false at (c.standing-is_cut.ensures.cut form read b.parts b.took) in
     absurd (never_cut whole read c.in-Err-Stopped.stop all e.0)
 
 pub returns-then-is_cut-clause-ended : goal.returns-then-is_cut-clause-ended
@@ -37,11 +37,11 @@ returns-then-is_cut-clause-ended g c form first read limit lines b left failed e
     let s = c.args.stream in
     let stands = g.met.S.StreamReader.stands s form read b.parts b.took in
     let few : length read ≤ 18446744073709551615 = omega (arith, g.met.S.StreamReader.within s form read stands, limit, c.ranges.max.fits) in
-    let none = rw c.if-is_cut.true at (c.is_cut.ensures form read b.parts b.took) in
+    let none = rw c.if-is_cut.true at (c.standing-is_cut.ensures.cut form read b.parts b.took) in
     cut_ends (g.S.StreamReader.took s form) (g.S.StreamReader.whole form) (g.S.StreamReader.closes form) (g.S.StreamReader.unstopped form) (g.S.StreamReader.stops form)
     (is_some c.args.lines) (g.S.StreamReader.explained form) read left failed first (g.W.Sink.taken c.stop.new.writer) (g.W.Sink.has_failed c.stop.new.writer) b.parts
     (g.met.S.StreamReader.passed s form read b.parts b.took) (g.met.S.StreamReader.closed s form read b.parts b.took) ended works
-    c.consumed.result c.stop.result (more_words c.stream_spot-spot.result) (c.consumed.ensures form read stands, none)
+    c.standing-is_cut.result.consumed c.stop.result (more_words c.stream_spot-spot.result) (c.standing-is_cut.ensures.consumed form read stands, none)
     (c.stream_spot-spot.ensures form read stands few lines)
     (c.stop.ensures.wrote first b.parts b.holds)
 

@@ -1,6 +1,6 @@
 //! What gives bytes.
 ghost use Rattle.std.specs.Prelude.{◌≡◌, ℕ, List, Option, Bool};
-ghost use Rattle.cg_run.specs.Source.{Pulls, ask_more};
+ghost use Rattle.cg_source.specs.Source.{Pulls, ask_more};
 
 use cg_print::Failed;
 

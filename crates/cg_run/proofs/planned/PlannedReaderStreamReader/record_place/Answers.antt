@@ -1,4 +1,0 @@
-use Rattle.cg_run.proofs.planned.PlannedReaderStreamReader.record_place.Goals as goal
-
-pub returns : goal.returns
-returns c form p h = c.record_place.ensures p h.parts h.stands

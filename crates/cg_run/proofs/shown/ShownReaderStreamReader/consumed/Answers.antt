@@ -1,4 +1,0 @@
-use Rattle.cg_run.proofs.shown.ShownReaderStreamReader.consumed.Goals as goal
-
-pub returns : goal.returns
-returns c form p h = c.offset.ensures p h.parts h.stands
