@@ -5,7 +5,7 @@ use Rattle.cg_value.specs.Settings.{Write}
 use Rattle.cg_value.specs.Table.{read_form_of, write_form_of}
 use Rattle.cg_value.specs.declared.profile.Profile.{Profile}
 use Rattle.cg_line.specs.Decode.{IsStarved}
-use Rattle.cg_run.specs.Explained.{IsExplanation}
+use Rattle.cg_source.specs.Explained.{IsExplanation}
 
 -- The writes to the file of the name, or the files of it.
 abbrev pub Texts : Profile → List ℕ → (is_written : Bool) → List ℕ → Type 0

@@ -1,6 +1,6 @@
 //! Why bytes are no file, or no write to it.
 ghost use Rattle.std.specs.Prelude.{◌≡◌, ◌≤◌, [], ◌∷◌, None, IsSomeAnd, true};
-ghost use Rattle.cg_run.specs.Explained.{IsExplained, IsExplanation};
+ghost use Rattle.cg_source.specs.Explained.{IsExplained, IsExplanation};
 ghost use Rattle.cg_c.specs.Answer.{is_one_of, profile_of, HasNoRoom, IsPrinted};
 ghost use Rattle.cg_c.specs.Explain.{HasNoForm, HasNoMemory, Texts, the_line};
 

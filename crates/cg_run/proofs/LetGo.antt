@@ -21,7 +21,7 @@ use Rattle.cg_line.specs.declared.push.PushFault.{PushFault}
 use Rattle.cg_line.specs.declared.push.PushFault.TheVariants.{Refused, OutOfMemory}
 use Rattle.cg_line.specs.declared.reader.PushedRun.{PushedRun}
 use Rattle.cg_run.specs.FileReader.{IsLetGo, HasLinesAlone, HasKept, HasFewLines, IsDue, IsSettled, lines_alone, since, viable_behind}
-use Rattle.cg_run.specs.TextReader.{IsRunTaken}
+use Rattle.cg_source.specs.TextReader.{IsRunTaken}
 use Rattle.cg_run.specs.declared.file_reader.FileReader.{FileReader}
 
 -- ---- Lines that stand alone

@@ -13,10 +13,7 @@ pub mod RunLemmas
 pub mod Showing
 pub mod ShowsBytes
 pub mod SnapEnds
-pub mod Stops
 pub mod Streams
-pub mod Took
 pub mod Written
 pub mod WithoutOptions
 pub mod Standing
-pub mod Explaining

@@ -13,7 +13,7 @@ use Rattle.cg_outcome.specs.Wrote.{Wrote}
 use Rattle.cg_run.specs.Ended.{IsEndRight}
 use Rattle.cg_outcome.specs.declared.outcome.Outcome.{Outcome}
 use Rattle.cg_outcome.specs.declared.outcome.Outcome.TheVariants as out
-use Rattle.cg_run.proofs.Took.{Consumes-nil}
+use Rattle.cg_source.proofs.Took.{Consumes-nil}
 
 module _ {V : Type 0} (Text : List ℕ → V → Type 0) (print : V → List ℕ) (max : ℕ) (r : Reading) where
   -- A stop by a byte of the input.

@@ -4,14 +4,12 @@ pub mod Decoded
 pub mod Ended
 pub mod Entries
 pub mod EntryRun
-pub mod Explained
 pub mod FileReader
 pub mod GoneOn
 pub mod GoneOnReader
 pub mod Kept
 pub mod Output
 pub mod Planned
-pub mod Reading
 pub mod Run
 pub mod Shown
 pub mod ShownBytes
@@ -19,4 +17,3 @@ pub mod Stood
 pub mod Stream
 pub mod Streaming
 pub mod Taken
-pub mod TextReader

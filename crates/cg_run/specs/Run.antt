@@ -26,18 +26,13 @@ use Rattle.cg_outcome.specs.Input.{Reading, IsEnded}
 use Rattle.cg_outcome.specs.Kinds.{kinds_lines}
 use Rattle.cg_outcome.specs.Outcome.{last_line}
 use Rattle.cg_outcome.specs.Wrote.{Wrote, joined}
+use Rattle.cg_source.specs.Reading.{IsTextStarved}
 use Rattle.cg_run.specs.Stream.{DoneOf, IsStreamRight, PartsOf, WholeOf, item_part, json_part, shown_part}
 use Rattle.cg_run.specs.declared.options.Options.{Options}
 use Rattle.cg_outcome.specs.declared.outcome.Outcome.{Outcome}
 use Rattle.cg_outcome.specs.declared.outcome.Outcome.TheVariants as out
 use Rattle.cg_run.specs.declared.command.Command.{Command}
 use Rattle.cg_run.specs.declared.command.Command.TheVariants as command
-
--- Memory was refused at one of these bytes, and none up to it stops the run.
-pub record IsTextStarved (L : List ℕ → Type 0) (max : ℕ) (text : List ℕ) : Type 0 where
-  pub at : ℕ
-  pub within : at < length text
-  pub unstopped : IsTextUnstopped L max (take (at + 1) text)
 
 -- The texts are a relation to the values that they spell, and a value's canonical text is printed.
 module _ {V : Type 0} (Text : List ℕ → V → Type 0) (print : V → List ℕ) (max : ℕ) where

@@ -5,9 +5,9 @@ ghost use Rattle.cg_line.specs.Reads.{Reads, held_by};
 ghost use Rattle.cg_line.specs.Runs.{RunStops};
 ghost use Rattle.cg_run.specs.FileReader.{lines_alone};
 
-use crate::text_reader::{TextReader, front_of};
 use cg_line::{PushFault, PushedRun, ValueReader};
 use cg_print::print_file;
+use cg_source::{TextReader, front_of};
 use cg_text::{ByteSet, OutOfMemory};
 use cg_value::{ReadForm, ReadKind, Value};
 use std::alloc::Global;

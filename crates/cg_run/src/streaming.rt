@@ -12,13 +12,13 @@ ghost use Rattle.cg_run.specs.Output.{BeforeNext, StreamedIs};
 
 use crate::output::Output;
 use crate::running::PIECE;
-use crate::spot::{next_byte, stream_spot};
+use crate::spot::stream_spot;
 use crate::stream_reader::{LastPart, Standing, StreamReader};
 use cg_outcome::told::write_after;
 use cg_outcome::{Lines, Outcome, gone_on, lines_behind};
 use cg_print::{Failed, Sink};
 use cg_snap::{Event, Stop, StreamFault};
-use cg_source::Source;
+use cg_source::{Source, next_byte};
 use std::alloc::Global;
 
 /// Hands a piece to the reader, and writes the parts that it gives. The error is how the run ended.

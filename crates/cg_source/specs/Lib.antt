@@ -1,1 +1,4 @@
+pub mod Explained
+pub mod Reading
 pub mod Source
+pub mod TextReader

@@ -1,5 +1,5 @@
 use Rattle.std.proofs.Common.{Bool, sym, subst}
-use Rattle.cg_run.specs.Explained.{IsExplained}
+use Rattle.cg_source.specs.Explained.{IsExplained}
 use Rattle.cg_c.specs.Explain.{HasNoForm, Texts}
 use Rattle.cg_c.proofs.explain.explained.Goals as goal
 

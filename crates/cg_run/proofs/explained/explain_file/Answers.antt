@@ -2,7 +2,7 @@ use Rattle.std.proofs.Common.{◌≡◌, None}
 use Rattle.cg_line.specs.DecodeLaws.{kind_files}
 use Rattle.cg_value.specs.Files.{File, KindFile}
 use Rattle.cg_value.specs.Table.{read_form_of}
-use Rattle.cg_run.proofs.Explaining.{explained_as}
+use Rattle.cg_source.proofs.Explaining.{explained_as}
 use Rattle.cg_run.proofs.explained.explain_file.Goals as goal
 
 pub returns-in-Ok : goal.returns-in-Ok

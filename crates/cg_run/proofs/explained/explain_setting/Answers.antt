@@ -6,7 +6,7 @@ use Rattle.cg_line.specs.SettingReads.{WritesOf}
 use Rattle.cg_value.specs.Settings.{SettingText, Write}
 use Rattle.cg_value.specs.Table.{write_form_of}
 use Rattle.cg_value.specs.declared.setting.Setting.{Setting}
-use Rattle.cg_run.proofs.Explaining.{explained_as}
+use Rattle.cg_source.proofs.Explaining.{explained_as}
 use Rattle.cg_run.proofs.explained.explain_setting.Goals as goal
 
 pub returns-in-Ok : goal.returns-in-Ok

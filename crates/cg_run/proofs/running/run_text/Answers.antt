@@ -5,7 +5,7 @@ use Rattle.cg_outcome.specs.Explain.{ExplainsNext, IsInText}
 use Rattle.cg_outcome.specs.Spot.{more_words}
 use Rattle.cg_text.specs.Texts.{TextOf}
 use Rattle.cg_outcome.specs.declared.outcome.Outcome.TheVariants as out
-use Rattle.cg_run.proofs.Took.{goes_unstopped, nothing_written}
+use Rattle.cg_source.proofs.Took.{goes_unstopped, nothing_written}
 use Rattle.cg_outcome.proofs.Spots.{text_tells}
 use Rattle.cg_run.proofs.RunLemmas.{byte_stop, end_right}
 use Rattle.cg_run.proofs.running.run_text.Goals as goal

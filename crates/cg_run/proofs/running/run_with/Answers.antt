@@ -2,7 +2,7 @@ use Rattle.std.proofs.Common.{[], refl, append-nil}
 use Rattle.cg_outcome.specs.Kinds.{kinds_lines}
 use Rattle.cg_outcome.specs.Wrote.{joined}
 use Rattle.cg_outcome.specs.declared.outcome.Outcome.TheVariants as out
-use Rattle.cg_run.proofs.Took.{Consumes-nil}
+use Rattle.cg_source.proofs.Took.{Consumes-nil}
 use Rattle.cg_run.proofs.running.run_with.Goals as goal
 
 pub returns-in-File-clause-ran : goal.returns-in-File-clause-ran

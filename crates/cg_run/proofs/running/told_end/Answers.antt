@@ -6,7 +6,7 @@ use Rattle.cg_outcome.specs.Explain.{ExplainsNext, IsInText, TellsSpot}
 use Rattle.cg_outcome.specs.Spot.{more_words}
 use Rattle.cg_outcome.specs.declared.outcome.Outcome.TheVariants as out
 use Rattle.cg_snap.specs.declared.stop.Stop.TheVariants as stop
-use Rattle.cg_run.proofs.Took.{nothing_written}
+use Rattle.cg_source.proofs.Took.{nothing_written}
 use Rattle.cg_run.proofs.running.told_end.Goals as goal
 
 pub returns-in-Ok-Some-clause-ended : goal.returns-in-Ok-Some-clause-ended

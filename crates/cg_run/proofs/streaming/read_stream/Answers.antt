@@ -1,7 +1,7 @@
 use Rattle.std.proofs.Common.{◌++◌, ◌∙◌, is_some, length-append, arith}
 use Rattle.std.proofs.lemmas.Result.{err_from_is_err_and}
 use Rattle.cg_run.proofs.Streams.{read_fault_ends}
-use Rattle.cg_run.proofs.Took.{Consumes-kept, Consumes-trans}
+use Rattle.cg_source.proofs.Took.{Consumes-kept, Consumes-trans}
 use Rattle.cg_run.proofs.Written.{holds_none}
 use Rattle.cg_run.proofs.streaming.read_stream.Goals as goal
 

@@ -1,7 +1,7 @@
 use Rattle.std.proofs.Common.{◌≡◌, List, ℕ, ◌++◌, true, refl, ap₂, ◌∙◌, subst}
 use Rattle.cg_value.specs.Files.{KindFile}
 use Rattle.cg_run.specs.FileReader.{IsSettled}
-use Rattle.cg_run.specs.TextReader.{IsRunTaken}
+use Rattle.cg_source.specs.TextReader.{IsRunTaken}
 use Rattle.cg_run.specs.declared.file_reader.FileReader.{FileReader}
 use Rattle.cg_run.proofs.LetGo.{IsRunKept, due_let_go, none_kept, run_kept, run_renewed, run_settled}
 use Rattle.cg_run.proofs.file_reader.FileReaderTextReader.take_run.Goals as goal

@@ -1,4 +1,0 @@
-use Rattle.cg_run.proofs.text_reader.SettingReaderTextReader.can_finish.Goals as goal
-
-pub returns : goal.returns
-returns c form taken h = c.can_finish.ensures form taken h

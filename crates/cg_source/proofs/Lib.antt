@@ -1,0 +1,3 @@
+pub mod Explaining
+pub mod Stops
+pub mod Took
