@@ -7,10 +7,10 @@ use Rattle.cg_line.specs.Decode.{IsStarved}
 use Rattle.cg_snap.specs.Stop.{place_of}
 use Rattle.cg_snap.specs.declared.stop.Stop.{Stop}
 use Rattle.cg_snap.specs.declared.stop.Stop.TheVariants as stop
-use Rattle.cg_outcome.specs.Explain.{ExplainsNext, IsInText, TellsSpot}
+use Rattle.cg_outcome.specs.Explain.{AreNext, ExplainsNext, IsInText, TellsSpot}
+use Rattle.cg_outcome.proofs.Spots as Spots
 use Rattle.cg_source.specs.Explained.{IsExplained, IsExplanation, IsLine}
-use Rattle.cg_source.specs.Reading.{IsStoppedAt}
-use Rattle.cg_source.specs.Reading.{IsTextStarved}
+use Rattle.cg_source.specs.Reading.{IsStoppedAt, IsTextStarved}
 use Rattle.cg_source.specs.declared.explained.Explained.{Explained}
 use Rattle.cg_source.specs.declared.explained.Explained.TheVariants.{Line, Whole, NoForm}
 
@@ -58,17 +58,9 @@ module _ (L M : List ℕ → Type 0) (same : (text : List ℕ) → L text ↔ M 
   from front h = record { rest = h.rest; whole = (same _).1 h.whole }
 
   explains_as : (p : List ℕ) (what : Option ℕ) (line : List ℕ) → ExplainsNext L (IsInText name) p what line → ExplainsNext M (IsInText name) p what line
-  explains_as p what line h = record {
-    begun = h.begun;
-    begins = h.begins;
-    in_path = h.in_path;
-    path = h.path;
-    before = h.before;
-    place = h.place;
-    wanted = h.wanted;
-    may_come = λ byte. (λ has. to _ ((h.may_come byte).0 has), λ next. (h.may_come byte).1 (from _ next));
-    text_is = h.text_is;
-  }
+  explains_as p what line =
+      Spots.explains_as (AreNext L) (AreNext M) (IsInText name) p what line
+      (λ set h byte. (λ has. to _ ((h byte).0 has), λ next. (h byte).1 (from _ next)))
 
   explanation_as : (line : List ℕ) → IsExplanation L name bytes line → IsExplanation M name bytes line
   explanation_as line h = elim h [
