@@ -1,5 +1,5 @@
 //! Where a text stops.
-ghost use Rattle.std.specs.Prelude.{◌≡◌, ◌≤◌, ◌<◌, ℕ, List, Some, is_some, length, slice_index_or};
+ghost use Rattle.std.specs.Prelude.{◌≡◌, ◌≤◌, ◌<◌, ℕ, List, None, Some, is_some, length, slice_index_or};
 ghost use Rattle.cg_text.specs.Texts.{TextOf};
 ghost use Rattle.cg_outcome.specs.Explain.{ExplainsNext, IsInText, TellsSpot};
 ghost use Rattle.cg_outcome.specs.Lines.{AreBehind};
@@ -40,7 +40,8 @@ pub fn text_spot<'a, T: TextReader>(
 
 /// The byte in front, if there is one.
 pub fn next_byte(bytes: &[u8]) -> Option<u8>
-    ensures { 0 < length bytes.now → result ≡ Some (slice_index_or bytes.now 0 0) }
+    ensures some { 0 < length bytes.now → result ≡ Some (slice_index_or bytes.now 0 0) }
+    ensures none { length bytes.now ≡ 0 → result ≡ None }
 {
     if bytes.is_empty() {
         None

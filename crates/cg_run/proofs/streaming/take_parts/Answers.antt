@@ -39,7 +39,7 @@ returns-in-Stopped-clause-took g c form first read limit h lines left failed =
     let tells = rw c.lines_behind-behind.ensures.same at (c.stream_spot-spot.ensures form front stands few counted) in
     let back : length cut.result.1.now ≡ length (drop (at + n) piece) = ap length cut.ensures.back in
     let none : at + n + 0 ≡ at + n = omega arith in
-    let byte : c.next_byte.result ≡ Some (get_or piece (at + n) 0) = c.next_byte.ensures (omega (arith, back, length-drop (at + n) piece, some))
+    let byte : c.next_byte.result ≡ Some (get_or piece (at + n) 0) = c.next_byte.ensures.some (omega (arith, back, length-drop (at + n) piece, some))
     ∙ ap (λ (b : ℕ). Some b) (ap (λ (t : List ℕ). get_or t 0 0) cut.ensures.back ∙ get_or-drop (at + n) piece 0 0 ∙ ap (λ (k : ℕ). get_or piece k 0) none) in
     stop_ends (g.S.StreamReader.took s form) (g.S.StreamReader.whole form) (g.S.StreamReader.closes form) (g.S.StreamReader.unstopped form) (g.S.StreamReader.stops form)
     (is_some c.args.lines) (g.S.StreamReader.explained form) read piece (at + n) within left failed first (g.W.Sink.taken c.stop.new.writer) (g.W.Sink.has_failed c.stop.new.writer) (on.0) c.stop.result

@@ -20,7 +20,7 @@ returns-then-place-max-clause-took g c form taken e h =
       stops = piece_stopped L c.args.max taken piece i (c.args.at + i) c.stop_at_limit-stop.result within c.if-place-max.true (c.stop_at_limit-stop.ensures.stops form (taken ++ take i piece) goes.0 at);
       took = subst (g.T.TextReader.took c.loop-used.reader form) (sym (front_at taken piece i (place_of c.stop_at_limit-stop.result) place)) goes.0;
       within = omega (arith, c.stop_at_limit-stop.ensures.place, c.if-place-max.true);
-      byte_is = byte_behind piece c.split_at.result.1.now i c.next_byte-byte.result c.split_at.ensures.back c.next_byte-byte.ensures within ∙ ap (λ (b : ℕ). Some b) (sym (byte_at taken piece i (place_of c.stop_at_limit-stop.result) place));
+      byte_is = byte_behind piece c.split_at.result.1.now i c.next_byte-byte.result c.split_at.ensures.back c.next_byte-byte.ensures.some within ∙ ap (λ (b : ℕ). Some b) (sym (byte_at taken piece i (place_of c.stop_at_limit-stop.result) place));
     }
 
 pub returns-then-place-max-clause-behind : goal.returns-then-place-max-clause-behind
@@ -103,4 +103,4 @@ returns-in-Some-clause-took g c form taken e h =
     let behind = c.split_at-in-Some in
     rw c.ending_at.ensures (run_stopped piece rest front i n c.split_at-in-loop-used.ensures.back (front_is space rest)
     (TextOf (g.T.TextReader.text form)) (g.T.TextReader.took new form) (g.met.T.TextReader.viable new form) c.args.max c.args.at (c.args.at + i) taken c.in-Some.fault
-    e refl c.loop-used.invariant.within room within pushed.took stops c.next_byte.result (byte_behind piece behind.result.1.now (i + n) c.next_byte.result behind.ensures.back c.next_byte.ensures))
+    e refl c.loop-used.invariant.within room within pushed.took stops c.next_byte.result (byte_behind piece behind.result.1.now (i + n) c.next_byte.result behind.ensures.back c.next_byte.ensures.some))
